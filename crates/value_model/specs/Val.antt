@@ -1,0 +1,62 @@
+-- The values of EJSON: those of JSON, with whole numbers alone, and dates and binary data beside them (the EJSON appendix of Meteor's DDP specification).
+-- A text is the list of its UTF-8 bytes, and a date is its milliseconds since 1970.
+use Rattle.std.specs.Prelude.{◌≡◌, ℕ, ℤ, Bool, List, [], ◌∷◌, refl}
+use Rattle.std.proofs.Common.{ap}
+
+mutual
+  pub data Val : Type 0 where
+    null : Val
+    boolean : Bool → Val
+    int : ℤ → Val
+    text : List ℕ → Val
+    date : ℤ → Val
+    bytes : List ℕ → Val
+    list : Vals → Val
+    object : Fields → Val
+
+  -- the elements of a list
+  pub data Vals : Type 0 where
+    no_vals : Vals
+    val : Val → Vals → Vals
+
+  -- the fields of an object, by rising name
+  pub data Fields : Type 0 where
+    no_fields : Fields
+    field : List ℕ → Val → Fields → Fields
+
+-- A document: its fields as pairs of a name and a value.
+abbrev pub Entries : Type 0
+Entries = List (List ℕ × Val)
+
+abbrev pub vals_of : List Val → Vals
+vals_of [] = no_vals
+vals_of (v ∷ vs) = val v (vals_of vs)
+
+abbrev pub list_of : Vals → List Val
+list_of no_vals = []
+list_of (val v vs) = v ∷ list_of vs
+
+abbrev pub fields_of : Entries → Fields
+fields_of [] = no_fields
+fields_of (e ∷ es) = field e.0 e.1 (fields_of es)
+
+abbrev pub entries_of : Fields → Entries
+entries_of no_fields = []
+entries_of (field name v fs) = (name, v) ∷ entries_of fs
+
+-- Both forms of a list and of a document say the same.
+pub list_of-vals_of : (vs : List Val) → list_of (vals_of vs) ≡ vs
+list_of-vals_of [] = refl
+list_of-vals_of (v ∷ vs) = ap (λ rest. v ∷ rest) (list_of-vals_of vs)
+
+pub vals_of-list_of : (vs : Vals) → vals_of (list_of vs) ≡ vs
+vals_of-list_of no_vals = refl
+vals_of-list_of (val v vs) = ap (λ rest. val v rest) (vals_of-list_of vs)
+
+pub entries_of-fields_of : (es : Entries) → entries_of (fields_of es) ≡ es
+entries_of-fields_of [] = refl
+entries_of-fields_of (e ∷ es) = ap (λ rest. (e.0, e.1) ∷ rest) (entries_of-fields_of es)
+
+pub fields_of-entries_of : (fs : Fields) → fields_of (entries_of fs) ≡ fs
+fields_of-entries_of no_fields = refl
+fields_of-entries_of (field name v fs) = ap (λ rest. field name v rest) (fields_of-entries_of fs)
