@@ -1,0 +1,66 @@
+//! Lists of one kind of thing.
+ghost use Rattle.std.specs.Prelude.{◌≡◌, ◌∷◌, ◌++◌, ◌==◌, [], length, slice_get, OnOk, OnErr};
+ghost use Rattle.std.specs.Option.{option_copied};
+
+use crate::memory::Mem;
+use std::alloc::Global;
+use std::marker::Model;
+
+/// A list. A contract sees it as the list of its elements.
+#[derive(Debug, Drop)]
+pub struct ListOf<T> {
+    items: Vec<T>,
+}
+
+impl<T> Model for ListOf<T> {
+    ghost use Rattle.std.specs.Prelude.{List};
+
+    ghost Value = { List T };
+
+    ghost view = { λ a. a.items.items };
+}
+
+impl<T> ListOf<T> {
+    pub fn new(alloc: Global) -> ListOf<T>
+        ensures { result ≡ [] }
+    {
+        ListOf {
+            items: Vec::new(alloc),
+        }
+    }
+
+    pub fn len(&self) -> usize
+        ensures { result ≡ length self.now }
+    {
+        self.items.len()
+    }
+
+    pub fn is_empty(&self) -> bool
+        ensures { result ≡ (length self.now == 0) }
+    {
+        self.items.is_empty()
+    }
+
+    /// The element at this place.
+    pub fn get(&self, place: usize) -> Option<&T>
+        ensures { option_copied result ≡ slice_get self.now place }
+    {
+        self.items.get(place)
+    }
+
+    pub fn as_slice(&self) -> &[T]
+        ensures { result.now ≡ self.now }
+    {
+        self.items.as_slice()
+    }
+}
+
+impl<T: Drop> ListOf<T> {
+    pub fn push(&mut self, item: T) -> Result<(), Mem>
+        ensures ok { OnOk result (self.new ≡ self.old ++ item ∷ []) }
+        ensures err { OnErr result (self.new ≡ self.old) }
+    {
+        self.items.push(item)?;
+        Ok(())
+    }
+}

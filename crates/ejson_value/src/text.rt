@@ -1,0 +1,151 @@
+//! Texts.
+ghost use Rattle.std.specs.Prelude.{◌≡◌, ◌++◌, ◌==◌, [], length, slice_get, nat_eq, string_bytes, encode_utf8, refl, IfOk, OnOk, OnErr};
+ghost use Rattle.std.specs.Ordering.{nat_cmp, as_partial_cmp};
+ghost use Rattle.std.specs.Cmp.Lexicographic.{pointwise, slice_cmp};
+ghost use Rattle.std.specs.Cmp.{partial_order_from_own_ties};
+ghost use Rattle.std.specs.Cmp.Rules.{comparing};
+ghost use Rattle.std.proofs.Common.{rules};
+
+use crate::memory::Mem;
+use std::alloc::Global;
+use std::cmp::Ordering;
+use std::marker::Model;
+
+/// A text of UTF-8. A contract sees it as its bytes.
+#[derive(Debug, Drop)]
+pub struct Text {
+    inner: String,
+}
+
+impl Model for Text {
+    ghost use Rattle.std.specs.Prelude.{List, ℕ, string_bytes};
+
+    ghost Value = { List ℕ };
+
+    ghost view = { λ t. string_bytes t.inner };
+}
+
+impl Text {
+    pub fn new(alloc: Global) -> Text
+        ensures { result ≡ [] }
+    {
+        Text {
+            inner: String::new(alloc),
+        }
+    }
+
+    pub fn from_str(alloc: Global, text: &str) -> Result<Text, Mem>
+        ensures { IfOk result (λ t. t ≡ text.now) }
+    {
+        Ok(Text {
+            inner: String::from_str(alloc, text)?,
+        })
+    }
+
+    /// The text of a string, with no copy.
+    pub fn from_string(inner: String) -> Text
+        ensures { result ≡ string_bytes inner }
+    {
+        Text { inner }
+    }
+
+    pub fn into_string(self) -> String
+        ensures { string_bytes result ≡ self }
+    {
+        self.inner
+    }
+
+    pub fn as_str(&self) -> &str
+        ensures { result.now ≡ self.now }
+    {
+        self.inner.as_str()
+    }
+
+    pub fn as_bytes(&self) -> &[u8]
+        ensures { result.now ≡ self.now }
+    {
+        self.inner.as_bytes()
+    }
+
+    /// How many bytes it has.
+    pub fn len(&self) -> usize
+        ensures { result ≡ length self.now }
+    {
+        self.inner.len()
+    }
+
+    pub fn is_empty(&self) -> bool
+        ensures { result ≡ (length self.now == 0) }
+    {
+        self.inner.is_empty()
+    }
+
+    /// The byte at this place.
+    pub fn get(&self, place: usize) -> Option<u8>
+        ensures { result ≡ slice_get self.now place }
+    {
+        self.inner.as_bytes().get(place).copied()
+    }
+
+    pub fn push(&mut self, character: char) -> Result<(), Mem>
+        ensures ok { OnOk result (self.new ≡ self.old ++ encode_utf8 character) }
+        ensures err { OnErr result (self.new ≡ self.old) }
+    {
+        self.inner.push(character)?;
+        Ok(())
+    }
+
+    pub fn push_str(&mut self, more: &str) -> Result<(), Mem>
+        ensures ok { OnOk result (self.new ≡ self.old ++ more.now) }
+        ensures err { OnErr result (self.new ≡ self.old) }
+    {
+        self.inner.push_str(more)?;
+        Ok(())
+    }
+
+    pub fn copy(&self) -> Result<Text, Mem>
+        ensures { IfOk result (λ t. t ≡ self.now) }
+    {
+        Ok(Text {
+            inner: self.inner.clone()?,
+        })
+    }
+}
+
+impl PartialEq for Text {
+    ghost eq = { pointwise nat_eq };
+
+    ghost laws = { Prim.search (comparing, rules) };
+
+    fn eq(&self, other: &Text) -> bool {
+        self.inner == other.inner
+    }
+}
+
+impl Eq for Text {
+    ghost laws = { Prim.search (comparing, rules) };
+}
+
+impl PartialOrd for Text {
+    ghost partial_cmp = { as_partial_cmp (slice_cmp nat_cmp) };
+
+    ghost laws = { partial_order_from_own_ties (Prim.search (comparing, rules)) (Prim.search (comparing, rules)) };
+
+    fn partial_cmp(&self, other: &Text) -> Option<Ordering> {
+        Some(self.cmp(other))
+    }
+}
+
+impl Ord for Text {
+    ghost cmp = { slice_cmp nat_cmp };
+
+    ghost total = { Prim.search (comparing, rules) };
+
+    ghost matches_partial_cmp = { λ x y. refl };
+
+    ghost matches_eq = { Prim.search (comparing, rules) };
+
+    fn cmp(&self, other: &Text) -> Ordering {
+        self.inner.cmp(&other.inner)
+    }
+}
