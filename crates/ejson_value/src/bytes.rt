@@ -1,5 +1,5 @@
 //! Binary data.
-ghost use Rattle.std.specs.Prelude.{◌≡◌, ◌∷◌, ◌++◌, ◌==◌, [], length, slice_get, IfOk, OnOk, OnErr};
+ghost use Rattle.std.specs.Prelude.{◌≡◌, ◌<◌, ◌∷◌, ◌++◌, ◌==◌, [], length, All, slice_get, IfOk, OnOk, OnErr};
 
 use crate::memory::Mem;
 use std::alloc::Global;
@@ -65,7 +65,8 @@ impl Bytes {
     }
 
     pub fn as_slice(&self) -> &[u8]
-        ensures { result.now ≡ self.now }
+        ensures value { result.now ≡ self.now }
+        ensures bytes { All (λ b. b < 256) self.now }
     {
         self.items.as_slice()
     }

@@ -2,13 +2,19 @@
 #![tactic(auto)]
 
 mod bytes;
+mod copying;
 mod list;
 mod memory;
+mod order;
 mod text;
+mod value;
 mod whole;
 
 pub use bytes::Bytes;
+pub use copying::copy;
 pub use list::ListOf;
 pub use memory::Mem;
+pub use order::{compare, same};
 pub use text::Text;
+pub use value::{Doc, Items, Value};
 pub use whole::Whole;

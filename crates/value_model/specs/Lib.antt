@@ -6,3 +6,4 @@ pub mod OrderLaws
 pub mod Size
 pub mod Doc
 pub mod Valid
+pub mod ValidLaws

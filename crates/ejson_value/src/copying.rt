@@ -1,0 +1,51 @@
+//! Copies of values.
+ghost use Rattle.std.specs.Prelude.{◌≡◌, IfOk};
+ghost use Rattle.ejson_value.specs.View.{view};
+
+use crate::memory::Mem;
+use crate::value::{Doc, Items, Value};
+
+/// A value equal to this one.
+#[cycle(copying)]
+pub fn copy(value: &Value) -> Result<Value, Mem>
+    ensures { IfOk result (λ v. view v ≡ view value.now) }
+{
+    match value {
+        Value::Null => Ok(Value::Null),
+        Value::Bool(truth) => Ok(Value::Bool(*truth)),
+        Value::Int(number) => Ok(Value::Int(*number)),
+        Value::Text(text) => Ok(Value::Text(text.copy()?)),
+        Value::Date(moment) => Ok(Value::Date(*moment)),
+        Value::Bytes(bytes) => Ok(Value::Bytes(bytes.copy()?)),
+        Value::List(items) => Ok(Value::List(items.copy()?)),
+        Value::Object(doc) => Ok(Value::Object(doc.copy()?)),
+    }
+}
+
+impl Items {
+    /// A list equal to this one.
+    #[cycle(copying)]
+    pub fn copy(&self) -> Result<Items, Mem>
+        ensures { IfOk result (λ vs. vs ≡ self.now) }
+    {
+        let mut copies = self.emptied();
+        for item in self.as_slice() {
+            copies.push(copy(item)?)?;
+        }
+        Ok(copies)
+    }
+}
+
+impl Doc {
+    /// A document equal to this one.
+    #[cycle(copying)]
+    pub fn copy(&self) -> Result<Doc, Mem>
+        ensures { IfOk result (λ doc. doc ≡ self.now) }
+    {
+        let mut copies = self.emptied()?;
+        for (name, value) in self.iter() {
+            copies.put(name.copy()?, copy(value)?)?;
+        }
+        Ok(copies)
+    }
+}

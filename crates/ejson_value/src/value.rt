@@ -1,0 +1,247 @@
+//! Values, lists of values and documents.
+ghost use Rattle.std.specs.Prelude.{◌≡◌, ◌∷◌, ◌++◌, ◌==◌, [], length, map, option_map, slice_get, IfOk, OnOk, OnErr};
+ghost use Rattle.std.specs.List.Sorted.{IsStrictlySortedBy};
+ghost use Rattle.std.specs.Map.{keys_of};
+ghost use Rattle.value_model.specs.Val.{vals_of, fields_of};
+ghost use Rattle.value_model.specs.Valid.{IsValue, AreValues, IsDocument};
+ghost use Rattle.value_model.specs.Order.{text_cmp};
+ghost use Rattle.value_model.specs.Doc.{get, put, remove};
+ghost use Rattle.ejson_value.specs.View.{view, views, entries};
+
+use crate::bytes::Bytes;
+use crate::memory::Mem;
+use crate::text::Text;
+use crate::whole::Whole;
+use std::alloc::Global;
+use std::collections::BTreeMap;
+use std::collections::btree_map::Iter;
+use std::default::Emptied;
+use std::marker::Model;
+
+/// A value of EJSON. A date counts milliseconds since 1970. A contract sees it by `view`.
+#[derive(Debug, Drop)]
+#[cycle(value)]
+pub enum Value {
+    Null,
+    Bool(bool),
+    Int(Whole),
+    Text(Text),
+    Date(Whole),
+    Bytes(Bytes),
+    List(Items),
+    Object(Doc),
+}
+
+/// A list of values. A contract sees it as the list of its values.
+#[derive(Debug, Drop)]
+#[cycle(value)]
+pub struct Items {
+    items: Vec<Value>,
+}
+
+/// A document: a finite map from names to values. A contract sees its pairs by rising name.
+#[derive(Debug, Drop)]
+#[cycle(value)]
+pub struct Doc {
+    fields: BTreeMap<Text, Value>,
+}
+
+impl Model for Items {
+    ghost use Rattle.std.specs.Prelude.{List, suc};
+    ghost use Rattle.std.specs.Coded.{coded_list};
+    ghost use Rattle.std.proofs.Common.{arith};
+    ghost use Rattle.value_model.specs.Val.{Val, vals_of};
+    ghost use Rattle.value_model.specs.Coding.{val_code};
+
+    ghost Value = { List Val };
+
+    ghost coded = { coded_list val_code };
+
+    ghost use Rattle.value_model.specs.Depth.{vals_depth};
+    ghost use Rattle.value_model.specs.Valid.{AreValues};
+    ghost use Rattle.ejson_value.specs.View.{views};
+
+    ghost view = { λ a. views a.items.items };
+
+    ghost invariant = { λ a. AreValues (vals_of (views a.items.items)) };
+
+    ghost size = { λ vs. suc (vals_depth (vals_of vs)) };
+
+    ghost use Rattle.ejson_value.specs.Falls.{most_le-depth};
+
+    ghost size_decreases = { λ a h. Prim.omega (arith, most_le-depth a.items.items) };
+}
+
+impl Model for Doc {
+    ghost use Rattle.std.specs.Prelude.{suc};
+    ghost use Rattle.std.proofs.Common.{arith};
+    ghost use Rattle.value_model.specs.Val.{Entries, fields_of};
+    ghost use Rattle.value_model.specs.Coding.{entries_code};
+
+    ghost Value = { Entries };
+
+    ghost coded = { entries_code };
+
+    ghost use Rattle.value_model.specs.Depth.{fields_depth};
+    ghost use Rattle.value_model.specs.Valid.{IsDocument};
+    ghost use Rattle.ejson_value.specs.View.{entries};
+
+    ghost view = { λ a. entries a.fields.entries };
+
+    ghost invariant = { λ a. IsDocument (entries a.fields.entries) };
+
+    ghost size = { λ es. suc (fields_depth (fields_of es)) };
+
+    ghost use Rattle.ejson_value.specs.Falls.{most_le-fields_depth};
+
+    ghost size_decreases = { λ a h. Prim.omega (arith, most_le-fields_depth a.fields) };
+}
+
+impl Items {
+    pub fn new(alloc: Global) -> Items
+        ensures { result ≡ [] }
+    {
+        Items {
+            items: Vec::new(alloc),
+        }
+    }
+
+    pub fn len(&self) -> usize
+        ensures { result ≡ length self.now }
+    {
+        self.items.len()
+    }
+
+    pub fn is_empty(&self) -> bool
+        ensures { result ≡ (length self.now == 0) }
+    {
+        self.items.is_empty()
+    }
+
+    /// The value at this place.
+    pub fn get(&self, place: usize) -> Option<&Value>
+        ensures { option_map (λ v. view v.now) result ≡ slice_get self.now place }
+    {
+        self.items.get(place)
+    }
+
+    pub fn as_slice(&self) -> &[Value]
+        ensures { views result.now ≡ self.now }
+    {
+        self.items.as_slice()
+    }
+
+    pub fn push(&mut self, value: Value) -> Result<(), Mem>
+        ensures ok { OnOk result (self.new ≡ self.old ++ view value ∷ []) }
+        ensures err { OnErr result (self.new ≡ self.old) }
+    {
+        value.known();
+        self.items.push(value)?;
+        Ok(())
+    }
+
+    /// An empty list beside this one, of the same allocator.
+    pub(crate) fn emptied(&self) -> Items
+        ensures { result ≡ [] }
+    {
+        Items::new(*self.items.allocator())
+    }
+
+    /// Tells a proof what its values keep; it does nothing.
+    pub fn known(&self)
+        ensures { AreValues (vals_of self.now) }
+    {
+        let _ = &self.items;
+    }
+}
+
+impl Value {
+    /// Tells a proof what the value keeps; it does nothing.
+    pub fn known(&self)
+        ensures { IsValue (view self.now) }
+    {
+        match self {
+            Value::Null | Value::Bool(_) | Value::Text(_) => {}
+            Value::Int(whole) | Value::Date(whole) => {
+                let _number = whole.get();
+            }
+            Value::Bytes(bytes) => {
+                let _bytes = bytes.as_slice();
+            }
+            Value::List(items) => items.known(),
+            Value::Object(doc) => doc.known(),
+        }
+    }
+}
+
+impl Doc {
+    pub fn new(alloc: Global) -> Doc
+        ensures { result ≡ [] }
+    {
+        Doc {
+            fields: BTreeMap::new(alloc),
+        }
+    }
+
+    /// How many fields it has.
+    pub fn len(&self) -> usize
+        ensures { result ≡ length self.now }
+    {
+        self.fields.len()
+    }
+
+    pub fn is_empty(&self) -> bool
+        ensures { result ≡ (length self.now == 0) }
+    {
+        self.fields.is_empty()
+    }
+
+    /// The value of the field of this name.
+    pub fn get(&self, name: &Text) -> Option<&Value>
+        ensures { option_map (λ v. view v.now) result ≡ get self.now name.now }
+    {
+        self.fields.get(name)
+    }
+
+    /// Puts the value as the field of this name.
+    pub fn put(&mut self, name: Text, value: Value) -> Result<(), Mem>
+        ensures ok { OnOk result (self.new ≡ put self.old name (view value)) }
+        ensures err { OnErr result (self.new ≡ self.old) }
+    {
+        value.known();
+        drop(self.fields.insert(name, value)?);
+        Ok(())
+    }
+
+    /// Takes the field of this name out.
+    pub fn remove(&mut self, name: &Text) -> Option<Value>
+        ensures value { option_map view result ≡ get self.old name.now }
+        ensures removed { self.new ≡ remove self.old name.now }
+    {
+        self.fields.remove(name)
+    }
+
+    /// The fields by rising name.
+    pub fn iter(&self) -> Iter<'_, Text, Value>
+        ensures all { entries result ≡ self.now }
+        ensures ordered { IsStrictlySortedBy text_cmp (keys_of result) }
+    {
+        self.fields.iter()
+    }
+
+    /// An empty document beside this one, of the same allocator.
+    pub(crate) fn emptied(&self) -> Result<Doc, Mem>
+        ensures { IfOk result (λ doc. doc ≡ []) }
+    {
+        Ok(Doc {
+            fields: BTreeMap::emptied(&self.fields)?,
+        })
+    }
+
+    /// Tells a proof what the document keeps; it does nothing.
+    pub fn known(&self)
+        ensures { IsDocument self.now }
+    {
+        let _ = &self.fields;
+    }
+}
