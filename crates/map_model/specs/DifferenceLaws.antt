@@ -5,12 +5,12 @@ use Rattle.std.specs.List.{list_any}
 use Rattle.std.specs.declared.cmp.Ordering.{Ordering}
 use Rattle.std.specs.Ordering.{eq_by_cmp}
 use Rattle.std.specs.Map.{keys_of}
-use Rattle.std.proofs.Common.{sym, ap, ap₂, ◌∙◌, subst}
+use Rattle.std.proofs.Common.{sym, ap, ap₂, ◌∙◌}
 use Rattle.std.proofs.lemmas.Map.Entries.{option_filter}
 use Rattle.std.proofs.lemmas.Map.Keys.{sorted_tail}
-use Rattle.map_model.specs.Maps.{at, set, IsSorted, IsKeyOrder, union, collect}
+use Rattle.map_model.specs.Maps.{at, set, IsSorted, IsKeyOrder, union}
 use Rattle.map_model.specs.MapLaws.{same_maps, is_some-at, key_is, at-put, sorted-put, at-remove, sorted-remove, at-set, sorted-set, at-tail, at-filter, sorted-filter, at-union, sorted-union, at-collect, sorted-collect, sorted-nil}
-use Rattle.map_model.specs.Differences.{Step, added, changed, removed, without, with_fields, taken, step_at, AreDocs, all_taken, is_there, new_fields, cleared, changed_unless_same, between, diff, IsDiff}
+use Rattle.map_model.specs.Differences.{Step, without, with_fields, taken, step_at, AreDocs, all_taken, is_there, new_fields, cleared, changed_unless_same, between, diff, IsDiff}
 
 module _ {N V : Type 0} {S : N → N → Ordering} (s : IsKeyOrder S) where
   pub sorted-without : (a : List (N × V)) (names : List N) → IsSorted S a → IsSorted S (without S a names)

@@ -1,7 +1,7 @@
 -- The difference of two maps of documents, as one data message per key. A document is a map from field names to values.
 -- The messages are those of DDP's data: `added` with all fields, `changed` with fields and cleared names, `removed`
 -- (Meteor's DDP.md, "Managing data").
-use Rattle.std.specs.Prelude.{◌≡◌, Bool, true, false, not, List, [], ◌∷◌, filter, Option, Some, None, is_some, IfSome}
+use Rattle.std.specs.Prelude.{◌≡◌, Bool, false, not, List, [], ◌∷◌, filter, Option, Some, None, is_some, IfSome}
 use Rattle.std.specs.declared.cmp.Ordering.{Ordering}
 use Rattle.std.specs.Map.{keys_of, remove_entry}
 use Rattle.std.specs.BTreeMap.{is_at, insert_entry}

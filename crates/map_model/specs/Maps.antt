@@ -4,7 +4,7 @@
 --     union R a b      the entries of both, those of a where both have the key
 --     collect f ks      the keys at which f gives a value, with that value
 --     filter_map_entries f m      the keys of m at which f gives a value for what m has there, with that value
-use Rattle.std.specs.Prelude.{Bool, cond, List, [], ◌∷◌, Option, Some, None}
+use Rattle.std.specs.Prelude.{List, [], ◌∷◌, Option, Some, None}
 use Rattle.std.specs.Cmp.{IsTotalOrder}
 use Rattle.std.specs.FinMap.{IsAntisymmetric}
 use Rattle.std.specs.declared.cmp.Ordering.{Ordering}
