@@ -1,7 +1,17 @@
 -- Lemmas of every walk over a value: what is reached lies less deep, and what was passed so far has one more.
-use Rattle.std.proofs.Common.{◌≡◌, ℕ, zero, suc, max, ◌+◌, ◌<◌, ◌≤◌, List, [], ◌∷◌, ◌++◌, length, get_or, take, drop, map, refl, ap, sym, subst, ◌∙◌, arith}
+use Rattle.std.proofs.Common.{false, ◌≡◌, ℕ, zero, suc, max, ◌+◌, ◌<◌, ◌≤◌, List, [], ◌∷◌, ◌++◌, length, get_or, take, drop, map, refl, ap, sym, subst, ◌∙◌, arith}
 use Rattle.std.proofs.lemmas.List.{map-append}
 use Rattle.std.specs.Map.{keys_of}
+use Rattle.std.specs.declared.cmp.Ordering.{Ordering}
+use Rattle.std.specs.declared.cmp.Ordering.TheVariants.{Less, Equal, Greater}
+use Rattle.std.specs.Ordering.{ordering_then, is_ne}
+use Rattle.std.specs.List.Sorted.{IsStrictlySortedBy}
+use Rattle.std.proofs.lemmas.Cmp.{nat_list_cmp_total}
+use Rattle.map_model.specs.Orders.{IsAbove}
+use Rattle.map_model.specs.OrderLaws.{put_last, IsAbove-from_sorted}
+use Rattle.value_model.specs.Order.{text_cmp, compare, fields_cmp}
+use Rattle.value_model.specs.Doc.{put}
+use Rattle.ejson_value.specs.Entries.{keys_of-entries}
 use Rattle.value_model.specs.Val.{Val, Vals, no_vals, val, Fields, no_fields, field, Entries, vals_of, fields_of}
 use Rattle.value_model.specs.Depth.{depth, vals_depth, fields_depth}
 use Rattle.ejson_value.specs.declared.value.Value.{Value}
@@ -16,7 +26,7 @@ item_depth_of (v ∷ vs) (suc i) d h = let h' : i < length vs = omega (arith, h)
 pub item_depth : (vs : List Value) (i : ℕ) (v : Value) (ds : List Val) → v ≡ get_or vs i v → i < length vs → views vs ≡ ds → depth (view v) ≤ vals_depth (vals_of ds)
 item_depth vs i v ds e h same =
     subst (λ n. n ≤ vals_depth (vals_of ds)) (ap (λ w. depth (view w)) (sym e))
-      (subst (λ ws. depth (view (get_or vs i v)) ≤ vals_depth (vals_of ws)) same (item_depth_of vs i v h))
+    (subst (λ ws. depth (view (get_or vs i v)) ≤ vals_depth (vals_of ws)) same (item_depth_of vs i v h))
 
 pub field_depth_of : (done : List (List ℕ × Value)) (name : List ℕ) (v : Value) (more : List (List ℕ × Value)) → depth (view v) ≤ fields_depth (fields_of (entries (done ++ (name, v) ∷ more)))
 field_depth_of [] name v more = omega arith
@@ -26,3 +36,36 @@ field_depth_of (e ∷ done) name v more = omega (arith, field_depth_of done name
 pub field_depth : (all done : List (List ℕ × Value)) (name : List ℕ) (v : Value) (more : List (List ℕ × Value)) (ds : Entries) → all ≡ done ++ (name, v) ∷ more → entries all ≡ ds → depth (view v) ≤ fields_depth (fields_of ds)
 field_depth all done name v more ds e same =
     subst (λ es. depth (view v) ≤ fields_depth (fields_of es)) (ap entries (sym e) ∙ same) (field_depth_of done name v more)
+
+-- a document made in order, with the next field put
+pub one_more_field : (all done : List (List ℕ × Value)) (name : List ℕ) (v : Value) (more : List (List ℕ × Value)) (copies : Entries) (w : Val) →
+    all ≡ done ++ (name, v) ∷ more → IsStrictlySortedBy text_cmp (keys_of all) → copies ≡ entries done → w ≡ view v →
+    put copies name w ≡ entries (done ++ (name, v) ∷ [])
+one_more_field all done name v more copies w is sorted so_far same =
+    let above = IsAbove-from_sorted nat_list_cmp_total (keys_of done) name (keys_of more) (subst (IsStrictlySortedBy text_cmp) (ap keys_of is ∙ map-append (λ (e : List ℕ × Value). e.0) done ((name, v) ∷ more)) sorted) in
+    ap (λ es. put es name w) so_far
+    ∙ (ap (λ x. put (entries done) name x) same
+    ∙ (put_last text_cmp (entries done) name (view v) (subst (IsAbove text_cmp name) (sym (keys_of-entries done)) above)
+    ∙ sym (map-append (λ (e : List ℕ × Value). (e.0, view e.1)) done ((name, v) ∷ []))))
+
+-- two orders that tie together leave the third to decide
+pub then_tied : (o p q : Ordering) → ordering_then o p ≡ Equal → ordering_then o (ordering_then p q) ≡ q
+then_tied Less p q e = cc
+then_tied Equal Less q e = cc
+then_tied Equal Equal q e = refl
+then_tied Equal Greater q e = cc
+then_tied Greater p q e = cc
+
+pub tie_of : (o : Ordering) → is_ne o ≡ false → o ≡ Equal
+tie_of Less e = cc
+tie_of Equal e = refl
+tie_of Greater e = cc
+
+-- two documents whose first fields tie compare as their rests do
+pub next_fields : (it rest others more : List (List ℕ × Value)) (n m : List ℕ) (v w : Value) → it ≡ (n, v) ∷ rest → others ≡ (m, w) ∷ more →
+    ordering_then (text_cmp n m) (compare (view v) (view w)) ≡ Equal →
+    fields_cmp (fields_of (entries rest)) (fields_of (entries more)) ≡ fields_cmp (fields_of (entries it)) (fields_of (entries others))
+next_fields it rest others more n m v w e f tie =
+    sym (ap (λ es. fields_cmp (fields_of (entries es)) (fields_of (entries others))) e
+    ∙ (ap (λ es. fields_cmp (fields_of (entries ((n, v) ∷ rest))) (fields_of (entries es))) f
+    ∙ then_tied (text_cmp n m) (compare (view v) (view w)) (fields_cmp (fields_of (entries rest)) (fields_of (entries more))) tie))

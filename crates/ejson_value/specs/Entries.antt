@@ -19,21 +19,21 @@ pub lookup-entries : (test : List ℕ → Bool) (es : List (List ℕ × Value)) 
 lookup-entries test [] = refl
 lookup-entries test (e ∷ es) =
     elim (test e.0) as (λ b. cond b (Some (view e.1)) (lookup test (entries es)) ≡ option_map view (cond b (Some e.1) (lookup test es)))
-      [ true ↦ refl | false ↦ lookup-entries test es ]
+    [ true ↦ refl | false ↦ lookup-entries test es ]
 
 pub entries-insert : (es : List (List ℕ × Value)) (name : List ℕ) (v : Value) → entries (insert_entry text_cmp es name v) ≡ insert_entry text_cmp (entries es) name (view v)
 entries-insert [] name v = refl
 entries-insert (e ∷ es) name v =
     elim (text_cmp name e.0)
-      as (λ o. entries (match_ordering o ((name, v) ∷ e ∷ es) ((e.0, v) ∷ es) (e ∷ insert_entry text_cmp es name v))
-        ≡ match_ordering o ((name, view v) ∷ entries (e ∷ es)) ((e.0, view v) ∷ entries es) ((e.0, view e.1) ∷ insert_entry text_cmp (entries es) name (view v)))
-      [ Less ↦ refl | Equal ↦ refl | Greater ↦ ap (λ rest. (e.0, view e.1) ∷ rest) (entries-insert es name v) ]
+    as (λ o. entries (match_ordering o ((name, v) ∷ e ∷ es) ((e.0, v) ∷ es) (e ∷ insert_entry text_cmp es name v))
+    ≡ match_ordering o ((name, view v) ∷ entries (e ∷ es)) ((e.0, view v) ∷ entries es) ((e.0, view e.1) ∷ insert_entry text_cmp (entries es) name (view v)))
+    [ Less ↦ refl | Equal ↦ refl | Greater ↦ ap (λ rest. (e.0, view e.1) ∷ rest) (entries-insert es name v) ]
 
 pub entries-remove : (test : List ℕ → Bool) (es : List (List ℕ × Value)) → entries (remove_entry test es) ≡ remove_entry test (entries es)
 entries-remove test [] = refl
 entries-remove test (e ∷ es) =
     elim (test e.0) as (λ b. entries (cond b es (e ∷ remove_entry test es)) ≡ cond b (entries es) ((e.0, view e.1) ∷ remove_entry test (entries es)))
-      [ true ↦ refl | false ↦ ap (λ rest. (e.0, view e.1) ∷ rest) (entries-remove test es) ]
+    [ true ↦ refl | false ↦ ap (λ rest. (e.0, view e.1) ∷ rest) (entries-remove test es) ]
 
 -- what a look-up answers by reference, seen as values
 pub viewed : (found : Option (Bor Value)) (held : Option Value) → option_copied found ≡ held → option_map (λ v. view v.now) found ≡ option_map view held

@@ -13,7 +13,7 @@ invariant_of-self-2 c =
     let same = ap entries c.in_ok-insert.ensures.entries ∙ entries-insert c.self.inside.fields.entries c.args.name c.args.value in
     record {
       names = subst (IsStrictlySortedBy text_cmp) (sym (keys_of-entries c.insert.new.self.entries)) c.in_ok-insert.ensures.ordered;
-      values = subst (λ es. HaveValues (fields_of es)) (sym same) (HaveValues-put _ _ _ c.self.invariant.values c.known.ensures)
+      values = subst (λ es. HaveValues (fields_of es)) (sym same) (HaveValues-put _ _ _ c.self.invariant.values c.known.ensures);
     }
 
 pub returns-clause-ok : goal.returns-clause-ok

@@ -15,7 +15,7 @@ invariant_of-self c =
     let same = ap entries c.remove.ensures.entries ∙ entries-remove test c.self.inside.fields.entries in
     record {
       names = subst (IsStrictlySortedBy text_cmp) (sym (keys_of-entries c.remove.new.self.entries)) c.remove.ensures.ordered;
-      values = subst (λ es. HaveValues (fields_of es)) (sym same) (HaveValues-remove test _ c.self.invariant.values)
+      values = subst (λ es. HaveValues (fields_of es)) (sym same) (HaveValues-remove test _ c.self.invariant.values);
     }
 
 pub returns-clause-value : goal.returns-clause-value
