@@ -1,3 +1,4 @@
 pub mod View
 pub mod Falls
 pub mod Entries
+pub mod Measure

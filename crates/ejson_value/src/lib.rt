@@ -4,6 +4,7 @@
 mod bytes;
 mod copying;
 mod list;
+mod measure;
 mod memory;
 mod order;
 mod text;
@@ -13,6 +14,7 @@ mod whole;
 pub use bytes::Bytes;
 pub use copying::copy;
 pub use list::ListOf;
+pub use measure::{depth, size};
 pub use memory::Mem;
 pub use order::{compare, same};
 pub use text::Text;

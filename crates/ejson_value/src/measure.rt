@@ -1,0 +1,195 @@
+//! How large and how deep values are.
+ghost use Rattle.std.specs.Prelude.{◌≡◌, ◌∷◌, [], ◌+◌, ◌≤◌, length, decimal};
+ghost use Rattle.std.specs.Fmt.{signed_decimal};
+ghost use Rattle.value_model.specs.Val.{vals_of, fields_of};
+ghost use Rattle.value_model.specs.Depth.{depth, vals_depth, fields_depth};
+ghost use Rattle.value_model.specs.Size.{has_short_escape, escape_size, text_size, binary_wrapper, base64_size, is_special, names_of, size, vals_size, fields_size};
+ghost use Rattle.ejson_value.specs.View.{view};
+ghost use Rattle.ejson_value.specs.Measure.{capped};
+
+use crate::text::Text;
+use crate::value::{Doc, Items, Value};
+use crate::whole::Whole;
+
+// How many digits the number has in decimal.
+fn digits(mut number: u64) -> u64
+    ensures value { result ≡ length (decimal number) }
+    ensures bound { result ≤ 20 }
+{
+    let mut count = 1;
+    while number >= 10 {
+        number /= 10;
+        count += 1;
+    }
+    count
+}
+
+fn whole_size(whole: &Whole) -> u64
+    ensures value { result ≡ length (signed_decimal whole.now) }
+    ensures bound { result ≤ 21 }
+{
+    let number = whole.get();
+    if number < 0 {
+        1 + digits(number.unsigned_abs())
+    } else {
+        digits(number.unsigned_abs())
+    }
+}
+
+fn has_short_escape(byte: u8) -> bool
+    ensures { result ≡ has_short_escape byte }
+{
+    byte == b'"'
+        || byte == b'\\'
+        || byte == 8
+        || byte == b'\t'
+        || byte == b'\n'
+        || byte == 12
+        || byte == b'\r'
+}
+
+fn escape_size(byte: u8) -> u64
+    ensures { result ≡ escape_size byte }
+{
+    if has_short_escape(byte) {
+        2
+    } else if byte < 32 {
+        6
+    } else {
+        1
+    }
+}
+
+fn text_size(text: &Text) -> u64
+    ensures { result ≡ capped (text_size text.now) }
+{
+    let mut total = 2u64;
+    for byte in text.as_bytes() {
+        total = total.saturating_add(escape_size(*byte));
+    }
+    total
+}
+
+fn binary_size(bytes: &[u8]) -> u64
+    ensures { result ≡ binary_wrapper + base64_size (length bytes.now) }
+{
+    14 + 4 * ((bytes.len() as u64 + 2) / 3)
+}
+
+impl Doc {
+    /// Whether its names are those of one of EJSON's special forms, so that its text stands under
+    /// `$escape`: `$date`, `$binary`, `$escape` or `$InfNaN` alone, `$flags` with `$regexp`, or
+    /// `$type` with `$value`.
+    pub fn has_special_names(&self) -> bool
+        ensures { result ≡ is_special (names_of (fields_of self.now)) }
+    {
+        let mut fields = self.iter();
+        let Some((first, _)) = fields.next() else {
+            return false;
+        };
+        let Some((second, _)) = fields.next() else {
+            return is_special_name(first.as_str());
+        };
+        if fields.next().is_some() {
+            return false;
+        }
+        is_special_pair(first.as_str(), second.as_str())
+    }
+}
+
+fn is_special_name(name: &str) -> bool
+    ensures { result ≡ is_special (name.now ∷ []) }
+{
+    name == "$date" || name == "$binary" || name == "$escape" || name == "$InfNaN"
+}
+
+fn is_special_pair(first: &str, second: &str) -> bool
+    ensures { result ≡ is_special (first.now ∷ second.now ∷ []) }
+{
+    (first == "$flags" && second == "$regexp") || (first == "$type" && second == "$value")
+}
+
+/// How many bytes the value's EJSON text has, 2^64 - 1 where it has more.
+#[cycle(measuring)]
+pub fn size(value: &Value) -> u64
+    ensures { result ≡ capped (size (view value.now)) }
+{
+    match value {
+        Value::Null => 4,
+        Value::Bool(true) => 4,
+        Value::Bool(false) => 5,
+        Value::Int(number) => whole_size(number),
+        Value::Text(text) => text_size(text),
+        Value::Date(moment) => 10 + whole_size(moment),
+        Value::Bytes(bytes) => binary_size(bytes.as_slice()),
+        Value::List(items) => items_size(items).saturating_add(1).max(2),
+        Value::Object(doc) => {
+            let inside = fields_size(doc).saturating_add(1).max(2);
+            if doc.has_special_names() {
+                inside.saturating_add(12)
+            } else {
+                inside
+            }
+        }
+    }
+}
+
+#[cycle(measuring)]
+fn items_size(items: &Items) -> u64
+    ensures { result ≡ capped (vals_size (vals_of items.now)) }
+{
+    let mut total = 0u64;
+    for item in items.as_slice() {
+        total = total.saturating_add(1).saturating_add(size(item));
+    }
+    total
+}
+
+#[cycle(measuring)]
+fn fields_size(doc: &Doc) -> u64
+    ensures { result ≡ capped (fields_size (fields_of doc.now)) }
+{
+    let mut total = 0u64;
+    for (name, value) in doc.iter() {
+        total = total
+            .saturating_add(2)
+            .saturating_add(text_size(name))
+            .saturating_add(size(value));
+    }
+    total
+}
+
+/// How deep lists and objects stand in the value, 2^64 - 1 where it is more: one more than what
+/// stands inside, 1 where nothing does, and 0 for what is neither.
+#[cycle(depth)]
+pub fn depth(value: &Value) -> u64
+    ensures { result ≡ capped (depth (view value.now)) }
+{
+    match value {
+        Value::List(items) => items_depth(items).saturating_add(1),
+        Value::Object(doc) => fields_depth(doc).saturating_add(1),
+        _ => 0,
+    }
+}
+
+#[cycle(depth)]
+fn items_depth(items: &Items) -> u64
+    ensures { result ≡ capped (vals_depth (vals_of items.now)) }
+{
+    let mut deepest = 0;
+    for item in items.as_slice() {
+        deepest = depth(item).max(deepest);
+    }
+    deepest
+}
+
+#[cycle(depth)]
+fn fields_depth(doc: &Doc) -> u64
+    ensures { result ≡ capped (fields_depth (fields_of doc.now)) }
+{
+    let mut deepest = 0;
+    for (_, value) in doc.iter() {
+        deepest = depth(value).max(deepest);
+    }
+    deepest
+}
