@@ -7,7 +7,12 @@ use Rattle.std.specs.declared.cmp.Ordering.TheVariants.{Less, Equal, Greater}
 use Rattle.std.specs.Ordering.{ordering_then, is_ne}
 use Rattle.std.specs.List.Sorted.{IsStrictlySortedBy}
 use Rattle.std.proofs.lemmas.Cmp.{nat_list_cmp_total}
+use Rattle.std.specs.BTreeMap.{insert_entry}
+use Rattle.map_model.specs.Maps.{IsSorted}
 use Rattle.map_model.specs.Orders.{IsAbove}
+use Rattle.ejson_value.specs.declared.key.Key.{Key}
+use Rattle.ejson_value.specs.Key.{key_cmp, key_total}
+use Rattle.ejson_value.specs.Rows.{Rows}
 use Rattle.map_model.specs.OrderLaws.{put_last, IsAbove-from_sorted}
 use Rattle.value_model.specs.Order.{text_cmp, compare, fields_cmp}
 use Rattle.value_model.specs.Doc.{put}
@@ -69,3 +74,10 @@ next_fields it rest others more n m v w e f tie =
     sym (ap (λ es. fields_cmp (fields_of (entries es)) (fields_of (entries others))) e
     ∙ (ap (λ es. fields_cmp (fields_of (entries ((n, v) ∷ rest))) (fields_of (entries es))) f
     ∙ then_tied (text_cmp n m) (compare (view v) (view w)) (fields_cmp (fields_of (entries rest)) (fields_of (entries more))) tie))
+
+-- contents made in order, with the next row put
+pub one_more_row : (all copies : Rows) (key : Key) (doc : Entries) (more : Rows) (key' : Key) (doc' : Entries) →
+    all ≡ copies ++ (key, doc) ∷ more → IsSorted key_cmp all → key' ≡ key → doc' ≡ doc → insert_entry key_cmp copies key' doc' ≡ copies ++ (key, doc) ∷ []
+one_more_row all copies key doc more key' doc' is sorted same_key same_doc =
+    let above = IsAbove-from_sorted key_total (keys_of copies) key (keys_of more) (subst (IsStrictlySortedBy key_cmp) (ap keys_of is ∙ map-append (λ (row : Key × Entries). row.0) copies ((key, doc) ∷ more)) sorted) in
+    ap (λ k. insert_entry key_cmp copies k doc') same_key ∙ (ap (λ d. insert_entry key_cmp copies key d) same_doc ∙ put_last key_cmp copies key doc above)

@@ -2,7 +2,10 @@
 #![tactic(auto)]
 
 mod bytes;
+mod change;
+mod contents;
 mod copying;
+mod key;
 mod list;
 mod measure;
 mod memory;
@@ -12,7 +15,10 @@ mod value;
 mod whole;
 
 pub use bytes::Bytes;
+pub use change::{Change, Publish};
+pub use contents::Contents;
 pub use copying::copy;
+pub use key::Key;
 pub use list::ListOf;
 pub use measure::{depth, size};
 pub use memory::Mem;
@@ -20,3 +26,11 @@ pub use order::{compare, same};
 pub use text::Text;
 pub use value::{Doc, Items, Value};
 pub use whole::Whole;
+
+pub type Names = ListOf<Text>;
+
+pub type Keys = ListOf<Key>;
+
+pub type Changes = ListOf<Change>;
+
+pub type Publishes = ListOf<Publish>;

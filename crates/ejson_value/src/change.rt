@@ -1,0 +1,56 @@
+//! Changes of contents, and what is published of them.
+ghost use Rattle.std.specs.Prelude.{◌≡◌, IfOk};
+
+use crate::key::Key;
+use crate::memory::Mem;
+use crate::value::Doc;
+
+/// What became of the document at a key.
+#[derive(Debug, Drop)]
+pub struct Change {
+    pub key: Key,
+    /// The document before, None where there was none.
+    pub before: Option<Doc>,
+    /// The document afterwards, None where there is none.
+    pub after: Option<Doc>,
+}
+
+/// What a publication says of a key. Its collection is the published name.
+#[derive(Debug, Drop)]
+pub struct Publish {
+    pub key: Key,
+    /// The published document, None where it is published no more.
+    pub new: Option<Doc>,
+}
+
+fn copy_of(doc: &Option<Doc>) -> Result<Option<Doc>, Mem>
+    ensures { IfOk result (λ d. d ≡ doc.now) }
+{
+    match doc {
+        None => Ok(None),
+        Some(doc) => Ok(Some(doc.copy()?)),
+    }
+}
+
+impl Change {
+    pub fn copy(&self) -> Result<Change, Mem>
+        ensures { IfOk result (λ c. c ≡ self.now) }
+    {
+        Ok(Change {
+            key: self.key.copy()?,
+            before: copy_of(&self.before)?,
+            after: copy_of(&self.after)?,
+        })
+    }
+}
+
+impl Publish {
+    pub fn copy(&self) -> Result<Publish, Mem>
+        ensures { IfOk result (λ p. p ≡ self.now) }
+    {
+        Ok(Publish {
+            key: self.key.copy()?,
+            new: copy_of(&self.new)?,
+        })
+    }
+}

@@ -1,0 +1,111 @@
+//! Contents: documents by collection and id, and changes of them.
+ghost use Rattle.std.specs.Prelude.{◌≡◌, ◌==◌, [], length, Some, None, IfOk, OnOk, OnErr};
+ghost use Rattle.std.specs.Option.{option_copied};
+ghost use Rattle.std.specs.Map.{keys_of};
+ghost use Rattle.map_model.specs.Maps.{at, set, IsSorted};
+ghost use Rattle.ejson_value.specs.Key.{key_cmp};
+ghost use Rattle.ejson_value.specs.Rows.{Rows, AreRows};
+
+use crate::key::Key;
+use crate::memory::Mem;
+use crate::value::Doc;
+use std::alloc::Global;
+use std::collections::BTreeMap;
+use std::collections::btree_map::Iter;
+use std::default::Emptied;
+use std::marker::Model;
+
+/// Documents by collection and id. A contract sees its pairs by rising key.
+#[derive(Debug, Drop)]
+pub struct Contents {
+    docs: BTreeMap<Key, Doc>,
+}
+
+impl Model for Contents {
+    ghost use Rattle.ejson_value.specs.Rows.{Rows, rows_code};
+
+    ghost Value = { Rows };
+
+    ghost coded = { rows_code };
+
+    ghost use Rattle.ejson_value.specs.Rows.{AreRows};
+
+    ghost view = { λ a. a.docs.entries };
+
+    ghost invariant = { λ a. AreRows a.docs.entries };
+}
+
+impl Contents {
+    pub fn new(alloc: Global) -> Contents
+        ensures { result ≡ [] }
+    {
+        Contents {
+            docs: BTreeMap::new(alloc),
+        }
+    }
+
+    /// How many documents there are.
+    pub fn len(&self) -> usize
+        ensures { result ≡ length self.now }
+    {
+        self.docs.len()
+    }
+
+    pub fn is_empty(&self) -> bool
+        ensures { result ≡ (length self.now == 0) }
+    {
+        self.docs.is_empty()
+    }
+
+    /// The document at this key.
+    pub fn get(&self, key: &Key) -> Option<&Doc>
+        ensures { option_copied result ≡ at key_cmp self.now key.now }
+    {
+        self.docs.get(key)
+    }
+
+    /// Puts the document at this key.
+    pub fn put(&mut self, key: Key, doc: Doc) -> Result<(), Mem>
+        ensures ok { OnOk result (self.new ≡ set key_cmp self.old key (Some doc)) }
+        ensures err { OnErr result (self.new ≡ self.old) }
+    {
+        doc.known();
+        drop(self.docs.insert(key, doc)?);
+        Ok(())
+    }
+
+    /// Takes the document at this key out.
+    pub fn remove(&mut self, key: &Key) -> Option<Doc>
+        ensures value { result ≡ at key_cmp self.old key.now }
+        ensures removed { self.new ≡ set key_cmp self.old key.now None }
+    {
+        self.docs.remove(key)
+    }
+
+    /// The documents by rising key.
+    pub fn iter(&self) -> Iter<'_, Key, Doc>
+        ensures all { result ≡ self.now }
+        ensures ordered { IsSorted key_cmp self.now }
+    {
+        self.docs.iter()
+    }
+
+    /// Tells a proof what contents keep; it does nothing.
+    pub fn known(&self)
+        ensures { AreRows self.now }
+    {
+        let _ = &self.docs;
+    }
+
+    pub fn copy(&self) -> Result<Contents, Mem>
+        ensures { IfOk result (λ c. c ≡ self.now) }
+    {
+        let mut copies = Contents {
+            docs: BTreeMap::emptied(&self.docs)?,
+        };
+        for (key, doc) in self.iter() {
+            copies.put(key.copy()?, doc.copy()?)?;
+        }
+        Ok(copies)
+    }
+}
