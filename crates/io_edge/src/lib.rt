@@ -1,0 +1,18 @@
+//! Where a program meets the outside: what it reads from and what it writes to, each with a count of
+//! its failures, in memory for tests and over the standard library for the program itself.
+#![tactic(auto)]
+
+mod memory;
+mod sink;
+mod source;
+mod standard;
+mod whole;
+
+pub use memory::{Calls, MemorySink, MemorySource};
+pub use sink::Sink;
+pub use source::{Failed, Source};
+pub use standard::{StdSink, StdSource};
+pub use whole::{ReadAll, WriteAll, read_all, write_all};
+
+#[cfg(test)]
+mod tests;
