@@ -1,0 +1,10 @@
+pub mod Merge
+pub mod Publishing
+pub mod Kept
+pub mod SinceLaws
+pub mod MergeLaws
+pub mod PublishingLaws
+pub mod CellLaws
+pub mod KeptLaws
+pub mod Box
+pub mod BoxLaws
