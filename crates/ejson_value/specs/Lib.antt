@@ -5,3 +5,4 @@ pub mod Measure
 pub mod Key
 pub mod Rows
 pub mod Changes
+pub mod Messages

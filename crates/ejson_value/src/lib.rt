@@ -9,6 +9,7 @@ mod key;
 mod list;
 mod measure;
 mod memory;
+mod message;
 mod order;
 mod text;
 mod value;
@@ -22,6 +23,7 @@ pub use key::Key;
 pub use list::ListOf;
 pub use measure::{depth, size};
 pub use memory::Mem;
+pub use message::DataMsg;
 pub use order::{compare, same};
 pub use text::Text;
 pub use value::{Doc, Items, Value};
@@ -34,3 +36,5 @@ pub type Keys = ListOf<Key>;
 pub type Changes = ListOf<Change>;
 
 pub type Publishes = ListOf<Publish>;
+
+pub type DataList = ListOf<DataMsg>;
