@@ -20,3 +20,10 @@ pub enum FromServer {
     /// About a document.
     Data(DataMsg),
 }
+
+/// A subscription that a session has still to open.
+#[derive(Debug, Drop)]
+pub struct Request {
+    pub id: Text,
+    pub name: Text,
+}

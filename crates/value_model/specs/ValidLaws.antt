@@ -20,8 +20,8 @@ pub HaveValues-put : (es : Entries) (name : List ℕ) (v : Val) → HaveValues (
 HaveValues-put [] name v all one = (one, tt)
 HaveValues-put (e ∷ es) name v all one =
     elim (text_cmp name e.0)
-      as (λ o. HaveValues (fields_of (match_ordering o ((name, v) ∷ e ∷ es) ((e.0, v) ∷ es) (e ∷ insert_entry text_cmp es name v))))
-      [ Less ↦ (one, all) | Equal ↦ (one, all.1) | Greater ↦ (all.0, HaveValues-put es name v all.1 one) ]
+    as (λ o. HaveValues (fields_of (match_ordering o ((name, v) ∷ e ∷ es) ((e.0, v) ∷ es) (e ∷ insert_entry text_cmp es name v))))
+    [ Less ↦ (one, all) | Equal ↦ (one, all.1) | Greater ↦ (all.0, HaveValues-put es name v all.1 one) ]
 
 pub HaveValues-remove : (test : List ℕ → Bool) (es : Entries) → HaveValues (fields_of es) → HaveValues (fields_of (remove_entry test es))
 HaveValues-remove test [] all = tt
