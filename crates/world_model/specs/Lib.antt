@@ -5,3 +5,4 @@ pub mod Settle
 pub mod Run
 pub mod Lines
 pub mod Kept
+pub mod KeptLaws
