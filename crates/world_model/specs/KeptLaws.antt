@@ -2,7 +2,7 @@
 use Rattle.std.specs.Prelude.{◌≡◌, ℕ, zero, suc, ◌+◌, ◌-◌, ◌<◌, ◌≤◌, List, [], ◌∷◌, ◌++◌, length, map, Bool, true, false, cond, Option, Some, None, IfSome, IsSome, IsTrue, is_some, is_none, unwrap_or, nat_lt, ◌&&◌, refl}
 use Rattle.std.proofs.Common.{ap, sym, subst, ◌∙◌, arith, append-nil}
 use Rattle.std.proofs.lemmas.List.{append_assoc, length-append}
-use borrow.Author.Tests.{ltb-true}
+use Rattle.std.proofs.lemmas.Bool.{ltb-true}
 use Rattle.map_model.specs.Maps.{at, set, IsSorted}
 use Rattle.map_model.specs.Differences.{taken, all_taken}
 use Rattle.value_model.specs.Order.{text_cmp}
@@ -117,51 +117,51 @@ module _ (app : App) (h : List Entry) where
   up_keeps : (c : Client) (ms : List FromClient) → c.waiting ≡ ms → IsKept app h c → IfSome (moves_up c ms) (IsKept app h)
   up_keeps c [] e k = tt
   up_keeps c (m ∷ ms) e k = guarded_holds (IsKept app h) (nat_lt (length c.upward) link_limit) _ (λ _. record {
-      fits = k.fits;
-      taken = k.taken;
-      links = k.links;
-      rows = k.rows;
-      session = k.session;
-      sub = k.sub;
-      one_connect = omega (arith, k.one_connect, ap connects e, connects-append (m ∷ []) ms, connects-append c.upward (m ∷ []));
-      one_sub =
+    fits = k.fits;
+    taken = k.taken;
+    links = k.links;
+    rows = k.rows;
+    session = k.session;
+    sub = k.sub;
+    one_connect = omega (arith, k.one_connect, ap connects e, connects-append (m ∷ []) ms, connects-append c.upward (m ∷ []));
+    one_sub =
         ap (λ ids. opened_ids (live_of c.journal) ++ (requested c.queue ++ ids))
-          (ap (λ ids. ids ++ asked ms) (asked-append c.upward (m ∷ []))
-          ∙ (append_assoc (asked c.upward) (asked (m ∷ [])) (asked ms)
-          ∙ ap (λ ids. asked c.upward ++ ids) (sym (asked-append (m ∷ []) ms) ∙ ap asked (sym e))))
+        (ap (λ ids. ids ++ asked ms) (asked-append c.upward (m ∷ []))
+        ∙ (append_assoc (asked c.upward) (asked (m ∷ [])) (asked ms)
+        ∙ ap (λ ids. asked c.upward ++ ids) (sym (asked-append (m ∷ []) ms) ∙ ap asked (sym e))))
         ∙ k.one_sub;
-    })
+  })
 
   recv_keeps : (c : Client) (ms : List FromClient) → c.upward ≡ ms → IsKept app h c → IfSome (receives app h c ms) (IsKept app h)
   recv_keeps c [] e k = tt
   recv_keeps c (client.Connect ∷ ms) e k = guarded_holds (IsKept app h) (has_room c) _ (λ _. record {
-      fits = FitsFrom-append (length h) None c.journal item.Connect k.fits tt;
-      taken = k.taken;
-      links = item_links (record c { upward = ms }) item.Connect k.taken k.links;
-      rows = k.rows;
-      session = k.session;
-      sub = k.sub;
-      one_connect = omega (arith, k.one_connect, ap connects e, connected-append c.journal (item.Connect ∷ []));
-      one_sub =
+    fits = FitsFrom-append (length h) None c.journal item.Connect k.fits tt;
+    taken = k.taken;
+    links = item_links (record c { upward = ms }) item.Connect k.taken k.links;
+    rows = k.rows;
+    session = k.session;
+    sub = k.sub;
+    one_connect = omega (arith, k.one_connect, ap connects e, connected-append c.journal (item.Connect ∷ []));
+    one_sub =
         ap (λ live. opened_ids live ++ (requested c.queue ++ (asked ms ++ asked c.waiting))) (live_from-append None c.journal item.Connect)
         ∙ (ap (λ ids. opened_ids (live_of c.journal) ++ (requested c.queue ++ (ids ++ asked c.waiting))) (ap asked (sym e)) ∙ k.one_sub);
-    })
+  })
   recv_keeps c (client.Sub id name ∷ ms) e k = guarded_holds (IsKept app h) (has_room c) _ (λ _. record {
-      fits = k.fits;
-      taken = k.taken;
-      links = k.links;
-      rows = k.rows;
-      session = k.session;
-      sub = k.sub;
-      one_connect = omega (arith, k.one_connect, ap connects e);
-      one_sub =
+    fits = k.fits;
+    taken = k.taken;
+    links = k.links;
+    rows = k.rows;
+    session = k.session;
+    sub = k.sub;
+    one_connect = omega (arith, k.one_connect, ap connects e);
+    one_sub =
         let r : Request = record { id = id; name = name } in
         ap (λ ids. opened_ids (live_of c.journal) ++ ids)
-          (ap (λ ids. ids ++ (asked ms ++ asked c.waiting)) (requested-append c.queue (r ∷ []))
-          ∙ (append_assoc (requested c.queue) (id ∷ []) (asked ms ++ asked c.waiting)
-          ∙ ap (λ ids. requested c.queue ++ (ids ++ asked c.waiting)) (ap asked (sym e))))
+        (ap (λ ids. ids ++ (asked ms ++ asked c.waiting)) (requested-append c.queue (r ∷ []))
+        ∙ (append_assoc (requested c.queue) (id ∷ []) (asked ms ++ asked c.waiting)
+        ∙ ap (λ ids. requested c.queue ++ (ids ++ asked c.waiting)) (ap asked (sym e))))
         ∙ k.one_sub;
-    })
+  })
 
   handle_keeps : (c : Client) (rs : List Request) → c.queue ≡ rs → IsKept app h c → IfSome (handles app h c rs) (IsKept app h)
   handle_keeps c [] e k = tt
@@ -169,7 +169,7 @@ module _ (app : App) (h : List Entry) where
       let i = item.Open 0 r.id r.name in
       let later = requested rs ++ (asked c.upward ++ asked c.waiting) in
       let ids : opened_ids (live_of c.journal) ++ (r.id ∷ later) ≡ sub_ids c.sub =
-        ap (λ q. opened_ids (live_of c.journal) ++ (requested q ++ (asked c.upward ++ asked c.waiting))) (sym e) ∙ k.one_sub in
+      ap (λ q. opened_ids (live_of c.journal) ++ (requested q ++ (asked c.upward ++ asked c.waiting))) (sym e) ∙ k.one_sub in
       let none = none_before (opened_ids (live_of c.journal)) r.id later c.sub ids in
       guarded_holds (IsKept app h) (has_room c) _ (λ _. record {
         fits = FitsFrom-append (length h) None c.journal i k.fits (none_opened (live_of c.journal) none);
@@ -180,34 +180,34 @@ module _ (app : App) (h : List Entry) where
         sub = k.sub;
         one_connect = omega (arith, k.one_connect, connected-append c.journal (i ∷ []));
         one_sub =
-          ap (λ live. opened_ids live ++ later) (live_from-append None c.journal i)
-          ∙ (ap (λ xs. xs ++ (r.id ∷ later)) (sym none) ∙ ids);
+            ap (λ live. opened_ids live ++ later) (live_from-append None c.journal i)
+            ∙ (ap (λ xs. xs ++ (r.id ∷ later)) (sym none) ∙ ids);
       })
 
   -- an item that leaves open what is open
   item_keeps : (c : Client) (i : Item) → IsKept app h c → CanFollow (length h) (live_of c.journal) i → opened_ids (live_after (live_of c.journal) i) ≡ opened_ids (live_of c.journal) →
       connected (i ∷ []) ≡ 0 → IsKept app h (with_item app h c i)
   item_keeps c i k follows same no_connect = record {
-      fits = FitsFrom-append (length h) None c.journal i k.fits follows;
-      taken = k.taken;
-      links = item_links c i k.taken k.links;
-      rows = k.rows;
-      session = k.session;
-      sub = k.sub;
-      one_connect = omega (arith, k.one_connect, connected-append c.journal (i ∷ []), no_connect);
-      one_sub =
+    fits = FitsFrom-append (length h) None c.journal i k.fits follows;
+    taken = k.taken;
+    links = item_links c i k.taken k.links;
+    rows = k.rows;
+    session = k.session;
+    sub = k.sub;
+    one_connect = omega (arith, k.one_connect, connected-append c.journal (i ∷ []), no_connect);
+    one_sub =
         ap (λ live. opened_ids live ++ (requested c.queue ++ (asked c.upward ++ asked c.waiting))) (live_from-append None c.journal i)
         ∙ (ap (λ ids. ids ++ (requested c.queue ++ (asked c.upward ++ asked c.waiting))) same ∙ k.one_sub);
-    }
+  }
 
   load_keeps : (c : Client) (live : Live) (cursor : Option ℕ) → live_of c.journal ≡ Some live → live.cursor ≡ cursor → IsKept app h c → IfSome (loads_at app h c live cursor) (IsKept app h)
   load_keeps c live (Some n) is e k = tt
   load_keeps c live None is e k = guarded_holds (IsKept app h) (has_room c) _ (λ _.
       let i = item.Load live.sub (length h) in
       item_keeps c i k
-        (subst (λ o. CanFollow (length h) o i) (sym is) (e, omega arith))
-        (ap (λ o. opened_ids (live_after o i)) is ∙ sym (ap opened_ids is))
-        refl)
+      (subst (λ o. CanFollow (length h) o i) (sym is) (e, omega arith))
+      (ap (λ o. opened_ids (live_after o i)) is ∙ sym (ap opened_ids is))
+      refl)
 
   loads_keeps : (c : Client) (live : Option Live) → live_of c.journal ≡ live → IsKept app h c → IfSome (loads app h c live) (IsKept app h)
   loads_keeps c None is k = tt
@@ -223,9 +223,9 @@ module _ (app : App) (h : List Entry) where
       let i = item.Advance live.sub (length h - n) in
       let less : n < length h = ltb-true n (length h) (both_true (nat_lt n (length h)) (has_room c) on) in
       item_keeps c i k
-        (subst (λ o. CanFollow (length h) o i) (sym is) (n, e, omega (arith, less), omega (arith, less)))
-        (ap (λ o. opened_ids (live_after o i)) is ∙ sym (ap opened_ids is))
-        refl)
+      (subst (λ o. CanFollow (length h) o i) (sym is) (n, e, omega (arith, less), omega (arith, less)))
+      (ap (λ o. opened_ids (live_after o i)) is ∙ sym (ap opened_ids is))
+      refl)
 
   advances_keeps : (c : Client) (live : Option Live) → live_of c.journal ≡ live → IsKept app h c → IfSome (advances app h c live) (IsKept app h)
   advances_keeps c None is k = tt
@@ -234,15 +234,15 @@ module _ (app : App) (h : List Entry) where
   send_keeps : (c : Client) (ms : List FromServer) → c.outbox ≡ ms → IsKept app h c → IfSome (sends c ms) (IsKept app h)
   send_keeps c [] e k = tt
   send_keeps c (m ∷ ms) e k = guarded_holds (IsKept app h) (nat_lt (length c.downward) link_limit) _ (λ _. record {
-      fits = k.fits;
-      taken = k.taken;
-      links = ap (λ rest. k.taken ++ rest) (append_assoc c.downward (m ∷ []) ms ∙ ap (λ xs. c.downward ++ xs) (sym e)) ∙ k.links;
-      rows = k.rows;
-      session = k.session;
-      sub = k.sub;
-      one_connect = k.one_connect;
-      one_sub = k.one_sub;
-    })
+    fits = k.fits;
+    taken = k.taken;
+    links = ap (λ rest. k.taken ++ rest) (append_assoc c.downward (m ∷ []) ms ∙ ap (λ xs. c.downward ++ xs) (sym e)) ∙ k.links;
+    rows = k.rows;
+    session = k.session;
+    sub = k.sub;
+    one_connect = k.one_connect;
+    one_sub = k.one_sub;
+  })
 
   take_links : (c : Client) (m : FromServer) (ms : List FromServer) → c.downward ≡ m ∷ ms → (k : IsKept app h c) →
       (k.taken ++ m ∷ []) ++ (ms ++ c.outbox) ≡ out app c.number h c.journal
@@ -251,41 +251,41 @@ module _ (app : App) (h : List Entry) where
   take_keeps : (c : Client) (ms : List FromServer) → c.downward ≡ ms → IsKept app h c → IfSome (takes c ms) (IsKept app h)
   take_keeps c [] e k = tt
   take_keeps c (server.Connected name ∷ ms) e k = record {
-      fits = k.fits;
-      taken = k.taken ++ server.Connected name ∷ [];
-      links = take_links c (server.Connected name) ms e k;
-      rows = k.rows ∙ ap (λ d. all_taken text_cmp key_cmp [] d) (sym (data_of-append k.taken (server.Connected name ∷ []) ∙ append-nil (data_of k.taken)));
-      session = sym (session_after-append None k.taken (server.Connected name ∷ []));
-      sub = k.sub ∙ sym (sub_after-append (unready c.sub) k.taken (server.Connected name ∷ []));
-      one_connect = k.one_connect;
-      one_sub = k.one_sub;
-    }
+    fits = k.fits;
+    taken = k.taken ++ server.Connected name ∷ [];
+    links = take_links c (server.Connected name) ms e k;
+    rows = k.rows ∙ ap (λ d. all_taken text_cmp key_cmp [] d) (sym (data_of-append k.taken (server.Connected name ∷ []) ∙ append-nil (data_of k.taken)));
+    session = sym (session_after-append None k.taken (server.Connected name ∷ []));
+    sub = k.sub ∙ sym (sub_after-append (unready c.sub) k.taken (server.Connected name ∷ []));
+    one_connect = k.one_connect;
+    one_sub = k.one_sub;
+  }
   take_keeps c (server.Ready id ∷ ms) e k = record {
-      fits = k.fits;
-      taken = k.taken ++ server.Ready id ∷ [];
-      links = take_links c (server.Ready id) ms e k;
-      rows = k.rows ∙ ap (λ d. all_taken text_cmp key_cmp [] d) (sym (data_of-append k.taken (server.Ready id ∷ []) ∙ append-nil (data_of k.taken)));
-      session = k.session ∙ sym (session_after-append None k.taken (server.Ready id ∷ []));
-      sub =
+    fits = k.fits;
+    taken = k.taken ++ server.Ready id ∷ [];
+    links = take_links c (server.Ready id) ms e k;
+    rows = k.rows ∙ ap (λ d. all_taken text_cmp key_cmp [] d) (sym (data_of-append k.taken (server.Ready id ∷ []) ∙ append-nil (data_of k.taken)));
+    session = k.session ∙ sym (session_after-append None k.taken (server.Ready id ∷ []));
+    sub =
         ap (readied id) k.sub
         ∙ (sym (sub_after-append (unready c.sub) k.taken (server.Ready id ∷ []))
         ∙ ap (λ s. sub_after s (k.taken ++ server.Ready id ∷ [])) (sym (unready-readied id c.sub)));
-      one_connect = k.one_connect;
-      one_sub = k.one_sub ∙ sym (sub_ids-readied id c.sub);
-    }
+    one_connect = k.one_connect;
+    one_sub = k.one_sub ∙ sym (sub_ids-readied id c.sub);
+  }
   take_keeps c (server.Data m ∷ ms) e k = record {
-      fits = k.fits;
-      taken = k.taken ++ server.Data m ∷ [];
-      links = take_links c (server.Data m) ms e k;
-      rows =
+    fits = k.fits;
+    taken = k.taken ++ server.Data m ∷ [];
+    links = take_links c (server.Data m) ms e k;
+    rows =
         ap (λ rows. taken_by rows (said m)) k.rows
         ∙ (sym (all_taken-append [] (data_of k.taken) (said m ∷ []))
         ∙ ap (λ d. all_taken text_cmp key_cmp [] d) (sym (data_of-append k.taken (server.Data m ∷ []))));
-      session = k.session ∙ sym (session_after-append None k.taken (server.Data m ∷ []));
-      sub = k.sub ∙ sym (sub_after-append (unready c.sub) k.taken (server.Data m ∷ []));
-      one_connect = k.one_connect;
-      one_sub = k.one_sub;
-    }
+    session = k.session ∙ sym (session_after-append None k.taken (server.Data m ∷ []));
+    sub = k.sub ∙ sym (sub_after-append (unready c.sub) k.taken (server.Data m ∷ []));
+    one_connect = k.one_connect;
+    one_sub = k.one_sub;
+  }
 
   pub acts_keep : (c : Client) (a : Act) → IsKept app h c → IfSome (acts app h c a) (IsKept app h)
   acts_keep c act.Up k = up_keeps c c.waiting refl k

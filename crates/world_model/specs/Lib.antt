@@ -6,3 +6,5 @@ pub mod Run
 pub mod Lines
 pub mod Kept
 pub mod KeptLaws
+pub mod RunLaws
+pub mod HeadlineLaws
