@@ -8,3 +8,4 @@ pub mod Kept
 pub mod KeptLaws
 pub mod RunLaws
 pub mod HeadlineLaws
+pub mod SettleLaws
