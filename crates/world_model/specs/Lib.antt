@@ -9,3 +9,4 @@ pub mod KeptLaws
 pub mod RunLaws
 pub mod HeadlineLaws
 pub mod SettleLaws
+pub mod RestLaws

@@ -1,5 +1,5 @@
 -- What an event does to a world, and what a list of events leads to.
-use Rattle.std.specs.Prelude.{◌≡◌, ℕ, List, [], ◌∷◌, ◌++◌, length, Option, Some, None, Bool, true, false, is_some, is_none, unwrap_or, ◌&&◌, if◌then◌else◌, IsTrue, IsSome}
+use Rattle.std.specs.Prelude.{◌≡◌, ◌⊎◌, ◌≤◌, ℕ, List, [], ◌∷◌, ◌++◌, length, Option, Some, None, Bool, true, false, is_some, is_none, unwrap_or, ◌&&◌, if◌then◌else◌, IsTrue, IsSome}
 use Rattle.map_model.specs.Maps.{IsSorted}
 use Rattle.value_model.specs.Order.{text_cmp}
 use Rattle.value_model.specs.Size.{is_name}
@@ -14,7 +14,7 @@ use Rattle.session_model.specs.Out.{out, ready_ids}
 use Rattle.world_model.specs.declared.events.Event.{Event}
 use Rattle.world_model.specs.declared.events.Event.TheVariants as event
 use Rattle.world_model.specs.Client.{Client, Sub, new_client}
-use Rattle.world_model.specs.Acts.{guarded}
+use Rattle.world_model.specs.Acts.{guarded, journal_limit}
 use Rattle.world_model.specs.World.{World, start, done}
 use Rattle.world_model.specs.Settle.{settled}
 
@@ -112,3 +112,7 @@ HoldsOf (Some c) P = P c
 pub record IsTrueWorld (w : World) : Type 0 where
   pub legal : IsLegal w.app w.history
   pub whole : HoldsOf w.client (λ c. IsQuiescent w.history c → IsWhole w.app w.history c)
+
+-- A settled session is quiescent, or its journal is full.
+abbrev pub IsAtRest : List Entry → Client → Type 0
+IsAtRest history c = IsQuiescent history c ⊎ (journal_limit ≤ length c.journal)
