@@ -1,0 +1,3 @@
+pub mod ArmedFences
+pub mod ListsSteps
+pub mod Pairs
