@@ -1,0 +1,28 @@
+// Ids against values from outside. They were computed in Python: the key by `hashlib.sha256`, the words by
+// a block function written from RFC 8439, section 2.3, which gives that standard's vectors of 2.1.1, 2.3.2
+// and A.1, and each letter from its word by integer arithmetic.
+use super::draw;
+use ejson_value::Text;
+use std::test::Fail;
+
+#[test]
+fn draws_the_ids_of_the_definition(rt: HostRuntime) -> Result<(), Fail> {
+    let ids = [
+        ("\"S1-1\"", "tasks", 0, "y4piDQHehLAJsG4mX"),
+        ("\"S1-1\"", "tasks", 1, "wFaMCMJBmQ25LXRms"),
+        ("\"S1-1\"", "tasks", 4095, "G72DGw2SahGdXQhEA"),
+        ("\"S12-7\"", "players", 16, "4ph3GzTW73td4iFFf"),
+        ("", "tasks", 0, "XLBLYpn97d3eLG8pW"),
+        ("", "", 0, "P5biTMZcK23jKZpfu"),
+        ("\"S1-1\"", "Zażółć 任务", 0, "sMK7yrREd2fR2PSuH"),
+        ("\"S1-1\"", "Zażółć 任务", 4095, "THreFxfM8tHH8aJFy"),
+        ("a", "bc", 0, "E88CLGq54vxcHDQsL"),
+        ("ab", "c", 0, "5PNCYKMCK2BiLZi9y"),
+    ];
+    for (seed, collection, n, id) in ids {
+        let seed = Text::from_str(rt.alloc(), seed)?;
+        let collection = Text::from_str(rt.alloc(), collection)?;
+        assert_eq!(rt; draw(rt.alloc(), &seed, &collection, n)?.as_str(), id);
+    }
+    Ok(())
+}
