@@ -1,12 +1,12 @@
 -- Laws of the order of values: only equal values tie, and each pair answers the other way round as its reverse.
-use Rattle.std.specs.Prelude.{◌≡◌, ◌↔◌, ℕ, Bool, true, false, List, length, IsTrue, refl}
-use Rattle.std.proofs.Common.{ap, ◌∙◌, sym}
+use Rattle.std.specs.Prelude.{◌≡◌, ◌↔◌, ◌<◌, ◌≤◌, Bool, true, false, length, IsTrue, refl}
+use Rattle.std.proofs.Common.{ap, ◌∙◌, sym, arith}
 use Rattle.std.specs.declared.cmp.Ordering.{Ordering}
 use Rattle.std.specs.declared.cmp.Ordering.TheVariants.{Less, Equal, Greater}
-use Rattle.std.specs.Ordering.{nat_cmp, int_cmp, bool_cmp, ordering_then, ordering_reverse, is_eq}
-use Rattle.std.specs.Cmp.{then_flip, bool_cmp_total}
+use Rattle.std.specs.Ordering.{nat_cmp, bool_cmp, ordering_then, ordering_reverse, is_eq}
+use Rattle.std.specs.Cmp.{IsTotalOrder, then_flip, bool_cmp_total, nat_cmp_is}
 use Rattle.std.specs.Cmp.Lexicographic.{slice_cmp}
-use Rattle.std.proofs.lemmas.Cmp.{nat_cmp_total, int_cmp_total, nat_list_cmp_total}
+use Rattle.std.proofs.lemmas.Cmp.{nat_cmp_total, int_cmp_total, nat_list_cmp_total, ranked, alike_right}
 use Rattle.std.proofs.lemmas.Map.Lookups.{exact_signed, exact_bytes}
 use Rattle.value_model.specs.Val.{Val, null, boolean, int, text, date, bytes, list, object, Vals, no_vals, val, Fields, no_fields, field}
 use Rattle.value_model.specs.Order.{text_cmp, kind, compare, vals_cmp, fields_cmp}
@@ -95,3 +95,76 @@ compare_is_eq a b = (λ h. compare_ties a b (eq_of (compare a b) h), λ e. ap (�
     eq_of Less h = cc
     eq_of Equal h = refl
     eq_of Greater h = cc
+
+-- one order after another is transitive where both are, and where the first answers alike for what ties
+pub then_trans : (a b c p q r : Ordering) → (a ≡ Less → b ≡ Less → c ≡ Less) → (a ≡ Equal → c ≡ b) → (b ≡ Equal → c ≡ a) → (p ≡ Less → q ≡ Less → r ≡ Less)
+    → ordering_then a p ≡ Less → ordering_then b q ≡ Less → ordering_then c r ≡ Less
+then_trans Less Less c p q r both left right rest e f = ap (λ o. ordering_then o r) (both refl refl)
+then_trans Less Equal c p q r both left right rest e f = ap (λ o. ordering_then o r) (right refl)
+then_trans Less Greater c p q r both left right rest e f = cc
+then_trans Equal Less c p q r both left right rest e f = ap (λ o. ordering_then o r) (left refl)
+then_trans Equal Equal c p q r both left right rest e f = ap (λ o. ordering_then o r) (left refl) ∙ rest e f
+then_trans Equal Greater c p q r both left right rest e f = cc
+then_trans Greater b c p q r both left right rest e f = cc
+
+-- what comes first is of no later kind
+pub kind_le : (a b : Val) → compare a b ≡ Less → kind a ≤ kind b
+kind_le (int a) (int b) e = omega arith
+kind_le (text a) (text b) e = omega arith
+kind_le (object a) (object b) e = omega arith
+kind_le (list a) (list b) e = omega arith
+kind_le (bytes a) (bytes b) e = omega arith
+kind_le (boolean a) (boolean b) e = omega arith
+kind_le (date a) (date b) e = omega arith
+kind_le a b e = omega (arith, ranked (kind a) (kind b) Less (sym e))
+
+-- what is of an earlier kind comes first
+pub kind_less : (a b : Val) → kind a < kind b → compare a b ≡ Less
+kind_less (int a) (int b) h = absurd (omega (arith, h))
+kind_less (text a) (text b) h = absurd (omega (arith, h))
+kind_less (object a) (object b) h = absurd (omega (arith, h))
+kind_less (list a) (list b) h = absurd (omega (arith, h))
+kind_less (bytes a) (bytes b) h = absurd (omega (arith, h))
+kind_less (boolean a) (boolean b) h = absurd (omega (arith, h))
+kind_less (date a) (date b) h = absurd (omega (arith, h))
+kind_less a b h = sym (nat_cmp_is (kind a) (kind b) Less h)
+
+mutual
+  pub compare_trans : (a b c : Val) → compare a b ≡ Less → compare b c ≡ Less → compare a c ≡ Less
+  compare_trans (int a) (int b) (int c) e f = int_cmp_total.trans a b c e f
+  compare_trans (text a) (text b) (text c) e f = nat_list_cmp_total.trans a b c e f
+  compare_trans (object a) (object b) (object c) e f = fields_trans a b c e f
+  compare_trans (list a) (list b) (list c) e f = vals_trans a b c e f
+  compare_trans (bytes a) (bytes b) (bytes c) e f =
+      then_trans _ _ _ _ _ _ (nat_cmp_total.trans (length a) (length b) (length c)) (λ tie. nat_cmp_total.congr (length a) (length b) (length c) tie) (λ tie. sym (alike_right nat_cmp_total (length b) (length c) (length a) tie)) (nat_list_cmp_total.trans a b c) e f
+  compare_trans (boolean a) (boolean b) (boolean c) e f = bool_cmp_total.trans a b c e f
+  compare_trans (date a) (date b) (date c) e f = int_cmp_total.trans a b c e f
+  compare_trans null null c e f = cc
+  compare_trans a b c e f = kind_less a c (omega (arith, kind_le a b e, kind_le b c f))
+
+  pub vals_trans : (a b c : Vals) → vals_cmp a b ≡ Less → vals_cmp b c ≡ Less → vals_cmp a c ≡ Less
+  vals_trans no_vals no_vals c e f = f
+  vals_trans no_vals (val w ws) no_vals e f = cc
+  vals_trans no_vals (val w ws) (val x xs) e f = refl
+  vals_trans (val v vs) no_vals c e f = cc
+  vals_trans (val v vs) (val w ws) no_vals e f = cc
+  vals_trans (val v vs) (val w ws) (val x xs) e f =
+      then_trans (compare v w) (compare w x) (compare v x) _ _ _ (compare_trans v w x) (λ tie. ap (λ u. compare u x) (compare_ties v w tie)) (λ tie. ap (λ u. compare v u) (sym (compare_ties w x tie))) (vals_trans vs ws xs) e f
+
+  pub fields_trans : (a b c : Fields) → fields_cmp a b ≡ Less → fields_cmp b c ≡ Less → fields_cmp a c ≡ Less
+  fields_trans no_fields no_fields c e f = f
+  fields_trans no_fields (field n w ws) no_fields e f = cc
+  fields_trans no_fields (field n w ws) (field k x xs) e f = refl
+  fields_trans (field m v vs) no_fields c e f = cc
+  fields_trans (field m v vs) (field n w ws) no_fields e f = cc
+  fields_trans (field m v vs) (field n w ws) (field k x xs) e f =
+      let values = then_trans (compare v w) (compare w x) (compare v x) (fields_cmp vs ws) (fields_cmp ws xs) (fields_cmp vs xs) (compare_trans v w x) (λ tie. ap (λ u. compare u x) (compare_ties v w tie))
+      (λ tie. ap (λ u. compare v u) (sym (compare_ties w x tie))) (fields_trans vs ws xs) in
+      then_trans (text_cmp m n) (text_cmp n k) (text_cmp m k) _ _ _ (nat_list_cmp_total.trans m n k) (λ tie. ap (λ u. text_cmp u k) (exact_bytes m n tie)) (λ tie. ap (λ u. text_cmp m u) (sym (exact_bytes n k tie))) values e f
+
+pub compare_total : IsTotalOrder compare
+compare_total = record {
+  antisymm = compare_reverse;
+  trans = compare_trans;
+  congr = λ a b c tie. ap (λ v. compare v c) (compare_ties a b tie);
+}

@@ -1,16 +1,14 @@
 -- What values keep, kept by the edits of lists and documents.
-use Rattle.std.specs.Prelude.{◌≡◌, ℕ, List, [], ◌∷◌, ◌++◌, Bool, true, false, cond, None, Some, IfSome}
-use Rattle.std.proofs.Common.{ap, subst, sym}
-use Rattle.std.specs.List.Sorted.{IsStrictlySortedBy}
-use Rattle.std.specs.Map.{keys_of, lookup, remove_entry}
-use Rattle.std.specs.declared.cmp.Ordering.{Ordering}
+use Rattle.std.specs.Prelude.{ℕ, List, [], ◌∷◌, ◌++◌, Bool, true, false, cond, Some, IfSome}
+use Rattle.std.proofs.Common.{subst, sym}
+use Rattle.std.specs.Map.{lookup, remove_entry}
 use Rattle.std.specs.declared.cmp.Ordering.TheVariants.{Less, Equal, Greater}
 use Rattle.std.specs.Ordering.{match_ordering}
-use Rattle.std.specs.BTreeMap.{insert_entry, is_at}
-use Rattle.value_model.specs.Val.{Val, list, object, vals_of, fields_of, entries_of, Entries, entries_of-fields_of}
+use Rattle.std.specs.BTreeMap.{insert_entry}
+use Rattle.value_model.specs.Val.{Val, object, vals_of, fields_of, Entries, entries_of-fields_of}
 use Rattle.value_model.specs.Order.{text_cmp}
 use Rattle.value_model.specs.Valid.{IsValue, AreValues, HaveValues, HasRisingNames, IsDocument}
-use Rattle.value_model.specs.Doc.{get, put, remove}
+use Rattle.value_model.specs.Doc.{put}
 
 pub AreValues-append : (vs : List Val) (v : Val) → AreValues (vals_of vs) → IsValue v → AreValues (vals_of (vs ++ v ∷ []))
 AreValues-append [] v all one = (one, tt)

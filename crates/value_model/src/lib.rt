@@ -3,6 +3,7 @@
 
 ghost use Rattle.std.specs.Prelude.{◌≡◌, ◌↔◌, IsTrue};
 ghost use Rattle.std.specs.Ordering.{is_eq, ordering_reverse};
+ghost use Rattle.std.specs.Cmp.{IsTotalOrder};
 ghost use Rattle.value_model.specs.Val.{Val};
 ghost use Rattle.value_model.specs.Order.{compare};
 
@@ -15,3 +16,22 @@ pub fn only_equal_values_tie()
 pub fn comparing_is_antisymmetric()
     ensures { (a b : Val) → compare a b ≡ ordering_reverse (compare b a) }
 {}
+
+/// Values are totally ordered: of two different ones exactly one comes first, and what comes before
+/// a value comes before all that follow it.
+pub fn comparing_is_total()
+    ensures { IsTotalOrder compare }
+{}
+
+#[cfg(test)]
+mod tests {
+    use super::{comparing_is_antisymmetric, comparing_is_total, only_equal_values_tie};
+
+    // Each law can be called.
+    #[test]
+    fn laws() {
+        only_equal_values_tie();
+        comparing_is_antisymmetric();
+        comparing_is_total();
+    }
+}
