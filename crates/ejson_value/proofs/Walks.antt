@@ -1,5 +1,5 @@
 -- Lemmas of every walk over a value: what is reached lies less deep, and what was passed so far has one more.
-use Rattle.std.proofs.Common.{false, ◌≡◌, ℕ, zero, suc, max, ◌+◌, ◌<◌, ◌≤◌, List, [], ◌∷◌, ◌++◌, length, get_or, take, drop, map, refl, ap, sym, subst, ◌∙◌, arith}
+use Rattle.std.proofs.Common.{false, ◌≡◌, ℕ, zero, suc, ◌<◌, ◌≤◌, List, [], ◌∷◌, ◌++◌, length, get_or, refl, ap, sym, subst, ◌∙◌, arith}
 use Rattle.std.proofs.lemmas.List.{map-append}
 use Rattle.std.specs.Map.{keys_of}
 use Rattle.std.specs.declared.cmp.Ordering.{Ordering}
@@ -17,7 +17,7 @@ use Rattle.map_model.specs.OrderLaws.{put_last, IsAbove-from_sorted}
 use Rattle.value_model.specs.Order.{text_cmp, compare, fields_cmp}
 use Rattle.value_model.specs.Doc.{put}
 use Rattle.ejson_value.specs.Entries.{keys_of-entries}
-use Rattle.value_model.specs.Val.{Val, Vals, no_vals, val, Fields, no_fields, field, Entries, vals_of, fields_of}
+use Rattle.value_model.specs.Val.{Val, Entries, vals_of, fields_of}
 use Rattle.value_model.specs.Depth.{depth, vals_depth, fields_depth}
 use Rattle.ejson_value.specs.declared.value.Value.{Value}
 use Rattle.ejson_value.specs.View.{view, views, entries}

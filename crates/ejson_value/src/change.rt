@@ -23,7 +23,7 @@ pub struct Publish {
     pub new: Option<Doc>,
 }
 
-fn copy_of(doc: &Option<Doc>) -> Result<Option<Doc>, Mem>
+pub(crate) fn copy_of(doc: &Option<Doc>) -> Result<Option<Doc>, Mem>
     ensures { IfOk result (λ d. d ≡ doc.now) }
 {
     match doc {

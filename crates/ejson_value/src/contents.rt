@@ -1,5 +1,5 @@
 //! Contents: documents by collection and id, and changes of them.
-ghost use Rattle.std.specs.Prelude.{◌≡◌, ◌==◌, [], length, Some, None, IfOk, OnOk, OnErr};
+ghost use Rattle.std.specs.Prelude.{◌≡◌, ◌==◌, [], length, Some, None, IsSome, IfOk, OnOk, OnErr};
 ghost use Rattle.std.specs.Option.{option_copied};
 ghost use Rattle.std.specs.Map.{keys_of};
 ghost use Rattle.map_model.specs.Maps.{at, set, IsSorted};
@@ -72,6 +72,17 @@ impl Contents {
         doc.known();
         drop(self.docs.insert(key, doc)?);
         Ok(())
+    }
+
+    /// Puts the document in place of the one at this key, which takes no memory.
+    pub(crate) fn replace(&mut self, key: &Key, doc: Doc)
+        requires { IsSome (at key_cmp self.old key.now) }
+        ensures { self.new ≡ set key_cmp self.old key.now (Some doc) }
+    {
+        doc.known();
+        if let Some(place) = self.docs.get_mut(key) {
+            *place = doc;
+        }
     }
 
     /// Takes the document at this key out.

@@ -11,6 +11,7 @@ mod measure;
 mod memory;
 mod message;
 mod order;
+mod put_all;
 mod text;
 mod value;
 mod whole;

@@ -53,6 +53,10 @@ impl<T> ListOf<T> {
     {
         self.items.as_slice()
     }
+
+    pub(crate) fn allocator(&self) -> Global {
+        *self.items.allocator()
+    }
 }
 
 impl<T: Drop> ListOf<T> {

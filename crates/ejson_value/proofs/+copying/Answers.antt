@@ -1,11 +1,10 @@
-use Rattle.std.proofs.Common.{◌≡◌, ◌∷◌, [], ◌++◌, ◌+◌, suc, ap, sym, subst, ◌∙◌, arith}
+use Rattle.std.proofs.Common.{◌∷◌, [], ◌++◌, ap, sym, subst, ◌∙◌, arith}
 use Rattle.std.proofs.lemmas.List.{append_assoc}
 use Rattle.std.specs.Map.{keys_of}
 use Rattle.std.specs.List.Sorted.{IsStrictlySortedBy}
 use Rattle.value_model.specs.Order.{text_cmp}
 use Rattle.value_model.specs.Doc.{put}
-use Rattle.value_model.specs.Depth.{depth, vals_depth, fields_depth}
-use Rattle.ejson_value.specs.View.{view, views, entries}
+use Rattle.ejson_value.specs.View.{view, entries}
 use Rattle.ejson_value.proofs.Walks.{item_depth, field_depth, one_more_field}
 use Rattle.ejson_value.proofs.+copying.Goals as goal
 

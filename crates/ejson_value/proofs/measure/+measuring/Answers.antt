@@ -1,4 +1,4 @@
-use Rattle.std.proofs.Common.{◌≡◌, ◌∷◌, [], ◌++◌, ◌+◌, ap, sym, ◌∙◌, arith}
+use Rattle.std.proofs.Common.{◌∷◌, [], ◌++◌, ap, sym, ◌∙◌, arith}
 use Rattle.std.proofs.lemmas.List.{append_assoc, drop_all}
 use Rattle.value_model.specs.Val.{vals_of, fields_of}
 use Rattle.value_model.specs.Size.{vals_size, fields_size}

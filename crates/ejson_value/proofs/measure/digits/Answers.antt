@@ -1,4 +1,4 @@
-use Rattle.std.proofs.Common.{◌≡◌, ◌+◌, ◌≤◌, ◌^◌, ◌<◌, ◌/◌, length, refl, ap, sym, ◌∙◌, arith, lit<, [], ◌∷◌, ℕ, ◌%◌}
+use Rattle.std.proofs.Common.{◌≡◌, ◌+◌, ◌^◌, ◌<◌, ◌/◌, length, refl, ap, ◌∙◌, arith, lit<, [], ◌∷◌, ◌%◌}
 use Rattle.std.specs.Prelude.{decimal}
 use Rattle.std.proofs.lemmas.Fmt.{decimal_step, decimal_digit, length-decimal-le}
 use Rattle.std.proofs.lemmas.List.{length-append}

@@ -1,7 +1,5 @@
-use Rattle.std.proofs.Common.{◌≡◌, ◌∷◌, [], ◌++◌, ap, sym, subst, ◌∙◌}
+use Rattle.std.proofs.Common.{◌∷◌, [], ◌++◌, ap, sym, ◌∙◌}
 use Rattle.std.proofs.lemmas.List.{append_assoc}
-use Rattle.map_model.specs.Maps.{IsSorted}
-use Rattle.ejson_value.specs.Key.{key_cmp}
 use Rattle.ejson_value.proofs.Walks.{one_more_row}
 use Rattle.ejson_value.proofs.contents.Contents.copy.Goals as goal
 

@@ -1,5 +1,4 @@
-use Rattle.std.proofs.Common.{◌≡◌, List, ◌++◌}
-use Rattle.ejson_value.specs.Rows.{Rows}
+use Rattle.std.proofs.Common.{◌≡◌, ◌++◌}
 use Rattle.ejson_value.proofs.contents.Contents.copy.Given as goal
 
 abbrev pub invariant-loop-key : goal.invariant-loop-key

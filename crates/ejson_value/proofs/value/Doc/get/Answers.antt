@@ -1,8 +1,7 @@
-use Rattle.std.proofs.Common.{sym, ap, ◌∙◌, option_map}
+use Rattle.std.proofs.Common.{sym, ◌∙◌}
 use Rattle.std.specs.BTreeMap.{is_at}
 use Rattle.value_model.specs.Order.{text_cmp}
 use Rattle.ejson_value.specs.Entries.{lookup-entries, viewed}
-use Rattle.ejson_value.specs.View.{view}
 use Rattle.ejson_value.proofs.value.Doc.get.Goals as goal
 
 pub returns : goal.returns

@@ -1,10 +1,10 @@
 use Rattle.std.proofs.Common.{subst, sym, ap, ◌∙◌}
 use Rattle.value_model.specs.Val.{fields_of}
-use Rattle.value_model.specs.Valid.{HasRisingNames, HaveValues, IsDocument}
+use Rattle.value_model.specs.Valid.{HaveValues}
 use Rattle.value_model.specs.ValidLaws.{HaveValues-put}
 use Rattle.std.specs.List.Sorted.{IsStrictlySortedBy}
 use Rattle.value_model.specs.Order.{text_cmp}
-use Rattle.ejson_value.specs.View.{view, entries}
+use Rattle.ejson_value.specs.View.{entries}
 use Rattle.ejson_value.specs.Entries.{entries-insert, keys_of-entries}
 use Rattle.ejson_value.proofs.value.Doc.put.Goals as goal
 

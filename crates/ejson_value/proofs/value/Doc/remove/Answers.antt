@@ -2,7 +2,7 @@ use Rattle.std.proofs.Common.{subst, sym, ap, ◌∙◌, option_map}
 use Rattle.std.specs.BTreeMap.{is_at}
 use Rattle.std.specs.List.Sorted.{IsStrictlySortedBy}
 use Rattle.value_model.specs.Val.{fields_of}
-use Rattle.value_model.specs.Valid.{HaveValues, IsDocument}
+use Rattle.value_model.specs.Valid.{HaveValues}
 use Rattle.value_model.specs.ValidLaws.{HaveValues-remove}
 use Rattle.value_model.specs.Order.{text_cmp}
 use Rattle.ejson_value.specs.View.{view, entries}
