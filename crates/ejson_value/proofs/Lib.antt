@@ -1,2 +1,3 @@
 pub mod Walks
 pub mod PutAll
+pub mod Branching

@@ -6,3 +6,4 @@ pub mod Key
 pub mod Rows
 pub mod Changes
 pub mod Messages
+pub mod Asking

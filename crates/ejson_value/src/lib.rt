@@ -1,6 +1,7 @@
 //! EJSON values, documents and contents in memory (the EJSON appendix of Meteor's DDP specification).
 #![tactic(auto)]
 
+mod branches;
 mod bytes;
 mod change;
 mod contents;
@@ -12,10 +13,12 @@ mod memory;
 mod message;
 mod order;
 mod put_all;
+mod path;
 mod text;
 mod value;
 mod whole;
 
+pub use branches::some_branch;
 pub use bytes::Bytes;
 pub use change::{Change, Publish};
 pub use contents::Contents;
@@ -26,6 +29,7 @@ pub use measure::{depth, size};
 pub use memory::Mem;
 pub use message::DataMsg;
 pub use order::{compare, same};
+pub use path::{Part, Path, PathFault};
 pub use text::Text;
 pub use value::{Doc, Items, Value};
 pub use whole::Whole;

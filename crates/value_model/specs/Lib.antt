@@ -5,5 +5,6 @@ pub mod Order
 pub mod OrderLaws
 pub mod Size
 pub mod Doc
+pub mod Branches
 pub mod Valid
 pub mod ValidLaws
