@@ -1,0 +1,7 @@
+pub mod Members
+pub mod Lists
+pub mod Exits
+pub mod Found
+pub mod Fields
+pub mod WritingTurns
+pub mod TextLaws

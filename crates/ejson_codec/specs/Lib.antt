@@ -1,0 +1,13 @@
+pub mod Shape
+pub mod Base64
+pub mod Base64Laws
+pub mod Reads
+pub mod Reading
+pub mod ReadingLaws
+pub mod Turns
+pub mod Written
+pub mod WrittenLaws
+pub mod Faults
+pub mod Trees
+pub mod TreeLaws
+pub mod SizeLaws

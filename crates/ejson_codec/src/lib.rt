@@ -1,0 +1,23 @@
+//! EJSON as JSON text and JSON trees (the EJSON appendix of Meteor's DDP specification).
+#![tactic(auto)]
+
+mod base64_text;
+mod fault;
+mod laws;
+mod reading;
+mod shape;
+mod texts;
+mod writing;
+
+use ejson_value::{ListOf, Text};
+pub use fault::{EjsonFault, ParseFault, ReadFault};
+pub use laws::{one_tree, size_of_text};
+pub use reading::read;
+pub use texts::{parse, text};
+pub use writing::write;
+
+/// Texts, one for each line.
+pub type Lines = ListOf<Text>;
+
+#[cfg(test)]
+mod tests;
