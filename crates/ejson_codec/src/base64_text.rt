@@ -1,5 +1,7 @@
 //! Binary data as base64 texts (RFC 4648, section 4).
-ghost use Rattle.std.specs.Prelude.{◌≡◌, ◌<◌, All, IfOk, option_map, string_bytes};
+ghost use Rattle.std.specs.Prelude.{◌≡◌, Ok, IfOk, IfErr, string_bytes};
+ghost use Rattle.base64.specs.Engines.{standard};
+ghost use Rattle.base64.specs.GeneralPurpose.{encode_of, decode_of, IsBytes, IsDecodeFailure};
 ghost use Rattle.ejson_codec.specs.Base64.{base64, bytes_of};
 
 use base64::DecodeAllocError;
@@ -18,9 +20,19 @@ pub(crate) fn encoded(alloc: Global, bytes: &[u8]) -> Result<String, Mem>
 pub(crate) fn decoded(alloc: Global, text: &str) -> Result<Option<Bytes>, Mem>
     ensures { IfOk result (λ found. found ≡ bytes_of text.now) }
 {
-    match STANDARD.decode(alloc, text.as_bytes()) {
+    match decode(alloc, text) {
         Ok(bytes) => Ok(Some(Bytes::from_vec(bytes))),
         Err(DecodeAllocError::OutOfMemory) => Err(Mem),
         Err(DecodeAllocError::DecodeError(_)) => Ok(None),
     }
+}
+
+// The bytes of a canonical base64 text.
+fn decode(alloc: Global, text: &str) -> Result<Vec<u8>, DecodeAllocError>
+    ensures decoded { IfOk result (λ bytes. decode_of standard text.now ≡ Ok bytes.items) }
+    ensures encoded { IfOk result (λ bytes. text.now ≡ encode_of standard bytes.items) }
+    ensures bytes { IfOk result (λ bytes. IsBytes bytes.items) }
+    ensures refused { IfErr result (λ e. IsDecodeFailure standard text.now e) }
+{
+    STANDARD.decode(alloc, text.as_bytes())
 }

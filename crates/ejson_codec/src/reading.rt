@@ -25,6 +25,13 @@ pub fn read(alloc: Global, tree: &Json) -> Result<Value, ReadFault>
     ensures only { (v : Val) → Reads (json_view tree.now) v → depth v ≤ max_levels → Gives view result (Ok v) }
     ensures exact { Gives view result (reading max_levels (json_view tree.now)) }
 {
+    whole_tree(alloc, tree)
+}
+
+// A tree, with all levels left.
+fn whole_tree(alloc: Global, tree: &Json) -> Result<Value, ReadFault>
+    ensures { Gives view result (reading max_levels (json_view tree.now)) }
+{
     value(alloc, MAX_LEVELS, tree)
 }
 
