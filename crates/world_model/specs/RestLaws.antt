@@ -235,7 +235,11 @@ pub short_is_quiescent : (app : App) (h : List Entry) (c : Client) → IsKept ap
 short_is_quiescent app h c k short (inl q) = q
 short_is_quiescent app h c k short (inr full) = absurd (omega (arith, journal_is_short app h c k, short, full))
 
-same_history : (w : World) → (settled w).history ≡ w.history
+-- settling leaves the application and the history
+pub same_app : (w : World) → (settled w).app ≡ w.app
+same_app w = settled_keeps (λ v. v.app ≡ w.app) (λ a v e. e) w refl
+
+pub same_history : (w : World) → (settled w).history ≡ w.history
 same_history w = settled_keeps (λ v. v.history ≡ w.history) (λ a v e. e) w refl
 
 client_is_quiescent : (app : App) (h : List Entry) (o : Option Client) → HoldsOf o (IsKept app h) → 3 + length h < journal_limit → HoldsOf o (IsAtRest h) → HoldsOf o (IsQuiescent h)
