@@ -1,5 +1,5 @@
--- A map of values, seen as a document.
-use Rattle.std.specs.Prelude.{◌≡◌, ℕ, List, [], ◌∷◌, Bool, true, false, cond, Option, None, Some, option_map, option_copied, refl}
+-- A list and a map of values, seen as lists of values and as documents.
+use Rattle.std.specs.Prelude.{◌≡◌, ℕ, zero, suc, List, [], ◌∷◌, Bool, true, false, cond, Option, None, Some, option_map, option_copied, refl}
 use Rattle.std.specs.Borrow.{Bor}
 use Rattle.std.proofs.Common.{ap}
 use Rattle.std.specs.Map.{keys_of, lookup, remove_entry}
@@ -8,7 +8,8 @@ use Rattle.std.specs.Ordering.{match_ordering}
 use Rattle.std.specs.BTreeMap.{insert_entry}
 use Rattle.value_model.specs.Order.{text_cmp}
 use Rattle.ejson_value.specs.declared.value.Value.{Value}
-use Rattle.ejson_value.specs.View.{view, entries}
+use Rattle.std.specs.List.{remove as remove_item}
+use Rattle.ejson_value.specs.View.{view, views, entries}
 
 pub keys_of-entries : (es : List (List ℕ × Value)) → keys_of (entries es) ≡ keys_of es
 keys_of-entries [] = refl
@@ -38,3 +39,10 @@ entries-remove test (e ∷ es) =
 pub viewed : (found : Option (Bor Value)) (held : Option Value) → option_copied found ≡ held → option_map (λ v. view v.now) found ≡ option_map view held
 viewed None held e = ap (λ o. option_map view o) e
 viewed (Some v) held e = ap (λ o. option_map view o) e
+
+-- a list of values without one
+pub views-remove : (vs : List Value) (place : ℕ) → views (remove_item vs place) ≡ remove_item (views vs) place
+views-remove [] zero = refl
+views-remove [] (suc place) = refl
+views-remove (v ∷ vs) zero = refl
+views-remove (v ∷ vs) (suc place) = ap (λ rest. view v ∷ rest) (views-remove vs place)

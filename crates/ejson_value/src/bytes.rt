@@ -1,5 +1,6 @@
 //! Binary data.
-ghost use Rattle.std.specs.Prelude.{◌≡◌, ◌<◌, ◌∷◌, ◌++◌, ◌==◌, [], length, All, slice_get, IfOk, OnOk, OnErr};
+ghost use Rattle.std.specs.Prelude.{◌≡◌, ◌<◌, ◌∷◌, ◌++◌, ◌==◌, [], length, All, Some, slice_get, IfOk, OnOk, OnErr};
+ghost use Rattle.std.specs.List.{remove};
 
 use crate::memory::Mem;
 use std::alloc::Global;
@@ -77,6 +78,15 @@ impl Bytes {
     {
         self.items.push(byte)?;
         Ok(())
+    }
+
+    /// Takes the byte at this place out; those behind it move down.
+    pub fn remove(&mut self, place: usize) -> u8
+        requires { place < length self.old }
+        ensures value { Some result ≡ slice_get self.old place }
+        ensures removed { self.new ≡ remove self.old place }
+    {
+        self.items.remove(place)
     }
 
     pub fn copy(&self) -> Result<Bytes, Mem>

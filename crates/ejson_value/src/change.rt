@@ -2,6 +2,7 @@
 ghost use Rattle.std.specs.Prelude.{◌≡◌, IfOk};
 
 use crate::key::Key;
+use crate::list::Copied;
 use crate::memory::Mem;
 use crate::value::Doc;
 
@@ -52,5 +53,17 @@ impl Publish {
             key: self.key.copy()?,
             new: copy_of(&self.new)?,
         })
+    }
+}
+
+impl Copied for Change {
+    fn copied(&self) -> Result<Change, Mem> {
+        self.copy()
+    }
+}
+
+impl Copied for Publish {
+    fn copied(&self) -> Result<Publish, Mem> {
+        self.copy()
     }
 }

@@ -1,6 +1,7 @@
 //! Keys of documents.
 ghost use Rattle.std.specs.Prelude.{◌≡◌, IfOk};
 
+use crate::list::Copied;
 use crate::memory::Mem;
 use crate::text::Text;
 
@@ -19,5 +20,11 @@ impl Key {
             collection: self.collection.copy()?,
             id: self.id.copy()?,
         })
+    }
+}
+
+impl Copied for Key {
+    fn copied(&self) -> Result<Key, Mem> {
+        self.copy()
     }
 }

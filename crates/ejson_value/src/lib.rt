@@ -24,7 +24,7 @@ pub use change::{Change, Publish};
 pub use contents::Contents;
 pub use copying::copy;
 pub use key::Key;
-pub use list::ListOf;
+pub use list::{Copied, ListOf};
 pub use measure::{depth, size};
 pub use memory::Mem;
 pub use message::DataMsg;

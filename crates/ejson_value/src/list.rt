@@ -1,10 +1,17 @@
 //! Lists of one kind of thing.
-ghost use Rattle.std.specs.Prelude.{◌≡◌, ◌∷◌, ◌++◌, ◌==◌, [], length, slice_get, OnOk, OnErr};
+ghost use Rattle.std.specs.Prelude.{◌≡◌, ◌∷◌, ◌++◌, ◌==◌, [], length, slice_get, IfOk, OnOk, OnErr};
 ghost use Rattle.std.specs.Option.{option_copied};
 
 use crate::memory::Mem;
 use std::alloc::Global;
 use std::marker::Model;
+
+/// What can be copied where there is memory, so that a list of it can be.
+pub trait Copied: Drop {
+    /// A value equal to this one.
+    fn copied(&self) -> Result<Self, Mem>
+        ensures { IfOk result (λ c. c ≡ self.now) };
+}
 
 /// A list. A contract sees it as the list of its elements.
 #[derive(Debug, Drop)]
@@ -66,5 +73,18 @@ impl<T: Drop> ListOf<T> {
     {
         self.items.push(item)?;
         Ok(())
+    }
+}
+
+impl<T: Copied> ListOf<T> {
+    /// A list equal to this one.
+    pub fn copy(&self) -> Result<ListOf<T>, Mem>
+        ensures { IfOk result (λ c. c ≡ self.now) }
+    {
+        let mut copies = ListOf::new(self.allocator());
+        for item in self.as_slice() {
+            copies.push(item.copied()?)?;
+        }
+        Ok(copies)
     }
 }

@@ -1,11 +1,13 @@
 //! Texts.
-ghost use Rattle.std.specs.Prelude.{◌≡◌, ◌++◌, ◌==◌, [], length, slice_get, nat_eq, string_bytes, encode_utf8, refl, IfOk, OnOk, OnErr};
+ghost use Rattle.std.specs.Prelude.{◌≡◌, ◌++◌, ◌==◌, ◌<◌, ℕ, List, [], length, take, drop, slice_get, nat_eq, string_bytes, encode_utf8, refl, IfOk, OnOk, OnErr};
+ghost use Rattle.std.specs.String.Boundary.{IsSplitPoint};
 ghost use Rattle.std.specs.Ordering.{nat_cmp, as_partial_cmp};
 ghost use Rattle.std.specs.Cmp.Lexicographic.{pointwise, slice_cmp};
 ghost use Rattle.std.specs.Cmp.{partial_order_from_own_ties};
 ghost use Rattle.std.specs.Cmp.Rules.{comparing};
 ghost use Rattle.std.proofs.Common.{rules};
 
+use crate::list::Copied;
 use crate::memory::Mem;
 use std::alloc::Global;
 use std::cmp::Ordering;
@@ -103,12 +105,27 @@ impl Text {
         Ok(())
     }
 
+    /// Takes the character that begins at this byte out.
+    pub fn remove(&mut self, place: usize) -> char
+        requires boundary { IsSplitPoint self.old place }
+        requires in_bounds { place < length self.old }
+        ensures { (rest : List ℕ) × (drop place self.old ≡ encode_utf8 result ++ rest) × (self.new ≡ take place self.old ++ rest) }
+    {
+        self.inner.remove(place)
+    }
+
     pub fn copy(&self) -> Result<Text, Mem>
         ensures { IfOk result (λ t. t ≡ self.now) }
     {
         Ok(Text {
             inner: self.inner.clone()?,
         })
+    }
+}
+
+impl Copied for Text {
+    fn copied(&self) -> Result<Text, Mem> {
+        self.copy()
     }
 }
 

@@ -1,5 +1,6 @@
 //! Values, lists of values and documents.
-ghost use Rattle.std.specs.Prelude.{◌≡◌, ◌∷◌, ◌++◌, ◌==◌, [], length, map, option_map, slice_get, IfOk, OnOk, OnErr};
+ghost use Rattle.std.specs.Prelude.{◌≡◌, ◌∷◌, ◌++◌, ◌==◌, ◌<◌, [], length, map, Some, option_map, slice_get, IfOk, OnOk, OnErr};
+ghost use Rattle.std.specs.List.{remove as remove_item};
 ghost use Rattle.std.specs.List.Sorted.{IsStrictlySortedBy};
 ghost use Rattle.std.specs.Map.{keys_of};
 ghost use Rattle.value_model.specs.Val.{vals_of, fields_of};
@@ -138,6 +139,15 @@ impl Items {
         value.known();
         self.items.push(value)?;
         Ok(())
+    }
+
+    /// Takes the value at this place out; those behind it move down.
+    pub fn remove(&mut self, place: usize) -> Value
+        requires { place < length self.old }
+        ensures value { Some (view result) ≡ slice_get self.old place }
+        ensures removed { self.new ≡ remove_item self.old place }
+    {
+        self.items.remove(place)
     }
 
     /// An empty list beside this one, of the same allocator.

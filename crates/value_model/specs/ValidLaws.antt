@@ -1,5 +1,6 @@
 -- What values keep, kept by the edits of lists and documents.
-use Rattle.std.specs.Prelude.{ℕ, List, [], ◌∷◌, ◌++◌, Bool, true, false, cond, Some, IfSome}
+use Rattle.std.specs.List.{remove as remove_item}
+use Rattle.std.specs.Prelude.{ℕ, zero, suc, List, [], ◌∷◌, ◌++◌, Bool, true, false, cond, Some, IfSome}
 use Rattle.std.proofs.Common.{subst, sym}
 use Rattle.std.specs.Map.{lookup, remove_entry}
 use Rattle.std.specs.declared.cmp.Ordering.TheVariants.{Less, Equal, Greater}
@@ -37,3 +38,9 @@ IsValue-object es d = (subst HasRisingNames (sym (entries_of-fields_of es)) d.na
 
 pub IsDocument-object : (es : Entries) → IsValue (object (fields_of es)) → IsDocument es
 IsDocument-object es v = record { names = subst HasRisingNames (entries_of-fields_of es) v.0; values = v.1 }
+
+pub AreValues-remove : (vs : List Val) (place : ℕ) → AreValues (vals_of vs) → AreValues (vals_of (remove_item vs place))
+AreValues-remove [] zero all = tt
+AreValues-remove [] (suc place) all = tt
+AreValues-remove (v ∷ vs) zero all = all.1
+AreValues-remove (v ∷ vs) (suc place) all = (all.0, AreValues-remove vs place all.1)
