@@ -43,3 +43,6 @@ pub type Changes = ListOf<Change>;
 pub type Publishes = ListOf<Publish>;
 
 pub type DataList = ListOf<DataMsg>;
+
+#[cfg(test)]
+mod tests;

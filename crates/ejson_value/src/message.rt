@@ -1,7 +1,9 @@
 //! Messages about documents.
+ghost use Rattle.std.specs.Prelude.{◌≡◌, IfOk};
 
 use crate::key::Key;
-use crate::list::ListOf;
+use crate::list::{Copied, ListOf};
+use crate::memory::Mem;
 use crate::text::Text;
 use crate::value::Doc;
 
@@ -24,4 +26,34 @@ pub enum DataMsg {
     Removed {
         key: Key,
     },
+}
+
+impl DataMsg {
+    /// A message equal to this one.
+    pub fn copy(&self) -> Result<DataMsg, Mem>
+        ensures { IfOk result (λ message. message ≡ self.now) }
+    {
+        match self {
+            DataMsg::Added { key, fields } => Ok(DataMsg::Added {
+                key: key.copy()?,
+                fields: fields.copy()?,
+            }),
+            DataMsg::Changed {
+                key,
+                fields,
+                cleared,
+            } => Ok(DataMsg::Changed {
+                key: key.copy()?,
+                fields: fields.copy()?,
+                cleared: cleared.copy()?,
+            }),
+            DataMsg::Removed { key } => Ok(DataMsg::Removed { key: key.copy()? }),
+        }
+    }
+}
+
+impl Copied for DataMsg {
+    fn copied(&self) -> Result<DataMsg, Mem> {
+        self.copy()
+    }
 }
