@@ -5,5 +5,6 @@ pub mod Measure
 pub mod Key
 pub mod Rows
 pub mod Changes
+pub mod ChangeLaws
 pub mod Messages
 pub mod Asking

@@ -23,6 +23,7 @@ impl Model for Bytes {
 }
 
 impl Bytes {
+    /// No bytes.
     pub fn new(alloc: Global) -> Bytes
         ensures { result ≡ [] }
     {
@@ -31,6 +32,7 @@ impl Bytes {
         }
     }
 
+    /// A copy of these bytes.
     pub fn from_slice(alloc: Global, bytes: &[u8]) -> Result<Bytes, Mem>
         ensures { IfOk result (λ b. b ≡ bytes.now) }
     {
@@ -46,12 +48,14 @@ impl Bytes {
         Bytes { items }
     }
 
+    /// How many bytes there are.
     pub fn len(&self) -> usize
         ensures { result ≡ length self.now }
     {
         self.items.len()
     }
 
+    /// Whether there are none.
     pub fn is_empty(&self) -> bool
         ensures { result ≡ (length self.now == 0) }
     {
@@ -65,6 +69,7 @@ impl Bytes {
         self.items.get(place).copied()
     }
 
+    /// The bytes in order.
     pub fn as_slice(&self) -> &[u8]
         ensures value { result.now ≡ self.now }
         ensures bytes { All (λ b. b < 256) self.now }
@@ -72,6 +77,7 @@ impl Bytes {
         self.items.as_slice()
     }
 
+    /// Puts the byte behind the others.
     pub fn push(&mut self, byte: u8) -> Result<(), Mem>
         ensures ok { OnOk result (self.new ≡ self.old ++ byte ∷ []) }
         ensures err { OnErr result (self.new ≡ self.old) }
@@ -89,6 +95,7 @@ impl Bytes {
         self.items.remove(place)
     }
 
+    /// Bytes equal to these.
     pub fn copy(&self) -> Result<Bytes, Mem>
         ensures { IfOk result (λ b. b ≡ self.now) }
     {

@@ -16,7 +16,7 @@ pub struct Change {
     pub after: Option<Doc>,
 }
 
-/// What a publication says of a key. Its collection is the published name.
+/// What a publication says of a key, whose collection is the published name.
 #[derive(Debug, Drop)]
 pub struct Publish {
     pub key: Key,
@@ -34,6 +34,7 @@ pub(crate) fn copy_of(doc: &Option<Doc>) -> Result<Option<Doc>, Mem>
 }
 
 impl Change {
+    /// A change equal to this one.
     pub fn copy(&self) -> Result<Change, Mem>
         ensures { IfOk result (λ c. c ≡ self.now) }
     {
@@ -46,6 +47,7 @@ impl Change {
 }
 
 impl Publish {
+    /// A publication equal to this one.
     pub fn copy(&self) -> Result<Publish, Mem>
         ensures { IfOk result (λ p. p ≡ self.now) }
     {

@@ -36,6 +36,7 @@ impl Model for Contents {
 }
 
 impl Contents {
+    /// No documents.
     pub fn new(alloc: Global) -> Contents
         ensures { result ≡ [] }
     {
@@ -51,6 +52,7 @@ impl Contents {
         self.docs.len()
     }
 
+    /// Whether there are none.
     pub fn is_empty(&self) -> bool
         ensures { result ≡ (length self.now == 0) }
     {
@@ -64,7 +66,7 @@ impl Contents {
         self.docs.get(key)
     }
 
-    /// Puts the document at this key.
+    /// Puts the document at this key, in place of one that is there.
     pub fn put(&mut self, key: Key, doc: Doc) -> Result<(), Mem>
         ensures ok { OnOk result (self.new ≡ set key_cmp self.old key (Some doc)) }
         ensures err { OnErr result (self.new ≡ self.old) }
@@ -108,6 +110,7 @@ impl Contents {
         let _ = &self.docs;
     }
 
+    /// Contents equal to these.
     pub fn copy(&self) -> Result<Contents, Mem>
         ensures { IfOk result (λ c. c ≡ self.now) }
     {

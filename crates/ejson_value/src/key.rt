@@ -8,11 +8,14 @@ use crate::text::Text;
 /// Where a document stands: its collection's name and its id. Keys go by collection and then by id.
 #[derive(Debug, PartialEq, Eq, PartialOrd, Ord, Drop)]
 pub struct Key {
+    /// The collection's name.
     pub collection: Text,
+    /// The document's `_id`.
     pub id: Text,
 }
 
 impl Key {
+    /// A key equal to this one.
     pub fn copy(&self) -> Result<Key, Mem>
         ensures { IfOk result (λ k. k ≡ self.now) }
     {

@@ -34,14 +34,19 @@ pub use text::Text;
 pub use value::{Doc, Items, Value};
 pub use whole::Whole;
 
+/// Names, as of fields or of collections.
 pub type Names = ListOf<Text>;
 
+/// Keys of documents.
 pub type Keys = ListOf<Key>;
 
+/// Changes of contents, in order.
 pub type Changes = ListOf<Change>;
 
+/// What is published, key by key.
 pub type Publishes = ListOf<Publish>;
 
+/// Messages about documents, in order.
 pub type DataList = ListOf<DataMsg>;
 
 #[cfg(test)]

@@ -28,6 +28,7 @@ impl<T> Model for ListOf<T> {
 }
 
 impl<T> ListOf<T> {
+    /// An empty list.
     pub fn new(alloc: Global) -> ListOf<T>
         ensures { result ≡ [] }
     {
@@ -36,12 +37,14 @@ impl<T> ListOf<T> {
         }
     }
 
+    /// How many elements it has.
     pub fn len(&self) -> usize
         ensures { result ≡ length self.now }
     {
         self.items.len()
     }
 
+    /// Whether it has none.
     pub fn is_empty(&self) -> bool
         ensures { result ≡ (length self.now == 0) }
     {
@@ -55,6 +58,7 @@ impl<T> ListOf<T> {
         self.items.get(place)
     }
 
+    /// The elements in order.
     pub fn as_slice(&self) -> &[T]
         ensures { result.now ≡ self.now }
     {
@@ -67,6 +71,7 @@ impl<T> ListOf<T> {
 }
 
 impl<T: Drop> ListOf<T> {
+    /// Puts the element behind the others.
     pub fn push(&mut self, item: T) -> Result<(), Mem>
         ensures ok { OnOk result (self.new ≡ self.old ++ item ∷ []) }
         ensures err { OnErr result (self.new ≡ self.old) }

@@ -22,11 +22,16 @@ fn bytes(alloc: Global, data: &[u8]) -> Result<Value, Mem> {
     Ok(Value::Bytes(Bytes::from_slice(alloc, data)?))
 }
 
+fn push_numbers(values: &mut Items, numbers: &[i64]) -> Result<(), Mem> {
+    for number in numbers {
+        values.push(int(*number))?;
+    }
+    Ok(())
+}
+
 fn list(alloc: Global, numbers: &[i64]) -> Result<Value, Mem> {
     let mut items = Items::new(alloc);
-    for number in numbers {
-        items.push(int(*number))?;
-    }
+    push_numbers(&mut items, numbers)?;
     Ok(Value::List(items))
 }
 
@@ -37,28 +42,50 @@ fn doc(alloc: Global, name: &str, value: Value) -> Result<Doc, Mem> {
     Ok(doc)
 }
 
+fn push_texts(alloc: Global, values: &mut Items) -> Result<(), Mem> {
+    for written in ["", "a\"\n\u{1f}", "é"] {
+        values.push(text(alloc, written)?)?;
+    }
+    Ok(())
+}
+
+fn push_documents(alloc: Global, values: &mut Items) -> Result<(), Mem> {
+    values.push(Value::Object(Doc::new(alloc)))?;
+    for name in ["$date", "a"] {
+        values.push(Value::Object(doc(alloc, name, int(5))?))?;
+    }
+    values.push(Value::Object(doc(alloc, "a", list(alloc, &[])?)?))
+}
+
+fn push_lists(alloc: Global, values: &mut Items) -> Result<(), Mem> {
+    let numbers = [1, 2];
+    for length in 0..3 {
+        values.push(list(alloc, &numbers[..length])?)?;
+    }
+    Ok(())
+}
+
+fn push_others(alloc: Global, values: &mut Items) -> Result<(), Mem> {
+    values.push(bytes(alloc, b"z")?)?;
+    values.push(bytes(alloc, b"hi")?)?;
+    for truth in [false, true] {
+        values.push(Value::Bool(truth))?;
+    }
+    for moment in [-1, 1700000000000] {
+        values.push(date(moment))?;
+    }
+    Ok(())
+}
+
 // Values of every kind, from the first in MongoDB's order of BSON types to the last.
 fn rising(alloc: Global) -> Result<Items, Mem> {
     let mut values = Items::new(alloc);
     values.push(Value::Null)?;
-    values.push(int(-12))?;
-    values.push(int(3))?;
-    values.push(text(alloc, "")?)?;
-    values.push(text(alloc, "a\"\n\u{1f}")?)?;
-    values.push(text(alloc, "é")?)?;
-    values.push(Value::Object(Doc::new(alloc)))?;
-    values.push(Value::Object(doc(alloc, "$date", int(5))?))?;
-    values.push(Value::Object(doc(alloc, "a", int(5))?))?;
-    values.push(Value::Object(doc(alloc, "a", list(alloc, &[])?)?))?;
-    values.push(list(alloc, &[])?)?;
-    values.push(list(alloc, &[1])?)?;
-    values.push(list(alloc, &[1, 2])?)?;
-    values.push(bytes(alloc, b"z")?)?;
-    values.push(bytes(alloc, b"hi")?)?;
-    values.push(Value::Bool(false))?;
-    values.push(Value::Bool(true))?;
-    values.push(date(-1))?;
-    values.push(date(1700000000000))?;
+    push_numbers(&mut values, &[-12, 3])?;
+    push_texts(alloc, &mut values)?;
+    push_documents(alloc, &mut values)?;
+    push_lists(alloc, &mut values)?;
+    push_others(alloc, &mut values)?;
     Ok(values)
 }
 
@@ -120,42 +147,41 @@ fn measures_and_copies_values(rt: HostRuntime) -> Result<(), Fail> {
 
 #[test]
 fn edits_texts(rt: HostRuntime) -> Result<(), Fail> {
-    let alloc = rt.alloc();
-    let mut text = Text::new(alloc);
+    let mut text = Text::new(rt.alloc());
     assert!(rt; text.is_empty());
     text.push('a')?;
     text.push_str("éb")?;
-    assert_eq!(rt; text.len(), 4);
-    assert_eq!(rt; text.get(1), Some(0xc3));
-    assert_eq!(rt; text.get(4), None);
+    assert_eq!(rt;
+        (text.len(), text.get(1), text.get(4)),
+        (4, Some(0xc3), None)
+    );
     assert_eq!(rt; text.as_bytes(), "aéb".as_bytes());
-    let copied = text.copy()?;
     assert_eq!(rt; text.remove(0), 'a');
     assert_eq!(rt; text.as_str(), "éb");
-    assert!(rt; copied < text && copied != text);
-    assert_eq!(rt; copied.into_string().as_str(), "aéb");
-    let owned = Text::from_string(String::from_str(alloc, "éb")?);
-    assert!(rt; owned == text);
+    Ok(())
+}
+
+#[test]
+fn copies_texts(rt: HostRuntime) -> Result<(), Fail> {
+    let text = Text::from_string(String::from_str(rt.alloc(), "éb")?);
+    let copied = text.copy()?;
+    let other = Text::from_str(rt.alloc(), "z")?;
+    assert!(rt; copied == text && other < text);
+    assert_eq!(rt; copied.into_string().as_str(), "éb");
     Ok(())
 }
 
 #[test]
 fn edits_bytes(rt: HostRuntime) -> Result<(), Fail> {
-    let alloc = rt.alloc();
-    let mut data = Bytes::new(alloc);
+    let mut data = Bytes::new(rt.alloc());
     assert!(rt; data.is_empty());
     data.push(7)?;
     data.push(8)?;
     assert_eq!(rt; (data.len(), data.get(0), data.get(2)), (2, Some(7), None));
-    let copied = data.copy()?;
     assert_eq!(rt; data.remove(0), 7);
-    assert_eq!(rt; data.as_slice(), b"\x08".as_slice());
-    assert_eq!(rt; copied.as_slice(), b"\x07\x08".as_slice());
-    let owned = Bytes::from_vec(Vec::from_slice(alloc, b"\x08")?);
-    assert_eq!(rt;
-        owned.as_slice(),
-        Bytes::from_slice(alloc, b"\x08")?.as_slice()
-    );
+    assert_eq!(rt; data.copy()?.as_slice(), b"\x08".as_slice());
+    let owned = Bytes::from_vec(Vec::from_slice(rt.alloc(), b"ab")?);
+    assert_eq!(rt; owned.as_slice(), b"ab".as_slice());
     Ok(())
 }
 
@@ -175,34 +201,34 @@ fn bounds_numbers(rt: HostRuntime) {
 }
 
 #[test]
-fn edits_lists_and_documents(rt: HostRuntime) -> Result<(), Fail> {
-    let alloc = rt.alloc();
-    let mut items = Items::new(alloc);
+fn edits_lists(rt: HostRuntime) -> Result<(), Fail> {
+    let mut items = Items::new(rt.alloc());
     assert!(rt; items.is_empty());
-    items.push(int(1))?;
-    items.push(int(2))?;
-    assert!(rt; items.get(0).is_some_and(|v| same(v, &int(1))));
-    assert!(rt; items.get(2).is_none());
+    push_numbers(&mut items, &[1, 2])?;
+    assert!(rt; items.len() == 2 && items.get(2).is_none());
     assert!(rt; same(&items.remove(0), &int(1)));
-    assert!(rt; same(&Value::List(items), &list(alloc, &[2])?));
+    assert!(rt; items.get(0).is_some_and(|v| same(v, &int(2))));
+    Ok(())
+}
 
-    let (a, b) = (Text::from_str(alloc, "a")?, Text::from_str(alloc, "b")?);
-    let mut fields = Doc::new(alloc);
+#[test]
+fn edits_documents(rt: HostRuntime) -> Result<(), Fail> {
+    let mut fields = Doc::new(rt.alloc());
     assert!(rt; fields.is_empty());
-    fields.put(b.copy()?, int(1))?;
-    fields.put(a.copy()?, int(2))?;
-    fields.put(b.copy()?, int(3))?;
+    for (name, number) in [("b", 1), ("a", 2), ("b", 3)] {
+        fields.put(Text::from_str(rt.alloc(), name)?, int(number))?;
+    }
     assert_eq!(rt; fields.len(), 2);
-    assert!(rt; fields.get(&b).is_some_and(|v| same(v, &int(3))));
     assert!(rt;
         fields
             .iter()
             .next()
-            .is_some_and(|(name, v)| *name == a && same(v, &int(2)))
+            .is_some_and(|(name, _)| name.as_str() == "a")
     );
+    let name = Text::from_str(rt.alloc(), "b")?;
     let copied = fields.copy()?;
-    assert!(rt; fields.remove(&b).is_some_and(|v| same(&v, &int(3))));
-    assert!(rt; fields.get(&b).is_none() && copied.get(&b).is_some());
+    assert!(rt; fields.remove(&name).is_some_and(|v| same(&v, &int(3))));
+    assert!(rt; fields.get(&name).is_none() && copied.get(&name).is_some());
     Ok(())
 }
 
@@ -314,44 +340,48 @@ fn puts_changes(rt: HostRuntime) -> Result<(), Fail> {
 }
 
 #[test]
-fn copies_lists(rt: HostRuntime) -> Result<(), Fail> {
-    let alloc = rt.alloc();
-    let mut names = Names::new(alloc);
+fn copies_names_and_keys(rt: HostRuntime) -> Result<(), Fail> {
+    let mut names = Names::new(rt.alloc());
     assert!(rt; names.is_empty());
-    names.push(Text::from_str(alloc, "a")?)?;
-    let names = names.copy()?;
-    assert_eq!(rt; names.len(), 1);
-    assert!(rt; names.get(0).is_some_and(|name| name.as_str() == "a"));
-    assert!(rt; names.get(1).is_none());
-
-    let mut keys = Keys::new(alloc);
-    keys.push(key(alloc, "a")?)?;
+    names.push(Text::from_str(rt.alloc(), "a")?)?;
+    let copied = names.copy()?;
+    assert!(rt; copied.len() == 1 && copied.get(1).is_none());
+    assert!(rt; copied.get(0).is_some_and(|name| name.as_str() == "a"));
+    let mut keys = Keys::new(rt.alloc());
+    keys.push(key(rt.alloc(), "a")?)?;
     assert!(rt; keys.copy()?.as_slice() == keys.as_slice());
+    Ok(())
+}
 
+#[test]
+fn copies_changes(rt: HostRuntime) -> Result<(), Fail> {
+    let alloc = rt.alloc();
     let mut changes = Changes::new(alloc);
     changes.push(change(alloc, &Contents::new(alloc), "a", None)?)?;
     assert_eq!(rt; changes.copy()?.len(), 1);
-
+    let (key, new) = (key(alloc, "a")?, Some(task(alloc, 1)?));
     let mut publishes = Publishes::new(alloc);
-    publishes.push(Publish {
-        key: key(alloc, "a")?,
-        new: Some(task(alloc, 1)?),
-    })?;
+    publishes.push(Publish { key, new })?;
     assert_eq!(rt; publishes.copy()?.len(), 1);
+    Ok(())
+}
 
+fn messages(alloc: Global) -> Result<DataList, Mem> {
     let mut messages = DataList::new(alloc);
-    messages.push(DataMsg::Added {
-        key: key(alloc, "a")?,
-        fields: task(alloc, 1)?,
-    })?;
+    let (key, fields) = (key(alloc, "a")?, task(alloc, 1)?);
+    messages.push(DataMsg::Removed { key: key.copy()? })?;
+    let cleared = Names::new(alloc);
     messages.push(DataMsg::Changed {
-        key: key(alloc, "a")?,
-        fields: Doc::new(alloc),
-        cleared: names,
+        key: key.copy()?,
+        fields: fields.copy()?,
+        cleared,
     })?;
-    messages.push(DataMsg::Removed {
-        key: key(alloc, "a")?,
-    })?;
-    assert_eq!(rt; messages.copy()?.len(), 3);
+    messages.push(DataMsg::Added { key, fields })?;
+    Ok(messages)
+}
+
+#[test]
+fn copies_messages(rt: HostRuntime) -> Result<(), Fail> {
+    assert_eq!(rt; messages(rt.alloc())?.copy()?.len(), 3);
     Ok(())
 }

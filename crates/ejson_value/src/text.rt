@@ -13,7 +13,7 @@ use std::alloc::Global;
 use std::cmp::Ordering;
 use std::marker::Model;
 
-/// A text of UTF-8. A contract sees it as its bytes.
+/// A text of UTF-8. A contract sees it as its bytes, and texts go byte by byte.
 #[derive(Debug, Drop)]
 pub struct Text {
     inner: String,
@@ -28,6 +28,7 @@ impl Model for Text {
 }
 
 impl Text {
+    /// An empty text.
     pub fn new(alloc: Global) -> Text
         ensures { result ≡ [] }
     {
@@ -36,6 +37,7 @@ impl Text {
         }
     }
 
+    /// A copy of this text.
     pub fn from_str(alloc: Global, text: &str) -> Result<Text, Mem>
         ensures { IfOk result (λ t. t ≡ text.now) }
     {
@@ -51,18 +53,21 @@ impl Text {
         Text { inner }
     }
 
+    /// The string of the text, with no copy.
     pub fn into_string(self) -> String
         ensures { string_bytes result ≡ self }
     {
         self.inner
     }
 
+    /// The text as a string slice.
     pub fn as_str(&self) -> &str
         ensures { result.now ≡ self.now }
     {
         self.inner.as_str()
     }
 
+    /// Its bytes in order.
     pub fn as_bytes(&self) -> &[u8]
         ensures { result.now ≡ self.now }
     {
@@ -76,6 +81,7 @@ impl Text {
         self.inner.len()
     }
 
+    /// Whether it has no bytes.
     pub fn is_empty(&self) -> bool
         ensures { result ≡ (length self.now == 0) }
     {
@@ -89,6 +95,7 @@ impl Text {
         self.inner.as_bytes().get(place).copied()
     }
 
+    /// Puts the character behind the text.
     pub fn push(&mut self, character: char) -> Result<(), Mem>
         ensures ok { OnOk result (self.new ≡ self.old ++ encode_utf8 character) }
         ensures err { OnErr result (self.new ≡ self.old) }
@@ -97,6 +104,7 @@ impl Text {
         Ok(())
     }
 
+    /// Puts the other text behind this one.
     pub fn push_str(&mut self, more: &str) -> Result<(), Mem>
         ensures ok { OnOk result (self.new ≡ self.old ++ more.now) }
         ensures err { OnErr result (self.new ≡ self.old) }
@@ -105,7 +113,7 @@ impl Text {
         Ok(())
     }
 
-    /// Takes the character that begins at this byte out.
+    /// Takes the character that begins at this byte out; what is behind it moves down.
     pub fn remove(&mut self, place: usize) -> char
         requires boundary { IsSplitPoint self.old place }
         requires in_bounds { place < length self.old }
@@ -114,6 +122,7 @@ impl Text {
         self.inner.remove(place)
     }
 
+    /// A text equal to this one.
     pub fn copy(&self) -> Result<Text, Mem>
         ensures { IfOk result (λ t. t ≡ self.now) }
     {

@@ -19,7 +19,7 @@ use std::collections::btree_map::Iter;
 use std::default::Emptied;
 use std::marker::Model;
 
-/// A value of EJSON. A date counts milliseconds since 1970. A contract sees it by `view`.
+/// A value of EJSON (the appendix on EJSON of Meteor's DDP.md). A contract sees it by `view`.
 #[derive(Debug, Drop)]
 #[cycle(value)]
 pub enum Value {
@@ -27,6 +27,7 @@ pub enum Value {
     Bool(bool),
     Int(Whole),
     Text(Text),
+    /// Milliseconds since 1970, in UTC.
     Date(Whole),
     Bytes(Bytes),
     List(Items),
@@ -99,6 +100,7 @@ impl Model for Doc {
 }
 
 impl Items {
+    /// An empty list.
     pub fn new(alloc: Global) -> Items
         ensures { result ≡ [] }
     {
@@ -107,12 +109,14 @@ impl Items {
         }
     }
 
+    /// How many values it has.
     pub fn len(&self) -> usize
         ensures { result ≡ length self.now }
     {
         self.items.len()
     }
 
+    /// Whether it has none.
     pub fn is_empty(&self) -> bool
         ensures { result ≡ (length self.now == 0) }
     {
@@ -126,12 +130,14 @@ impl Items {
         self.items.get(place)
     }
 
+    /// The values in order.
     pub fn as_slice(&self) -> &[Value]
         ensures { views result.now ≡ self.now }
     {
         self.items.as_slice()
     }
 
+    /// Puts the value behind the others.
     pub fn push(&mut self, value: Value) -> Result<(), Mem>
         ensures ok { OnOk result (self.new ≡ self.old ++ view value ∷ []) }
         ensures err { OnErr result (self.new ≡ self.old) }
@@ -185,6 +191,7 @@ impl Value {
 }
 
 impl Doc {
+    /// A document with no fields.
     pub fn new(alloc: Global) -> Doc
         ensures { result ≡ [] }
     {
@@ -200,6 +207,7 @@ impl Doc {
         self.fields.len()
     }
 
+    /// Whether it has none.
     pub fn is_empty(&self) -> bool
         ensures { result ≡ (length self.now == 0) }
     {
@@ -213,7 +221,7 @@ impl Doc {
         self.fields.get(name)
     }
 
-    /// Puts the value as the field of this name.
+    /// Puts the value as the field of this name, in place of one that is there.
     pub fn put(&mut self, name: Text, value: Value) -> Result<(), Mem>
         ensures ok { OnOk result (self.new ≡ put self.old name (view value)) }
         ensures err { OnErr result (self.new ≡ self.old) }

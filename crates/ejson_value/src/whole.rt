@@ -39,6 +39,7 @@ impl Whole {
         }
     }
 
+    /// The number.
     pub fn get(&self) -> i64
         ensures value { result ≡ self.now }
         ensures in_range { IsWhole result }
