@@ -14,6 +14,7 @@ use Rattle.ejson_value.specs.declared.key.Key.{Key}
 use Rattle.ejson_value.specs.declared.change.Change.{Change}
 use Rattle.ejson_value.specs.Key.{key_cmp, key_total, key_order}
 use Rattle.value_model.specs.Valid.{IsDocument}
+use Rattle.ejson_value.specs.ChangeLaws.{AllFit}
 use Rattle.ejson_value.specs.Rows.{Rows, AreRows, AreDocuments-put}
 use Rattle.ejson_value.specs.Changes.{changes_of, has_new}
 use Rattle.std.proofs.lemmas.List.Elements.{All-head, All-tail}
@@ -130,10 +131,6 @@ module _ (plan plan' : List (Key × Option Entries)) (key : Key) (planned : Opti
 pub sorted_either : (b : Bool) (rows rows' : Rows) (key : Key) (w : Option Entries) → rows' ≡ cond b (set key_cmp rows key w) rows → IsSorted key_cmp rows → IsSorted key_cmp rows'
 sorted_either true rows rows' key w made s = subst (IsSorted key_cmp) (sym made) (sorted-set key_order rows key w s)
 sorted_either false rows rows' key w made s = subst (IsSorted key_cmp) (sym made) s
-
--- each change's `before` is what the contents have at its key
-abbrev pub AllFit : Rows → List Change → Type 0
-AllFit rows cs = All (λ (c : Change). at key_cmp rows c.key ≡ c.before) cs
 
 fits_here : (rows : Rows) (c : Change) (k : Key) → at key_cmp rows c.key ≡ c.before → eq_by_cmp key_cmp k c.key ≡ true → at key_cmp rows k ≡ c.before
 fits_here rows c k fits here = ap (at key_cmp rows) (key_is key_order k c.key here) ∙ fits

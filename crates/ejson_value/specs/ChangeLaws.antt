@@ -1,4 +1,4 @@
--- Changes of distinct keys: what fits all at once fits one after another.
+-- Changes of distinct keys, so that a list of them that contents took leads from those they were to those they are.
 use Rattle.std.specs.Prelude.{◌≡◌, List, [], ◌∷◌, map, Bool, true, false, cond, All, Option}
 use Rattle.std.specs.List.{IsDistinct, AllByRecursion}
 use Rattle.std.specs.Ordering.{eq_by_cmp}
@@ -35,8 +35,9 @@ still_fit rows key w (c ∷ cs) s apart fit =
     (elsewhere rows key c.key w s apart.0 ∙ All-head (λ (c : Change). at key_cmp rows c.key ≡ c.before) c cs fit)
     (still_fit rows key w cs s apart.1 (All-tail (λ (c : Change). at key_cmp rows c.key ≡ c.before) c cs fit))
 
--- so a list that contents took whole leads from them to what they are then
+-- what fits all at once fits one after another
 pub Fit-from_all : (rows : Rows) (cs : List Change) → IsSorted key_cmp rows → HaveDistinctKeys cs → AllFit rows cs → Fit key_cmp rows (changes_of cs)
+unfolding IsDistinct
 Fit-from_all rows [] s apart fit = tt
 Fit-from_all rows (c ∷ cs) s apart fit = (
   All-head (λ (c : Change). at key_cmp rows c.key ≡ c.before) c cs fit,
