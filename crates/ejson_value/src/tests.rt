@@ -288,7 +288,8 @@ fn push_change(
     requires { All (λ c. at key_cmp contents.now c.key ≡ c.before) changes.old }
     ensures { OnOk result (All (λ c. at key_cmp contents.now c.key ≡ c.before) changes.new) }
 {
-    changes.push(change(alloc, contents, id, after)?)
+    changes.push(change(alloc, contents, id, after)?)?;
+    Ok(())
 }
 
 fn has_task(alloc: Global, contents: &Contents, id: &str, number: i64) -> Result<bool, Mem> {
