@@ -1,5 +1,5 @@
 -- Changes of distinct keys, so that a list of them that contents took leads from those they were to those they are.
-use Rattle.std.specs.Prelude.{◌≡◌, List, [], ◌∷◌, map, Bool, true, false, cond, All, Option}
+use Rattle.std.specs.Prelude.{◌≡◌, List, [], ◌∷◌, map, false, cond, All, Option}
 use Rattle.std.specs.List.{IsDistinct, AllByRecursion}
 use Rattle.std.specs.Ordering.{eq_by_cmp}
 use Rattle.std.proofs.Common.{ap, ◌∙◌}

@@ -1,4 +1,4 @@
-use Rattle.std.proofs.Common.{◌<◌, length, sym, ap, subst, refl, ◌∙◌, option_map, arith}
+use Rattle.std.proofs.Common.{length, sym, ap, subst, refl, ◌∙◌, option_map}
 use Rattle.std.proofs.lemmas.Option.{slice_get-map, slice_get_read}
 use Rattle.std.proofs.lemmas.List.{length-map}
 use Rattle.value_model.specs.Val.{vals_of}
