@@ -1,0 +1,43 @@
+use Rattle.std.proofs.Common.{◌∷◌, [], ◌++◌, Some, ap, sym, subst, ◌∙◌}
+use Rattle.map_model.specs.Maps.{IsSorted}
+use Rattle.value_model.specs.Order.{text_cmp}
+use Rattle.value_model.specs.Doc.{put}
+use Rattle.merge_model.specs.Kept.{first_value}
+use Rattle.ejson_value.specs.View.{view}
+use Rattle.merge_box.specs.Names.{name_order}
+use Rattle.merge_box.proofs.Walks.{walk_on, walk_put, walk_pass}
+use Rattle.merge_box.proofs.held.Held.merged.Goals as goal
+
+pub loop-name-preserved-in-None-first : goal.loop-name-preserved-in-None-first
+loop-name-preserved-in-None-first c =
+    let walk = c.loop-name.invariant in
+    let name = c.in-Some.name.now in
+    let claims = c.in-Some.claims.now in
+    let rest = c.next.new.self in
+    let all = c.into_iter-name-iterator.result in
+    record {
+      can_next = tt;
+      is_finite = tt;
+      done = walk.done ++ (name, claims) ∷ [];
+      whole = walk_on all walk.done (name, claims) c.loop-name.name-iterator rest walk.whole c.in-Some.ensures.steps;
+      made = walk_pass name_order (λ f cs. first_value cs) all walk.done name claims rest c.loop-name.doc (walk.whole ∙ ap (λ l. walk.done ++ l) c.in-Some.ensures.steps) walk.made (sym c.in-None-first.ensures)
+    }
+
+pub loop-name-preserved : goal.loop-name-preserved
+loop-name-preserved c =
+    let walk = c.loop-name.invariant in
+    let name = c.in-Some.name.now in
+    let claims = c.in-Some.claims.now in
+    let rest = c.next.new.self in
+    let all = c.into_iter-name-iterator.result in
+    let sorted = subst (λ es. IsSorted text_cmp es) (sym (c.into_iter-name-iterator.ensures.into_iter_gives ∙ c.iter-name-items.ensures.rest)) c.iter-name-items.ensures.ordered in
+    record {
+      can_next = tt;
+      is_finite = tt;
+      done = walk.done ++ (name, claims) ∷ [];
+      whole = walk_on all walk.done (name, claims) c.loop-name.name-iterator rest walk.whole c.in-Some.ensures.steps;
+      made = c.in_ok-put-in-Some-first.ensures.ok
+        ∙ ap (λ n. put c.loop-name.doc n (view c.in_ok-copy-in-Some-first-2.field-0)) c.in_ok-copy-in-Some-first.ensures
+        ∙ walk_put name_order (λ f cs. first_value cs) all walk.done name claims rest c.loop-name.doc (walk.whole ∙ ap (λ l. walk.done ++ l) c.in-Some.ensures.steps) walk.made (view c.in_ok-copy-in-Some-first-2.field-0) sorted
+          (sym c.in-Some-first.ensures ∙ ap Some (sym c.in_ok-copy-in-Some-first-2.ensures))
+    }

@@ -1,0 +1,4 @@
+pub mod Names
+pub mod Claims
+pub mod Held
+pub mod Messages

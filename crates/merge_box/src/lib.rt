@@ -1,0 +1,8 @@
+//! The merge box.
+#![tactic(auto)]
+
+mod claims;
+mod held;
+mod messages;
+
+pub use messages::{DataList, DataMsg};
