@@ -1,2 +1,4 @@
 pub mod Walks
 pub mod KeptAfter
+pub mod Listing
+pub mod Plans

@@ -2,3 +2,7 @@ pub mod Names
 pub mod Claims
 pub mod Held
 pub mod Messages
+pub mod Index
+pub mod State
+pub mod StateCoding
+pub mod Committed

@@ -1,15 +1,15 @@
 //! What is kept of one document.
-ghost use Rattle.std.specs.Prelude.{◌≡◌, ◌==◌, ◌≢◌, ◌++◌, ◌∷◌, ℕ, List, [], not, filter, is_some, option_map, option_copied, unwrap_or, IfOk, OnOk, if◌then◌else◌};
+ghost use Rattle.std.specs.Prelude.{◌≡◌, ◌==◌, ◌≢◌, ◌++◌, ◌∷◌, ℕ, List, [], not, filter, is_some, option_map, option_copied, unwrap_or, IfOk, OnOk, if◌then◌else◌, ◌↔◌, IsTrue};
 ghost use Rattle.std.specs.Option.{option_or};
 ghost use Rattle.std.specs.BTreeMap.{insert_entry};
 ghost use Rattle.std.specs.Map.{keys_of};
 ghost use Rattle.map_model.specs.Maps.{at, keyed, filter_map_entries};
 ghost use Rattle.map_model.specs.Differences.{is_there, new_fields, cleared};
-ghost use Rattle.merge_model.specs.Kept.{placed, nothing_kept, is_empty, merged_fields, first_value};
+ghost use Rattle.merge_model.specs.Kept.{placed, nothing_kept, has, is_empty, merged_fields, first_value};
 ghost use Rattle.merge_model.specs.Box.{unless_empty};
 ghost use Rattle.value_model.specs.Order.{text_cmp};
 ghost use Rattle.ejson_value.specs.View.{view};
-ghost use Rattle.merge_box.specs.Held.{said, same_value, put_some, unseen, gone, IsKeptAfter};
+ghost use Rattle.merge_box.specs.Held.{said, same_value, put_some, unseen, gone, IsHeld, IsKeptAfter};
 
 use crate::claims::Claims;
 use ejson_value::{Doc, Mem, Names, Text, Value, compare, copy};
@@ -156,6 +156,27 @@ impl Held {
             publishers: Vec::new(alloc),
             fields: BTreeMap::new(alloc),
         }
+    }
+
+    /// Tells a proof what is kept whole; it does nothing.
+    pub(crate) fn known(&self)
+        ensures { IsHeld self.now }
+    {
+        let _ = &self.fields;
+    }
+
+    /// Whether nobody publishes the document and there is no claim.
+    pub(crate) fn is_nothing(&self) -> bool
+        ensures { IsTrue result ↔ (self.now ≡ nothing_kept) }
+    {
+        self.publishers.is_empty() && self.fields.is_empty()
+    }
+
+    /// Whether the subscription publishes the document.
+    pub(crate) fn publishes(&self, sub: u64) -> bool
+        ensures { result ≡ has sub self.now.publishers }
+    {
+        self.publishers.as_slice().contains(&sub)
     }
 
     pub(crate) fn is_published(&self) -> bool

@@ -1,8 +1,12 @@
-//! The merge box.
+//! The merge box of a DDP session: what several subscriptions publish reaches the client merged field by field.
 #![tactic(auto)]
 
+mod boxes;
 mod claims;
 mod held;
+mod index;
 mod messages;
+mod plan;
 
+pub use boxes::{MergeBox, MergePlan};
 pub use messages::{DataList, DataMsg};
