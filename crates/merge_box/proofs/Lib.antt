@@ -2,3 +2,4 @@ pub mod Walks
 pub mod KeptAfter
 pub mod Listing
 pub mod Plans
+pub mod MakePlan

@@ -3,7 +3,7 @@ use Rattle.std.specs.Prelude.{◌≡◌, ℕ, List, [], ◌∷◌, Option, Some,
 use Rattle.std.specs.Option.{option_or}
 use Rattle.std.proofs.Common.{sym, ap, ap₂, ◌∙◌, subst, subst₂}
 use Rattle.map_model.specs.Maps.{at, IsSorted, IsKeyOrder, union}
-use Rattle.map_model.specs.MapLaws.{at-union, sorted-filter_map_entries}
+use Rattle.map_model.specs.MapLaws.{at-union, sorted-union, sorted-filter_map_entries}
 use Rattle.map_model.specs.Differences.{between, diff}
 use Rattle.map_model.specs.DifferenceLaws.{one_diff, diff_is}
 use Rattle.value_model.specs.Val.{Val, Entries}
@@ -66,9 +66,9 @@ pub record IsCarriedOut (call : Call Key Entries) (old new : KeptDocs) (messages
   pub told : Tells old new messages
   pub answers : Answers call old new messages
 
-pub carried_out : (call : Call Key Entries) (old box new : BoxState) (plan : PlanState) → IsBox old → IsBox box → IsBox new → IsSorted key_cmp (planned plan box) → KeepsSame old.kept box.kept → IsPlan call box plan → KeepsSame (planned plan box) new.kept
+pub carried_out : (call : Call Key Entries) (old box new : BoxState) (plan : PlanState) → IsBox old → IsBox box → IsBox new → KeepsSame old.kept box.kept → IsPlan call box plan → KeepsSame (planned plan box) new.kept
     → IsCarriedOut call old.kept new.kept plan.messages
-carried_out call old box new plan was then_box now sorted same is done =
+carried_out call old box new plan was then_box now same is done =
     let after = after_same call old.kept box.kept (planned plan box) new.kept same done is.after in
-    let told = tells_same old.kept box.kept (planned plan box) new.kept plan.messages was.by_key then_box.by_key sorted now.by_key same done is.told in
+    let told = tells_same old.kept box.kept (planned plan box) new.kept plan.messages was.by_key then_box.by_key (sorted-union key_order plan.kept box.kept then_box.by_key) now.by_key same done is.told in
     record { after = after; told = told; answers = answers_of call old new plan.messages now after told }
