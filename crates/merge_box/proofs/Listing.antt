@@ -1,5 +1,5 @@
 -- What is listed after one subscription's keys change.
-use Rattle.std.proofs.Common.{◌≡◌, ℕ, ◌==◌, Bool, true, false, cond, ◌&&◌, List, [], ◌∷◌, Option, Some, None, is_some, unwrap_or, refl, sym, ap, ap₂, subst, ◌∙◌, true≢false, nat_cmp}
+use Rattle.std.proofs.Common.{◌≡◌, ℕ, arith, length, ◌==◌, Bool, true, false, cond, ◌&&◌, List, [], ◌∷◌, Option, Some, None, is_some, unwrap_or, refl, sym, ap, ap₂, subst, ◌∙◌, true≢false, nat_cmp}
 use Rattle.std.specs.List.{list_any}
 use Rattle.std.specs.Ordering.{eq_by_cmp, is_eq}
 use Rattle.std.specs.BTreeSet.{BTreeSet, contains}
@@ -77,3 +77,24 @@ unlisted_none es sub key none s k = elim (s == sub) as (λ b. (s == sub) ≡ b �
 
 pub either_way : (key k : Key) → is_eq (key_cmp key k) ≡ eq_by_cmp key_cmp k key
 either_way key k = (eq_by_cmp_equiv key_order.total).symm key k
+
+no_keys : (keys : BTreeSet Key) → keys.keys ≡ [] → (k : Key) → contains key_cmp keys k ≡ false
+no_keys keys none k = ap (list_any (eq_by_cmp key_cmp k)) none
+
+-- keys of which there are none
+pub none_listed : (es : List (ℕ × BTreeSet Key)) (sub : ℕ) (keys : BTreeSet Key) → Some keys ≡ at nat_cmp es sub → length keys.keys ≡ 0 → (k : Key) → is_listed (lists_of es) sub k ≡ false
+none_listed es sub keys found none k = found_listed es sub keys found k ∙ no_keys keys (nil_of keys.keys none) k
+  where
+    nil_of : (ks : List Key) → length ks ≡ 0 → ks ≡ []
+    nil_of [] e = refl
+    nil_of (q ∷ ks) e = absurd (omega arith)
+
+-- a subscription that lists nothing may go
+pub forgotten : (old new : List (ℕ × BTreeSet Key)) (sub : ℕ) → ((k : Key) → is_listed (lists_of old) sub k ≡ false) → ((s : ℕ) → at nat_cmp new s ≡ cond (eq_by_cmp nat_cmp sub s) None (at nat_cmp old s))
+    → (s : ℕ) (k : Key) → is_listed (lists_of new) s k ≡ is_listed (lists_of old) s k
+forgotten old new sub none change s k =
+    is_listed-of new s k ∙ ap (λ x. listed_in x k) (change s)
+    ∙ elim (eq_by_cmp nat_cmp sub s) as (λ b. eq_by_cmp nat_cmp sub s ≡ b → listed_in (cond b None (at nat_cmp old s)) k ≡ is_listed (lists_of old) s k) [
+      | true ↦ λ t. sym (ap (λ r. is_listed (lists_of old) r k) (sym (key_is sub_order sub s t)) ∙ none k)
+      | false ↦ λ _. sym (is_listed-of old s k)
+    ] refl

@@ -9,7 +9,7 @@ ghost use Rattle.merge_box.specs.Index.{lists_of};
 ghost use Rattle.merge_box.specs.Messages.{message_of};
 ghost use Rattle.merge_box.specs.State.{BoxState, KeepsSame, planned, news_of, IsBoxAfter, Tells, Answers, IsReady, IsPlan, IsBox};
 
-use crate::index::Index;
+use crate::index::{Index, forget_unlisted};
 use crate::messages::DataList;
 use crate::plan::{KeptMap, messages_of, plan_news, put_all, removals};
 use ejson_value::{Doc, Key, Mem, Publish, Publishes};
@@ -157,6 +157,7 @@ impl MergeBox {
     {
         let MergePlan { sub, kept, messages } = plan;
         put_all(&mut self.kept, &mut self.index, sub, kept);
+        forget_unlisted(&mut self.index, sub);
         let _len = self.kept.len();
         messages
     }

@@ -1,5 +1,5 @@
 //! The keys of the documents of each subscription.
-ghost use Rattle.std.specs.Prelude.{◌≡◌, ◌==◌, ℕ, true, false, None, OnOk, if◌then◌else◌, ◌&&◌};
+ghost use Rattle.std.specs.Prelude.{◌≡◌, ◌==◌, ℕ, true, false, None, OnOk, IsTrue, if◌then◌else◌, ◌&&◌};
 ghost use Rattle.std.specs.Ordering.{eq_by_cmp, nat_cmp};
 ghost use Rattle.std.specs.BTreeMap.{get};
 ghost use Rattle.ejson_value.specs.declared.key.Key.{Key};
@@ -55,5 +55,26 @@ pub(crate) fn unlist(index: &mut Index, sub: u64, key: &Key)
 {
     if let Some(keys) = index.get_mut(&sub) {
         let _was = keys.remove(key);
+    }
+}
+
+// Whether the subscription has an entry that lists no key.
+fn lists_nothing(index: &Index, sub: u64) -> bool
+    ensures { IsTrue result → (k : Key) → is_listed (lists_of index.now.entries) sub k ≡ false }
+{
+    match index.get(&sub) {
+        None => false,
+        Some(keys) => keys.is_empty(),
+    }
+}
+
+/// Takes the subscription's entry away where it lists no key.
+pub(crate) fn forget_unlisted(index: &mut Index, sub: u64)
+    ensures {
+        (s : ℕ) (k : Key) → is_listed (lists_of index.new.entries) s k ≡ is_listed (lists_of index.old.entries) s k
+    }
+{
+    if lists_nothing(index, sub) {
+        drop(index.remove(&sub));
     }
 }
