@@ -10,3 +10,6 @@ mod plan;
 
 pub use boxes::{MergeBox, MergePlan};
 pub use messages::{DataList, DataMsg};
+
+#[cfg(test)]
+mod tests;
