@@ -37,13 +37,13 @@ has-others sub s (p ∷ ps) =
     let others = filter (λ q. not (q == sub)) ps in
     elim (p == sub) as (λ b. (p == sub) ≡ b → has s (cond (not b) (p ∷ others) others) ≡ cond (s == sub) false (has s (p ∷ ps))) [
       | true ↦ λ t. rest ∙ elim (s == sub) as (λ b. (s == sub) ≡ b → cond b false (has s ps) ≡ cond b false ((s == p) || has s ps)) [
-          | true ↦ λ _. refl
-          | false ↦ λ e. ap (λ b. b || has s ps) (sym (apart s p (λ same. differ s sub e (same ∙ same_sub p sub t))))
-        ] refl
+        | true ↦ λ _. refl
+        | false ↦ λ e. ap (λ b. b || has s ps) (sym (apart s p (λ same. differ s sub e (same ∙ same_sub p sub t))))
+      ] refl
       | false ↦ λ t. ap (λ b. (s == p) || b) rest ∙ elim (s == sub) as (λ b. (s == sub) ≡ b → ((s == p) || cond b false (has s ps)) ≡ cond b false ((s == p) || has s ps)) [
-          | true ↦ λ e. ap (λ b. b || false) (apart s p (λ same. differ p sub t (sym same ∙ same_sub s sub e)))
-          | false ↦ λ _. refl
-        ] refl
+        | true ↦ λ e. ap (λ b. b || false) (apart s p (λ same. differ p sub t (sym same ∙ same_sub s sub e)))
+        | false ↦ λ _. refl
+      ] refl
     ] refl
 
 joined : (s sub : ℕ) (b was : Bool) → (cond (s == sub) false was || has s (cond b (sub ∷ []) [])) ≡ cond (s == sub) b was
@@ -130,18 +130,18 @@ pub claims_with : (sub : ℕ) (doc : Entries) (fields made all : List (List ℕ 
 claims_with sub doc fields made all f s is more =
     ap (λ x. unwrap_or x []) more
     ∙ claims_some sub (at text_cmp doc f) (at text_cmp fields f) (at text_cmp made f)
-      (ap (λ m. at text_cmp m f) is ∙ at-filter_map_entries name_order (λ q claims. unless_empty (placed sub (said (Some doc) q) claims)) fields f s)
+    (ap (λ m. at text_cmp m f) is ∙ at-filter_map_entries name_order (λ q claims. unless_empty (placed sub (said (Some doc) q) claims)) fields f s)
 
 -- each subscription with a claim publishes the document, afterwards too
 pub held_after : (sub : ℕ) (doc : Option Entries) (old new : KeptDoc) → IsHeld old → IsKeptAfter sub doc old new → IsSorted text_cmp new.fields → IsHeld new
 held_after sub doc old new held after sorted = record {
   by_name = sorted;
   published = λ f s some.
-    after.publishers s
-    ∙ elim (s == sub) as (λ b. is_some (cond b (said doc f) (claimed s (claims_of text_cmp old f))) ≡ true → cond b (is_some doc) (has s old.publishers) ≡ true) [
-      | true ↦ λ e. there doc f e
-      | false ↦ λ e. held.published f s e
-    ] (ap is_some (sym (claimed-placed (claims_of text_cmp old f) sub (said doc f) s)) ∙ ap (λ claims. is_some (claimed s claims)) (sym (after.claims f)) ∙ some)
+      after.publishers s
+      ∙ elim (s == sub) as (λ b. is_some (cond b (said doc f) (claimed s (claims_of text_cmp old f))) ≡ true → cond b (is_some doc) (has s old.publishers) ≡ true) [
+        | true ↦ λ e. there doc f e
+        | false ↦ λ e. held.published f s e
+      ] (ap is_some (sym (claimed-placed (claims_of text_cmp old f) sub (said doc f) s)) ∙ ap (λ claims. is_some (claimed s claims)) (sym (after.claims f)) ∙ some);
 }
   where
     there : (d : Option Entries) (f : List ℕ) → is_some (said d f) ≡ true → is_some d ≡ true
@@ -166,7 +166,7 @@ pub kept_after_of : (sub : ℕ) (doc : Option Entries) (old new : KeptDoc) → n
     → ((f : List ℕ) → unwrap_or (at text_cmp new.fields f) [] ≡ placed sub (said doc f) (unwrap_or (at text_cmp old.fields f) [])) → IsKeptAfter sub doc old new
 kept_after_of sub doc old new publishers claims = record {
   publishers = λ s. has_after sub s (is_some doc) old.publishers new.publishers publishers;
-  claims = claims
+  claims = claims;
 }
 
 pub is_some-copied : {T : Type 0} (x : Option (Bor T)) → is_some x ≡ is_some (option_copied x)

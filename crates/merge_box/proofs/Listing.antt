@@ -39,9 +39,9 @@ module _ (old new : List (ℕ × BTreeSet Key)) (sub : ℕ) (keys : BTreeSet Key
   -- what was listed stays where the subscription's keys stay
   pub listed_stays : ((k : Key) → is_listed (lists_of old) sub k ≡ true → contains key_cmp keys k ≡ true) → (s : ℕ) (k : Key) → is_listed (lists_of old) s k ≡ true → is_listed (lists_of new) s k ≡ true
   listed_stays stays s k was = listed_after s k ∙ elim (eq_by_cmp nat_cmp sub s) as (λ b. eq_by_cmp nat_cmp sub s ≡ b → cond b (contains key_cmp keys k) (is_listed (lists_of old) s k) ≡ true) [
-      | true ↦ λ t. stays k (ap (λ r. is_listed (lists_of old) r k) (key_is sub_order sub s t) ∙ was)
-      | false ↦ λ _. was
-    ] refl
+    | true ↦ λ t. stays k (ap (λ r. is_listed (lists_of old) r k) (key_is sub_order sub s t) ∙ was)
+    | false ↦ λ _. was
+  ] refl
 
   same_number : (s : ℕ) (b : Bool) → eq_by_cmp nat_cmp sub s ≡ b → (s == sub) ≡ b
   same_number s true e = ap (λ r. s == r) (key_is sub_order sub s e) ∙ sub-self s
@@ -50,9 +50,9 @@ module _ (old new : List (ℕ × BTreeSet Key)) (sub : ℕ) (keys : BTreeSet Key
   pub unlisted_after : (key : Key) → ((k : Key) → contains key_cmp keys k ≡ cond (eq_by_cmp key_cmp k key) false (is_listed (lists_of old) sub k))
       → (s : ℕ) (k : Key) → is_listed (lists_of new) s k ≡ cond ((s == sub) && eq_by_cmp key_cmp k key) false (is_listed (lists_of old) s k)
   unlisted_after key without s k = listed_after s k ∙ elim (eq_by_cmp nat_cmp sub s) as (λ b. eq_by_cmp nat_cmp sub s ≡ b → cond b (contains key_cmp keys k) (is_listed (lists_of old) s k) ≡ cond ((s == sub) && eq_by_cmp key_cmp k key) false (is_listed (lists_of old) s k)) [
-      | true ↦ λ t. without k ∙ ap₂ (λ r b. cond (b && eq_by_cmp key_cmp k key) false (is_listed (lists_of old) r k)) (key_is sub_order sub s t) (sym (same_number s true t))
-      | false ↦ λ t. ap (λ b. cond (b && eq_by_cmp key_cmp k key) false (is_listed (lists_of old) s k)) (sym (same_number s false t))
-    ] refl
+    | true ↦ λ t. without k ∙ ap₂ (λ r b. cond (b && eq_by_cmp key_cmp k key) false (is_listed (lists_of old) r k)) (key_is sub_order sub s t) (sym (same_number s true t))
+    | false ↦ λ t. ap (λ b. cond (b && eq_by_cmp key_cmp k key) false (is_listed (lists_of old) s k)) (sym (same_number s false t))
+  ] refl
 
 -- a subscription with no keys
 pub nothing_listed : (es : List (ℕ × BTreeSet Key)) (sub : ℕ) → at nat_cmp es sub ≡ None → (k : Key) → is_listed (lists_of es) sub k ≡ false
@@ -69,11 +69,11 @@ stays_added false was h = h
 -- nothing is taken from a subscription with no keys
 pub unlisted_none : (es : List (ℕ × BTreeSet Key)) (sub : ℕ) (key : Key) → None ≡ at nat_cmp es sub → (s : ℕ) (k : Key) → is_listed (lists_of es) s k ≡ cond ((s == sub) && eq_by_cmp key_cmp k key) false (is_listed (lists_of es) s k)
 unlisted_none es sub key none s k = elim (s == sub) as (λ b. (s == sub) ≡ b → is_listed (lists_of es) s k ≡ cond (b && eq_by_cmp key_cmp k key) false (is_listed (lists_of es) s k)) [
-    | true ↦ λ t.
-        let nothing = ap (λ r. is_listed (lists_of es) r k) (same_sub s sub t) ∙ nothing_listed es sub (sym none) k in
-        nothing ∙ elim (eq_by_cmp key_cmp k key) as (λ b. false ≡ cond b false (is_listed (lists_of es) s k)) [ true ↦ refl | false ↦ sym nothing ]
-    | false ↦ λ _. refl
-  ] refl
+  | true ↦ λ t.
+      let nothing = ap (λ r. is_listed (lists_of es) r k) (same_sub s sub t) ∙ nothing_listed es sub (sym none) k in
+      nothing ∙ elim (eq_by_cmp key_cmp k key) as (λ b. false ≡ cond b false (is_listed (lists_of es) s k)) [ true ↦ refl | false ↦ sym nothing ]
+  | false ↦ λ _. refl
+] refl
 
 pub either_way : (key k : Key) → is_eq (key_cmp key k) ≡ eq_by_cmp key_cmp k key
 either_way key k = (eq_by_cmp_equiv key_order.total).symm key k

@@ -32,15 +32,15 @@ module _ (sub : ℕ) (w : Option (Option Entries)) (old : KeptDoc) where
 
   planned_lists : (e : KeptDoc) → IsPlannedAt sub w old (Some e) → (s : ℕ) → (listed : ℕ → Bool) → (IsPublished w → listed sub ≡ true) → (has s old.publishers ≡ true → listed s ≡ true) → has s e.publishers ≡ true → listed s ≡ true
   planned_lists e p s listed here before there = elim (s == sub) as (λ b. (s == sub) ≡ b → cond b (is_some p.0) (has s old.publishers) ≡ true → listed s ≡ true) [
-      | true ↦ λ t some. ap listed (same_sub s sub t) ∙ here (subst IsPublished (sym p.1) some)
-      | false ↦ λ _ was. before was
-    ] refl (sym (p.2.publishers s) ∙ there)
+    | true ↦ λ t some. ap listed (same_sub s sub t) ∙ here (subst IsPublished (sym p.1) some)
+    | false ↦ λ _ was. before was
+  ] refl (sym (p.2.publishers s) ∙ there)
 
 seen_sorted : (e : KeptDoc) → IsHeld e → IfSome (merged_doc e) (IsSorted text_cmp)
 seen_sorted e held = elim (is_empty e.publishers) as (λ b. IfSome (cond b None (Some (filter_map_entries (λ f claims. first_value claims) e.fields))) (IsSorted text_cmp)) [
-    | true ↦ tt
-    | false ↦ sorted-filter_map_entries text_cmp (λ f claims. first_value claims) e.fields held.by_name
-  ]
+  | true ↦ tt
+  | false ↦ sorted-filter_map_entries text_cmp (λ f claims. first_value claims) e.fields held.by_name
+]
 
 abbrev pub told_of : BoxState → KeptDocs → List (Key × Step (List ℕ) Val)
 told_of box plan = filter_map_entries (λ k e. between text_cmp same_value (merged_doc (kept_at key_cmp box.kept k)) (merged_doc e)) plan
@@ -54,9 +54,9 @@ module _ (box : BoxState) (plan : PlanState) (whole : IsBox box) (sorted : IsSor
   plan_tells made is = record {
     by_key = subst (IsSorted key_cmp) (sym is) (sorted-filter_map_entries key_cmp (λ k e. between text_cmp same_value (merged_doc (kept_at key_cmp box.kept k)) (merged_doc e)) plan.kept sorted);
     each = λ k. ap (λ ms. at key_cmp ms k) is
-      ∙ at-filter_map_entries key_order (λ q e. between text_cmp same_value (merged_doc (kept_at key_cmp box.kept q)) (merged_doc e)) plan.kept k sorted
-      ∙ told_at k (at key_cmp plan.kept k)
-      ∙ sym (ap₂ (between text_cmp same_value) (at-merged key_order name_order box.kept k whole.by_key) (at-merged key_order name_order (planned plan box) k made ∙ ap merged_doc (kept_at-planned plan box k)))
+        ∙ at-filter_map_entries key_order (λ q e. between text_cmp same_value (merged_doc (kept_at key_cmp box.kept q)) (merged_doc e)) plan.kept k sorted
+        ∙ told_at k (at key_cmp plan.kept k)
+        ∙ sym (ap₂ (between text_cmp same_value) (at-merged key_order name_order box.kept k whole.by_key) (at-merged key_order name_order (planned plan box) k made ∙ ap merged_doc (kept_at-planned plan box k)));
   }
 
 -- the plan of news
@@ -68,13 +68,13 @@ pub plan_is : (sub : ℕ) (news : List (Key × Option Entries)) (old : KeptDocs)
 plan_is sub news old box plan same whole sorted made each room here told = record {
   after = record {
     publishers = λ k s. ap (λ e. has s e.publishers) (kept_at-planned plan box k) ∙ planned_publishers sub (last_news key_cmp news k) (kept_at key_cmp box.kept k) (at key_cmp plan.kept k) (now k) s;
-    claims = λ k f. ap (λ e. claims_of text_cmp e f) (kept_at-planned plan box k) ∙ planned_claims sub (last_news key_cmp news k) (kept_at key_cmp box.kept k) (at key_cmp plan.kept k) (now k) f
+    claims = λ k f. ap (λ e. claims_of text_cmp e f) (kept_at-planned plan box k) ∙ planned_claims sub (last_news key_cmp news k) (kept_at key_cmp box.kept k) (at key_cmp plan.kept k) (now k) f;
   };
   told = plan_tells box plan whole sorted made told;
   ready = record {
     room = room;
-    listed = λ k e s is there. planned_lists sub (last_news key_cmp news k) (kept_at key_cmp box.kept k) e (subst (IsPlannedAt sub (last_news key_cmp news k) (kept_at key_cmp box.kept k)) is (now k)) s (λ r. is_listed box.listed r k) (here k) (whole.listed k s) there
-  }
+    listed = λ k e s is there. planned_lists sub (last_news key_cmp news k) (kept_at key_cmp box.kept k) e (subst (IsPlannedAt sub (last_news key_cmp news k) (kept_at key_cmp box.kept k)) is (now k)) s (λ r. is_listed box.listed r k) (here k) (whole.listed k s) there;
+  };
 }
   where
     now : (k : Key) → IsPlannedAt sub (last_news key_cmp news k) (kept_at key_cmp box.kept k) (at key_cmp plan.kept k)
@@ -109,25 +109,26 @@ pub drop_is : (sub : ℕ) (news : List (Key × Option Entries)) (old box : BoxSt
 drop_is sub news old box plan was same gone is = record {
   after = record {
     publishers = λ k s. is.after.publishers k s ∙ ap (λ w. there_after sub w s (has s (publishers_at key_cmp box.kept k))) (gone k)
-      ∙ elim (is_listed old.listed sub k) as (λ b. is_listed old.listed sub k ≡ b → there_after sub (gone_if b) s (has s (publishers_at key_cmp box.kept k)) ≡ cond (s == sub) false (has s (publishers_at key_cmp box.kept k))) [
-        | true ↦ λ _. refl
-        | false ↦ λ e. elim (s == sub) as (λ b. (s == sub) ≡ b → has s (publishers_at key_cmp box.kept k) ≡ cond b false (has s (publishers_at key_cmp box.kept k))) [
+        ∙ elim (is_listed old.listed sub k) as (λ b. is_listed old.listed sub k ≡ b → there_after sub (gone_if b) s (has s (publishers_at key_cmp box.kept k)) ≡ cond (s == sub) false (has s (publishers_at key_cmp box.kept k))) [
+          | true ↦ λ _. refl
+          | false ↦ λ e. elim (s == sub) as (λ b. (s == sub) ≡ b → has s (publishers_at key_cmp box.kept k) ≡ cond b false (has s (publishers_at key_cmp box.kept k))) [
             | true ↦ λ t. ap (λ r. has r (publishers_at key_cmp box.kept k)) (same_sub s sub t) ∙ unpublished k e
             | false ↦ λ _. refl
           ] refl
-      ] refl;
+        ] refl;
     claims = λ k f. is.after.claims k f ∙ ap (λ w. claims_after text_cmp sub w f (claims_of text_cmp (kept_at key_cmp box.kept k) f)) (gone k)
-      ∙ elim (is_listed old.listed sub k) as (λ b. is_listed old.listed sub k ≡ b → claims_after text_cmp sub (gone_if b) f (claims_of text_cmp (kept_at key_cmp box.kept k) f) ≡ placed sub None (claims_of text_cmp (kept_at key_cmp box.kept k) f)) [
-        | true ↦ λ _. refl
-        | false ↦ λ e. sym (no_claim sub (claims_of text_cmp (kept_at key_cmp box.kept k) f) (unclaimed k f e))
-      ] refl
+        ∙ elim (is_listed old.listed sub k) as (λ b. is_listed old.listed sub k ≡ b → claims_after text_cmp sub (gone_if b) f (claims_of text_cmp (kept_at key_cmp box.kept k) f) ≡ placed sub None (claims_of text_cmp (kept_at key_cmp box.kept k) f)) [
+          | true ↦ λ _. refl
+          | false ↦ λ e. sym (no_claim sub (claims_of text_cmp (kept_at key_cmp box.kept k) f) (unclaimed k f e))
+        ] refl;
   };
   told = is.told;
-  ready = is.ready
+  ready = is.ready;
 }
   where
     unpublished : (k : Key) → is_listed old.listed sub k ≡ false → has sub (publishers_at key_cmp box.kept k) ≡ false
     unpublished k e = ap (λ x. has sub x.publishers) (same k) ∙ false_of (has sub (publishers_at key_cmp old.kept k)) (is_listed old.listed sub k) (was.listed k sub) e
+
     unclaimed : (k : Key) (f : List ℕ) → is_listed old.listed sub k ≡ false → is_some (claimed sub (claims_of text_cmp (kept_at key_cmp box.kept k) f)) ≡ false
     unclaimed k f e = ap (λ x. is_some (claimed sub (claims_of text_cmp x f))) (same k)
         ∙ false_of (is_some (claimed sub (claims_of text_cmp (kept_at key_cmp old.kept k) f))) (is_listed old.listed sub k) (λ some. was.listed k sub ((was.held k).published f sub some)) e
@@ -137,7 +138,7 @@ pub empty_box : IsBox (record { kept = []; listed = [] })
 empty_box = record {
   by_key = sorted-nil key_cmp;
   held = λ k. record { by_name = sorted-nil text_cmp; published = λ f s h. absurd (true≢false (sym h)) };
-  listed = λ k s h. absurd (true≢false (sym h))
+  listed = λ k s h. absurd (true≢false (sym h));
 }
 
 -- a box that keeps the same, and lists no less
@@ -145,7 +146,7 @@ pub box_same : (old new : BoxState) → IsBox old → KeepsSame old.kept new.kep
 box_same old new was same grows sorted = record {
   by_key = sorted;
   held = λ k. subst IsHeld (sym (same k)) (was.held k);
-  listed = λ k s h. grows s k (was.listed k s (ap (λ e. has s e.publishers) (sym (same k)) ∙ h))
+  listed = λ k s h. grows s k (was.listed k s (ap (λ e. has s e.publishers) (sym (same k)) ∙ h));
 }
 
 pub map_ok : {T E : Type 0} (r : Result T E) (P Q : T → Type 0) → ((x : T) → P x → Q x) → IfOk r P → IfOk r Q

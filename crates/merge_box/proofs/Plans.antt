@@ -159,6 +159,7 @@ message_next f done k x messages message so_far is =
     listed : (m : Option DataMsg) → map message_of (option_to_list m) ≡ option_to_list (option_map message_of m)
     listed None = refl
     listed (Some m) = refl
+
     keyed_is : (w : Option (Step (List ℕ) Val)) → option_to_list (option_map (λ step. (k, step)) w) ≡ keyed k w []
     keyed_is None = refl
     keyed_is (Some step) = refl
@@ -174,9 +175,9 @@ module _ (plan rest : KeptDocs) (key : Key) (held : KeptDoc) (updates : (k : Key
   -- what is left is of another key
   left_from : (k : Key) (e : KeptDoc) → at key_cmp rest k ≡ Some e → (eq_by_cmp key_cmp k key ≡ false) × (at key_cmp plan k ≡ Some e)
   left_from k e is = elim (eq_by_cmp key_cmp k key) as (λ b. cond b None (at key_cmp plan k) ≡ Some e → (b ≡ false) × (at key_cmp plan k ≡ Some e)) [
-      | true ↦ λ none. absurd (nothing_there e none)
-      | false ↦ λ same. (refl, same)
-    ] (sym (left_at k) ∙ is)
+    | true ↦ λ none. absurd (nothing_there e none)
+    | false ↦ λ same. (refl, same)
+  ] (sym (left_at k) ∙ is)
 
   some_of : (x : Option KeptDoc) → IsSome x → (e : KeptDoc) × (x ≡ Some e)
   some_of None h = absurd (true≢false (sym h))

@@ -55,9 +55,9 @@ filter-filter_map_entries p f (e ∷ es) =
     elim (f e.0 e.1) as (λ w. filter p (keyed e.0 w (filter_map_entries f es)) ≡ keyed e.0 (option_filter (λ v. p (e.0, v)) w) (filter_map_entries (λ k x. option_filter (λ v. p (k, v)) (f k x)) es)) [
       | None ↦ rest
       | Some v ↦ elim (p (e.0, v)) as (λ b. cond b ((e.0, v) ∷ filter p (filter_map_entries f es)) (filter p (filter_map_entries f es)) ≡ keyed e.0 (cond b (Some v) None) (filter_map_entries (λ k x. option_filter (λ v. p (k, v)) (f k x)) es)) [
-          | true ↦ ap (λ l. (e.0, v) ∷ l) rest
-          | false ↦ rest
-        ]
+        | true ↦ ap (λ l. (e.0, v) ∷ l) rest
+        | false ↦ rest
+      ]
     ]
 
 -- a walk that has ended has passed all

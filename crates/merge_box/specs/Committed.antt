@@ -30,13 +30,13 @@ kept_at-planned plan box k = ap (λ x. unwrap_or x nothing_kept) (at-union key_o
 pub after_same : (call : Call Key Entries) (old box made new : KeptDocs) → KeepsSame old box → KeepsSame made new → IsBoxAfter call box made → IsBoxAfter call old new
 after_same call old box made new same done after = record {
   publishers = λ k s. ap (λ e. has s e.publishers) (done k) ∙ after.publishers k s ∙ ap (λ e. there_after (sub_of call) (says key_cmp call k) s (has s e.publishers)) (same k);
-  claims = λ k f. ap (λ e. claims_of text_cmp e f) (done k) ∙ after.claims k f ∙ ap (λ e. claims_after text_cmp (sub_of call) (says key_cmp call k) f (claims_of text_cmp e f)) (same k)
+  claims = λ k f. ap (λ e. claims_of text_cmp e f) (done k) ∙ after.claims k f ∙ ap (λ e. claims_after text_cmp (sub_of call) (says key_cmp call k) f (claims_of text_cmp e f)) (same k);
 }
 
 pub tells_same : (old box made new : KeptDocs) (messages : Told) → IsSorted key_cmp old → IsSorted key_cmp box → IsSorted key_cmp made → IsSorted key_cmp new → KeepsSame old box → KeepsSame made new → Tells box made messages → Tells old new messages
 tells_same old box made new messages s t u v same done told = record {
   by_key = told.by_key;
-  each = λ k. told.each k ∙ ap₂ (between text_cmp same_value) (seen old box s t same k) (sym (seen made new u v done k))
+  each = λ k. told.each k ∙ ap₂ (between text_cmp same_value) (seen old box s t same k) (sym (seen made new u v done k));
 }
   where
     seen : (a b : KeptDocs) → IsSorted key_cmp a → IsSorted key_cmp b → KeepsSame a b → (k : Key) → at key_cmp (merged b) k ≡ at key_cmp (merged a) k
@@ -50,14 +50,14 @@ pub answers_of : (call : Call Key Entries) (old new : BoxState) (messages : Told
 answers_of call old new messages whole after told = record {
   stands = λ past stands. stands_after key_order name_order call past old.kept new.kept stands after (in_order new whole);
   told = λ past m n stands is_m is_n.
-    let stood = merged_is key_order name_order (shown key_cmp past) (shown_since key_cmp text_cmp past) old.kept stands in
-    let stands_now = stands_after key_order name_order call past old.kept new.kept stands after (in_order new whole) in
-    let now = merged_is key_order name_order (shown key_cmp (call ∷ past)) (shown_since key_cmp text_cmp (call ∷ past)) new.kept stands_now in
-    let before = one_merge key_order name_order (shown key_cmp past) (shown_since key_cmp text_cmp past) (merged old.kept) m stood is_m in
-    let afterwards = one_merge key_order name_order (shown key_cmp (call ∷ past)) (shown_since key_cmp text_cmp (call ∷ past)) (merged new.kept) n now is_n in
-    one_diff key_order text_cmp same_value (merged old.kept) (merged new.kept) messages (diff text_cmp same_value key_cmp (merged old.kept) (merged new.kept)) told
+      let stood = merged_is key_order name_order (shown key_cmp past) (shown_since key_cmp text_cmp past) old.kept stands in
+      let stands_now = stands_after key_order name_order call past old.kept new.kept stands after (in_order new whole) in
+      let now = merged_is key_order name_order (shown key_cmp (call ∷ past)) (shown_since key_cmp text_cmp (call ∷ past)) new.kept stands_now in
+      let before = one_merge key_order name_order (shown key_cmp past) (shown_since key_cmp text_cmp past) (merged old.kept) m stood is_m in
+      let afterwards = one_merge key_order name_order (shown key_cmp (call ∷ past)) (shown_since key_cmp text_cmp (call ∷ past)) (merged new.kept) n now is_n in
+      one_diff key_order text_cmp same_value (merged old.kept) (merged new.kept) messages (diff text_cmp same_value key_cmp (merged old.kept) (merged new.kept)) told
       (diff_is key_order text_cmp same_value (merged old.kept) (merged new.kept) (sorted-filter_map_entries key_cmp (λ k e. merged_doc e) new.kept whole.by_key))
-    ∙ ap₂ (diff text_cmp same_value key_cmp) before afterwards
+      ∙ ap₂ (diff text_cmp same_value key_cmp) before afterwards;
 }
 
 -- a plan that is carried out: the box is what the call makes of it, and the messages are the call's answer

@@ -66,14 +66,18 @@ impl Model for MergePlan {
 }
 
 // Plans the news over what is kept, which stays the same but for new places.
-fn make_plan(kept: &mut KeptMap, index: &mut Index, alloc: Global, sub: u64, news: &[Publish]) -> Result<MergePlan, Mem>
+fn make_plan(
+    kept: &mut KeptMap,
+    index: &mut Index,
+    alloc: Global,
+    sub: u64,
+    news: &[Publish],
+) -> Result<MergePlan, Mem>
     requires { IsBox (record { kept = kept.old.entries; listed = lists_of index.old.entries }) }
     ensures same { KeepsSame kept.old.entries kept.new.entries }
     ensures kept_whole { IsBox (record { kept = kept.new.entries; listed = lists_of index.new.entries }) }
-    ensures planned {
-        IfOk result (λ plan. IsPlan (applied sub (news_of news.now))
-            (record { kept = kept.new.entries; listed = lists_of index.new.entries }) plan)
-    }
+    ensures planned { IfOk result (λ plan. IsPlan (applied sub (news_of news.now))
+        (record { kept = kept.new.entries; listed = lists_of index.new.entries }) plan) }
 {
     let made = plan_news(kept, index, alloc, sub, news);
     let _len = kept.len();
@@ -136,7 +140,13 @@ impl MergeBox {
         ensures same { KeepsSame self.old.kept self.new.kept }
         ensures planned { IfOk result (λ plan. IsPlan (applied sub (news_of news.now)) self.new plan) }
     {
-        make_plan(&mut self.kept, &mut self.index, self.alloc, sub, news.as_slice())
+        make_plan(
+            &mut self.kept,
+            &mut self.index,
+            self.alloc,
+            sub,
+            news.as_slice(),
+        )
     }
 
     /// Plans `drop_sub`. What is published and its order stay as they are.
@@ -145,7 +155,13 @@ impl MergeBox {
         ensures planned { IfOk result (λ plan. IsPlan (dropped sub) self.new plan) }
     {
         let news = removals(&self.index, self.alloc, sub)?;
-        make_plan(&mut self.kept, &mut self.index, self.alloc, sub, news.as_slice())
+        make_plan(
+            &mut self.kept,
+            &mut self.index,
+            self.alloc,
+            sub,
+            news.as_slice(),
+        )
     }
 
     /// Carries the plan out and answers its messages. The plan is of this box, and nothing was
@@ -155,7 +171,11 @@ impl MergeBox {
         ensures kept { KeepsSame (planned plan self.old) self.new.kept }
         ensures messages { map message_of result ≡ plan.messages }
     {
-        let MergePlan { sub, kept, messages } = plan;
+        let MergePlan {
+            sub,
+            kept,
+            messages,
+        } = plan;
         put_all(&mut self.kept, &mut self.index, sub, kept);
         forget_unlisted(&mut self.index, sub);
         let _len = self.kept.len();
@@ -167,10 +187,8 @@ impl MergeBox {
     pub fn apply(&mut self, sub: u64, news: &Publishes) -> Result<DataList, Mem>
         ensures after { OnOk result (IsBoxAfter (applied sub (news_of news.now)) self.old.kept self.new.kept) }
         ensures told { IfOk result (λ messages. Tells self.old.kept self.new.kept (map message_of messages)) }
-        ensures answers {
-            IfOk result (λ messages.
-                Answers (applied sub (news_of news.now)) self.old.kept self.new.kept (map message_of messages))
-        }
+        ensures answers { IfOk result (λ messages.
+            Answers (applied sub (news_of news.now)) self.old.kept self.new.kept (map message_of messages)) }
         ensures err { OnErr result (KeepsSame self.old.kept self.new.kept) }
     {
         self.known();
@@ -186,9 +204,7 @@ impl MergeBox {
     pub fn drop_sub(&mut self, sub: u64) -> Result<DataList, Mem>
         ensures after { OnOk result (IsBoxAfter (dropped sub) self.old.kept self.new.kept) }
         ensures told { IfOk result (λ messages. Tells self.old.kept self.new.kept (map message_of messages)) }
-        ensures answers {
-            IfOk result (λ messages. Answers (dropped sub) self.old.kept self.new.kept (map message_of messages))
-        }
+        ensures answers { IfOk result (λ messages. Answers (dropped sub) self.old.kept self.new.kept (map message_of messages)) }
         ensures err { OnErr result (KeepsSame self.old.kept self.new.kept) }
     {
         self.known();

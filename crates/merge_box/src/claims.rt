@@ -102,7 +102,12 @@ impl Claims {
     }
 
     /// A copy with what the subscription publishes now, where None is nothing.
-    pub(crate) fn placed(&self, alloc: Global, sub: u64, value: Option<&Value>) -> Result<Claims, Mem>
+    pub(crate) fn placed(
+        &self,
+        alloc: Global,
+        sub: u64,
+        value: Option<&Value>,
+    ) -> Result<Claims, Mem>
         ensures { IfOk result (λ claims. claims ≡ placed sub (option_map (λ v. view v.now) value.entry) self.now) }
     {
         match value {

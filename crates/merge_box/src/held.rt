@@ -41,11 +41,14 @@ impl Model for Held {
 }
 
 // The publishers, where `sub` is one of them now or no longer.
-fn publishers_after(alloc: Global, publishers: &[u64], sub: u64, is_published: bool) -> Result<Vec<u64>, Mem>
-    ensures {
-        IfOk result (λ ps. ps.items ≡
-            filter (λ s. not (s == sub)) publishers.now ++ (if is_published then sub ∷ [] else []))
-    }
+fn publishers_after(
+    alloc: Global,
+    publishers: &[u64],
+    sub: u64,
+    is_published: bool,
+) -> Result<Vec<u64>, Mem>
+    ensures { IfOk result (λ ps. ps.items ≡
+        filter (λ s. not (s == sub)) publishers.now ++ (if is_published then sub ∷ [] else [])) }
 {
     let mut made = Vec::new(alloc);
     for publisher in publishers {
@@ -71,10 +74,8 @@ fn value_in<'a>(doc: Option<&'a Doc>, name: &Text) -> Option<&'a Value>
 
 // Puts the claims as those of the field, unless there are none.
 fn put_claims(fields: &mut BTreeMap<Text, Claims>, name: &Text, claims: Claims) -> Result<(), Mem>
-    ensures {
-        OnOk result (fields.new.entries ≡
-            (if is_empty claims then fields.old.entries else insert_entry text_cmp fields.old.entries name.now claims))
-    }
+    ensures { OnOk result (fields.new.entries ≡
+        (if is_empty claims then fields.old.entries else insert_entry text_cmp fields.old.entries name.now claims)) }
 {
     if !claims.is_empty() {
         drop(fields.insert(name.copy()?, claims)?);
@@ -89,10 +90,8 @@ fn fields_after(
     sub: u64,
     doc: Option<&Doc>,
 ) -> Result<BTreeMap<Text, Claims>, Mem>
-    ensures {
-        IfOk result (λ made. made.entries ≡
-            filter_map_entries (λ f claims. unless_empty (placed sub (said (option_copied doc.entry) f) claims)) fields.now.entries)
-    }
+    ensures { IfOk result (λ made. made.entries ≡
+        filter_map_entries (λ f claims. unless_empty (placed sub (said (option_copied doc.entry) f) claims)) fields.now.entries) }
 {
     let mut made = BTreeMap::new(alloc);
     for (name, claims) in fields.iter() {
@@ -110,11 +109,9 @@ fn claim_others(
     sub: u64,
     doc: &Doc,
 ) -> Result<(), Mem>
-    ensures {
-        OnOk result ((f : List ℕ) → at text_cmp made.new.entries f ≡
-            (if is_some (at text_cmp fields.now.entries f) then at text_cmp made.old.entries f
-            else option_or (option_map (λ v. (sub, v) ∷ []) (at text_cmp doc.now f)) (at text_cmp made.old.entries f)))
-    }
+    ensures { OnOk result ((f : List ℕ) → at text_cmp made.new.entries f ≡
+        (if is_some (at text_cmp fields.now.entries f) then at text_cmp made.old.entries f
+        else option_or (option_map (λ v. (sub, v) ∷ []) (at text_cmp doc.now f)) (at text_cmp made.old.entries f))) }
 {
     for (name, value) in doc.iter() {
         if !fields.contains_key(name) {
@@ -132,10 +129,8 @@ fn fields_with(
     sub: u64,
     doc: Option<&Doc>,
 ) -> Result<BTreeMap<Text, Claims>, Mem>
-    ensures {
-        IfOk result (λ made. (f : List ℕ) → unwrap_or (at text_cmp made.entries f) [] ≡
-            placed sub (said (option_copied doc.entry) f) (unwrap_or (at text_cmp fields.now.entries f) []))
-    }
+    ensures { IfOk result (λ made. (f : List ℕ) → unwrap_or (at text_cmp made.entries f) [] ≡
+        placed sub (said (option_copied doc.entry) f) (unwrap_or (at text_cmp fields.now.entries f) [])) }
 {
     let _len = fields.len();
     let mut made = fields_after(alloc, fields, sub, doc)?;
@@ -234,10 +229,8 @@ impl Held {
 
     // Puts the value as that field, unless the client sees it already.
     fn put_unseen(&self, doc: &mut Doc, name: &Text, value: Option<&Value>) -> Result<(), Mem>
-        ensures {
-            OnOk result (doc.new ≡ put_some text_cmp doc.old name.now
-                (unseen (merged_fields self.now.fields) name.now (option_map (λ v. view v.now) value.entry)))
-        }
+        ensures { OnOk result (doc.new ≡ put_some text_cmp doc.old name.now
+            (unseen (merged_fields self.now.fields) name.now (option_map (λ v. view v.now) value.entry))) }
     {
         match value {
             None => Ok(()),
@@ -253,10 +246,8 @@ impl Held {
 
     // Adds the name, unless there is no value or the client still sees a field of this name.
     fn push_unseen(&self, names: &mut Names, name: &Text, value: Option<&Value>) -> Result<(), Mem>
-        ensures {
-            OnOk result (names.new ≡ names.old ++
-                keys_of (keyed name.now (gone (merged_fields self.now.fields) name.now (option_map (λ v. view v.now) value.entry)) []))
-        }
+        ensures { OnOk result (names.new ≡ names.old ++
+            keys_of (keyed name.now (gone (merged_fields self.now.fields) name.now (option_map (λ v. view v.now) value.entry)) [])) }
     {
         match value {
             None => Ok(()),
@@ -272,10 +263,8 @@ impl Held {
 
     /// The fields that the client sees here, and not or otherwise before.
     pub(crate) fn new_fields(&self, alloc: Global, before: &Held) -> Result<Doc, Mem>
-        ensures {
-            IfOk result (λ doc. doc ≡
-                new_fields text_cmp same_value (merged_fields before.now.fields) (merged_fields self.now.fields))
-        }
+        ensures { IfOk result (λ doc. doc ≡
+            new_fields text_cmp same_value (merged_fields before.now.fields) (merged_fields self.now.fields)) }
     {
         let mut doc = Doc::new(alloc);
         for (name, claims) in self.fields.iter() {
@@ -286,10 +275,8 @@ impl Held {
 
     /// The names of the fields that the client sees here, and not afterwards.
     pub(crate) fn cleared(&self, alloc: Global, after: &Held) -> Result<Names, Mem>
-        ensures {
-            IfOk result (λ names. names ≡
-                cleared text_cmp same_value (merged_fields self.now.fields) (merged_fields after.now.fields))
-        }
+        ensures { IfOk result (λ names. names ≡
+            cleared text_cmp same_value (merged_fields self.now.fields) (merged_fields after.now.fields)) }
     {
         let mut names = Names::new(alloc);
         for (name, claims) in self.fields.iter() {

@@ -17,10 +17,8 @@ pub(crate) type Index = BTreeMap<u64, BTreeSet<Key>>;
 fn list_first(index: &mut Index, alloc: Global, sub: u64, key: Key) -> Result<(), Mem>
     requires { get nat_cmp index.old sub ≡ None }
     ensures listed { OnOk result (is_listed (lists_of index.new.entries) sub key ≡ true) }
-    ensures kept {
-        (s : ℕ) (k : Key) → is_listed (lists_of index.old.entries) s k ≡ true →
-        is_listed (lists_of index.new.entries) s k ≡ true
-    }
+    ensures kept { (s : ℕ) (k : Key) → is_listed (lists_of index.old.entries) s k ≡ true →
+        is_listed (lists_of index.new.entries) s k ≡ true }
 {
     let mut keys = BTreeSet::new(alloc);
     let _new = keys.insert(key)?;
@@ -31,10 +29,8 @@ fn list_first(index: &mut Index, alloc: Global, sub: u64, key: Key) -> Result<()
 /// Lists the key under the subscription.
 pub(crate) fn list(index: &mut Index, alloc: Global, sub: u64, key: &Key) -> Result<(), Mem>
     ensures listed { OnOk result (is_listed (lists_of index.new.entries) sub key.now ≡ true) }
-    ensures kept {
-        (s : ℕ) (k : Key) → is_listed (lists_of index.old.entries) s k ≡ true →
-        is_listed (lists_of index.new.entries) s k ≡ true
-    }
+    ensures kept { (s : ℕ) (k : Key) → is_listed (lists_of index.old.entries) s k ≡ true →
+        is_listed (lists_of index.new.entries) s k ≡ true }
 {
     let key = key.copy()?;
     match index.get_mut(&sub) {
@@ -48,10 +44,8 @@ pub(crate) fn list(index: &mut Index, alloc: Global, sub: u64, key: &Key) -> Res
 
 /// Lists the key under the subscription no more.
 pub(crate) fn unlist(index: &mut Index, sub: u64, key: &Key)
-    ensures {
-        (s : ℕ) (k : Key) → is_listed (lists_of index.new.entries) s k ≡
-        (if (s == sub) && eq_by_cmp key_cmp k key.now then false else is_listed (lists_of index.old.entries) s k)
-    }
+    ensures { (s : ℕ) (k : Key) → is_listed (lists_of index.new.entries) s k ≡
+        (if (s == sub) && eq_by_cmp key_cmp k key.now then false else is_listed (lists_of index.old.entries) s k) }
 {
     if let Some(keys) = index.get_mut(&sub) {
         let _was = keys.remove(key);
@@ -70,9 +64,7 @@ fn lists_nothing(index: &Index, sub: u64) -> bool
 
 /// Takes the subscription's entry away where it lists no key.
 pub(crate) fn forget_unlisted(index: &mut Index, sub: u64)
-    ensures {
-        (s : ℕ) (k : Key) → is_listed (lists_of index.new.entries) s k ≡ is_listed (lists_of index.old.entries) s k
-    }
+    ensures { (s : ℕ) (k : Key) → is_listed (lists_of index.new.entries) s k ≡ is_listed (lists_of index.old.entries) s k }
 {
     if lists_nothing(index, sub) {
         drop(index.remove(&sub));

@@ -14,9 +14,18 @@ use std::alloc::Global;
 /// lost the cleared ones, or was removed.
 #[derive(Debug, Drop)]
 pub enum DataMsg {
-    Added { key: Key, fields: Doc },
-    Changed { key: Key, fields: Doc, cleared: Names },
-    Removed { key: Key },
+    Added {
+        key: Key,
+        fields: Doc,
+    },
+    Changed {
+        key: Key,
+        fields: Doc,
+        cleared: Names,
+    },
+    Removed {
+        key: Key,
+    },
 }
 
 /// Data messages in the order in which a client takes them.
@@ -24,12 +33,10 @@ pub type DataList = ListOf<DataMsg>;
 
 // The message about a document that the client sees before and afterwards.
 fn changed(alloc: Global, key: &Key, old: &Held, new: &Held) -> Result<Option<DataMsg>, Mem>
-    ensures {
-        IfOk result (λ message. option_map message_of message ≡ option_map (λ step. (key.now, step))
-            (changed_unless_same text_cmp same_value
-                (new_fields text_cmp same_value (merged_fields old.now.fields) (merged_fields new.now.fields))
-                (cleared text_cmp same_value (merged_fields old.now.fields) (merged_fields new.now.fields))))
-    }
+    ensures { IfOk result (λ message. option_map message_of message ≡ option_map (λ step. (key.now, step))
+        (changed_unless_same text_cmp same_value
+        (new_fields text_cmp same_value (merged_fields old.now.fields) (merged_fields new.now.fields))
+        (cleared text_cmp same_value (merged_fields old.now.fields) (merged_fields new.now.fields)))) }
 {
     let fields = new.new_fields(alloc, old)?;
     let cleared = old.cleared(alloc, new)?;
@@ -37,16 +44,18 @@ fn changed(alloc: Global, key: &Key, old: &Held, new: &Held) -> Result<Option<Da
         Ok(None)
     } else {
         let key = key.copy()?;
-        Ok(Some(DataMsg::Changed { key, fields, cleared }))
+        Ok(Some(DataMsg::Changed {
+            key,
+            fields,
+            cleared,
+        }))
     }
 }
 
 /// The message about a document, if the client sees it otherwise afterwards.
 pub(crate) fn told(alloc: Global, key: &Key, old: &Held, new: &Held) -> Result<Option<DataMsg>, Mem>
-    ensures {
-        IfOk result (λ message. option_map message_of message ≡ option_map (λ step. (key.now, step))
-            (between text_cmp same_value (merged_doc old.now) (merged_doc new.now)))
-    }
+    ensures { IfOk result (λ message. option_map message_of message ≡ option_map (λ step. (key.now, step))
+        (between text_cmp same_value (merged_doc old.now) (merged_doc new.now))) }
 {
     match (old.is_published(), new.is_published()) {
         (false, false) => Ok(None),

@@ -38,11 +38,15 @@ fn make_room(kept: &mut KeptMap, alloc: Global, key: &Key) -> Result<(), Mem>
 }
 
 // Lists the key under the subscription, where the document is published.
-fn list_published(index: &mut Index, alloc: Global, sub: u64, key: &Key, is_published: bool) -> Result<(), Mem>
-    ensures kept {
-        (s : ℕ) (k : Key) → is_listed (lists_of index.old.entries) s k ≡ true →
-        is_listed (lists_of index.new.entries) s k ≡ true
-    }
+fn list_published(
+    index: &mut Index,
+    alloc: Global,
+    sub: u64,
+    key: &Key,
+    is_published: bool,
+) -> Result<(), Mem>
+    ensures kept { (s : ℕ) (k : Key) → is_listed (lists_of index.old.entries) s k ≡ true →
+        is_listed (lists_of index.new.entries) s k ≡ true }
     ensures listed { OnOk result (is_published ≡ true → is_listed (lists_of index.new.entries) sub key.now ≡ true) }
 {
     if is_published {
@@ -53,7 +57,13 @@ fn list_published(index: &mut Index, alloc: Global, sub: u64, key: &Key, is_publ
 }
 
 // What is kept of a document once the subscription publishes this one, or none.
-fn after_news(kept: &KeptMap, alloc: Global, sub: u64, key: &Key, doc: Option<&Doc>) -> Result<Held, Mem>
+fn after_news(
+    kept: &KeptMap,
+    alloc: Global,
+    sub: u64,
+    key: &Key,
+    doc: Option<&Doc>,
+) -> Result<Held, Mem>
     ensures after { IfOk result (λ held. IsKeptAfter sub (option_copied doc.entry) (kept_at key_cmp kept.now.entries key.now) held) }
     ensures whole { IfOk result (λ held. IsHeld held) }
 {
@@ -81,24 +91,16 @@ fn plan_publish(
     publish: &Publish,
 ) -> Result<(), Mem>
     ensures same { KeepsSame kept.old.entries kept.new.entries }
-    ensures listed {
-        (s : ℕ) (k : Key) → is_listed (lists_of index.old.entries) s k ≡ true →
-        is_listed (lists_of index.new.entries) s k ≡ true
-    }
+    ensures listed { (s : ℕ) (k : Key) → is_listed (lists_of index.old.entries) s k ≡ true →
+        is_listed (lists_of index.new.entries) s k ≡ true }
     ensures grows { (k : Key) → IsSome (at key_cmp kept.old.entries k) → IsSome (at key_cmp kept.new.entries k) }
     ensures room { OnOk result (IsSome (at key_cmp kept.new.entries publish.now.key)) }
-    ensures listed_here {
-        OnOk result (IsSome publish.now.new → is_listed (lists_of index.new.entries) sub publish.now.key ≡ true)
-    }
-    ensures planned {
-        OnOk result ((k : Key) → at key_cmp plan.new.entries k ≡
-            (if eq_by_cmp key_cmp k publish.now.key then Some (kept_at key_cmp plan.new.entries publish.now.key)
-            else at key_cmp plan.old.entries k))
-    }
-    ensures after {
-        OnOk result (IsKeptAfter sub publish.now.new (kept_at key_cmp kept.old.entries publish.now.key)
-            (kept_at key_cmp plan.new.entries publish.now.key))
-    }
+    ensures listed_here { OnOk result (IsSome publish.now.new → is_listed (lists_of index.new.entries) sub publish.now.key ≡ true) }
+    ensures planned { OnOk result ((k : Key) → at key_cmp plan.new.entries k ≡
+        (if eq_by_cmp key_cmp k publish.now.key then Some (kept_at key_cmp plan.new.entries publish.now.key)
+        else at key_cmp plan.old.entries k)) }
+    ensures after { OnOk result (IsKeptAfter sub publish.now.new (kept_at key_cmp kept.old.entries publish.now.key)
+        (kept_at key_cmp plan.new.entries publish.now.key)) }
     ensures whole { OnOk result (IsHeld (kept_at key_cmp plan.new.entries publish.now.key)) }
 {
     make_room(kept, alloc, &publish.key)?;
@@ -117,21 +119,13 @@ pub(crate) fn plan_news(
     news: &[Publish],
 ) -> Result<KeptMap, Mem>
     ensures same { KeepsSame kept.old.entries kept.new.entries }
-    ensures listed {
-        (s : ℕ) (k : Key) → is_listed (lists_of index.old.entries) s k ≡ true →
-        is_listed (lists_of index.new.entries) s k ≡ true
-    }
-    ensures planned {
-        IfOk result (λ plan. (k : Key) →
-            IsPlannedAt sub (last_news key_cmp (news_of news.now) k) (kept_at key_cmp kept.old.entries k) (at key_cmp plan.entries k))
-    }
-    ensures room {
-        IfOk result (λ plan. (k : Key) → IsSome (at key_cmp plan.entries k) → IsSome (at key_cmp kept.new.entries k))
-    }
-    ensures listed_here {
-        IfOk result (λ plan. (k : Key) → IsPublished (last_news key_cmp (news_of news.now) k) →
-            is_listed (lists_of index.new.entries) sub k ≡ true)
-    }
+    ensures listed { (s : ℕ) (k : Key) → is_listed (lists_of index.old.entries) s k ≡ true →
+        is_listed (lists_of index.new.entries) s k ≡ true }
+    ensures planned { IfOk result (λ plan. (k : Key) →
+        IsPlannedAt sub (last_news key_cmp (news_of news.now) k) (kept_at key_cmp kept.old.entries k) (at key_cmp plan.entries k)) }
+    ensures room { IfOk result (λ plan. (k : Key) → IsSome (at key_cmp plan.entries k) → IsSome (at key_cmp kept.new.entries k)) }
+    ensures listed_here { IfOk result (λ plan. (k : Key) → IsPublished (last_news key_cmp (news_of news.now) k) →
+        is_listed (lists_of index.new.entries) sub k ≡ true) }
 {
     let mut plan = BTreeMap::new(alloc);
     for publish in news {
@@ -142,10 +136,8 @@ pub(crate) fn plan_news(
 
 // The message about a document of the plan, if the client sees it otherwise afterwards.
 fn told_at(kept: &KeptMap, alloc: Global, key: &Key, held: &Held) -> Result<Option<DataMsg>, Mem>
-    ensures {
-        IfOk result (λ message. option_map message_of message ≡ option_map (λ step. (key.now, step))
-            (between text_cmp same_value (merged_doc (kept_at key_cmp kept.now.entries key.now)) (merged_doc held.now)))
-    }
+    ensures { IfOk result (λ message. option_map message_of message ≡ option_map (λ step. (key.now, step))
+        (between text_cmp same_value (merged_doc (kept_at key_cmp kept.now.entries key.now)) (merged_doc held.now))) }
 {
     match kept.get(key) {
         None => told(alloc, key, &Held::new(alloc), held),
@@ -165,10 +157,8 @@ fn push_message(messages: &mut DataList, message: Option<DataMsg>) -> Result<(),
 
 /// The messages of the plan, by key.
 pub(crate) fn messages_of(kept: &KeptMap, alloc: Global, plan: &KeptMap) -> Result<DataList, Mem>
-    ensures {
-        IfOk result (λ messages. map message_of messages ≡ filter_map_entries (λ k held.
-            between text_cmp same_value (merged_doc (kept_at key_cmp kept.now.entries k)) (merged_doc held)) plan.now.entries)
-    }
+    ensures { IfOk result (λ messages. map message_of messages ≡ filter_map_entries (λ k held.
+        between text_cmp same_value (merged_doc (kept_at key_cmp kept.now.entries k)) (merged_doc held)) plan.now.entries) }
 {
     let mut messages = DataList::new(alloc);
     for (key, held) in plan.iter() {
@@ -181,14 +171,10 @@ pub(crate) fn messages_of(kept: &KeptMap, alloc: Global, plan: &KeptMap) -> Resu
 // Puts what is kept of the document in its place, and takes the place away where it is nothing.
 fn put_or_trim(kept: &mut KeptMap, key: &Key, held: Held)
     requires { IsSome (at key_cmp kept.old.entries key.now) }
-    ensures kept {
-        (k : Key) → kept_at key_cmp kept.new.entries k ≡
-        (if eq_by_cmp key_cmp k key.now then held else kept_at key_cmp kept.old.entries k)
-    }
-    ensures others {
-        (k : Key) → eq_by_cmp key_cmp k key.now ≡ false →
-        at key_cmp kept.new.entries k ≡ at key_cmp kept.old.entries k
-    }
+    ensures kept { (k : Key) → kept_at key_cmp kept.new.entries k ≡
+        (if eq_by_cmp key_cmp k key.now then held else kept_at key_cmp kept.old.entries k) }
+    ensures others { (k : Key) → eq_by_cmp key_cmp k key.now ≡ false →
+        at key_cmp kept.new.entries k ≡ at key_cmp kept.old.entries k }
 {
     if held.is_nothing() {
         drop(kept.remove(key));
@@ -199,10 +185,8 @@ fn put_or_trim(kept: &mut KeptMap, key: &Key, held: Held)
 
 // Lists the key under the subscription no more, where it does not publish the document.
 fn unlist_unpublished(index: &mut Index, sub: u64, key: &Key, held: &Held)
-    ensures {
-        (k : Key) (s : ℕ) → (eq_by_cmp key_cmp k key.now ≡ true → has s held.now.publishers ≡ true) →
-        is_listed (lists_of index.old.entries) s k ≡ true → is_listed (lists_of index.new.entries) s k ≡ true
-    }
+    ensures { (k : Key) (s : ℕ) → (eq_by_cmp key_cmp k key.now ≡ true → has s held.now.publishers ≡ true) →
+        is_listed (lists_of index.old.entries) s k ≡ true → is_listed (lists_of index.new.entries) s k ≡ true }
 {
     if !held.publishes(sub) {
         unlist(index, sub, key);
@@ -214,23 +198,15 @@ pub(crate) fn put_all(kept: &mut KeptMap, index: &mut Index, sub: u64, plan: Kep
     requires room { (k : Key) → IsSome (at key_cmp plan.entries k) → IsSome (at key_cmp kept.old.entries k) }
     requires whole { (k : Key) (e : KeptDoc) → at key_cmp plan.entries k ≡ Some e → IsHeld e }
     requires held { (k : Key) → IsHeld (kept_at key_cmp kept.old.entries k) }
-    requires planned_listed {
-        (k : Key) (e : KeptDoc) (s : ℕ) → at key_cmp plan.entries k ≡ Some e → has s e.publishers ≡ true →
-        is_listed (lists_of index.old.entries) s k ≡ true
-    }
-    requires listed {
-        (k : Key) (s : ℕ) → has s (publishers_at key_cmp kept.old.entries k) ≡ true →
-        is_listed (lists_of index.old.entries) s k ≡ true
-    }
-    ensures kept {
-        (k : Key) → kept_at key_cmp kept.new.entries k ≡
-        unwrap_or (at key_cmp plan.entries k) (kept_at key_cmp kept.old.entries k)
-    }
+    requires planned_listed { (k : Key) (e : KeptDoc) (s : ℕ) → at key_cmp plan.entries k ≡ Some e → has s e.publishers ≡ true →
+        is_listed (lists_of index.old.entries) s k ≡ true }
+    requires listed { (k : Key) (s : ℕ) → has s (publishers_at key_cmp kept.old.entries k) ≡ true →
+        is_listed (lists_of index.old.entries) s k ≡ true }
+    ensures kept { (k : Key) → kept_at key_cmp kept.new.entries k ≡
+        unwrap_or (at key_cmp plan.entries k) (kept_at key_cmp kept.old.entries k) }
     ensures held { (k : Key) → IsHeld (kept_at key_cmp kept.new.entries k) }
-    ensures listed {
-        (k : Key) (s : ℕ) → has s (publishers_at key_cmp kept.new.entries k) ≡ true →
-        is_listed (lists_of index.new.entries) s k ≡ true
-    }
+    ensures listed { (k : Key) (s : ℕ) → has s (publishers_at key_cmp kept.new.entries k) ≡ true →
+        is_listed (lists_of index.new.entries) s k ≡ true }
 {
     let mut plan = plan;
     while let Some((key, held)) = plan.pop_first() {
@@ -253,10 +229,8 @@ fn removals_of(keys: &BTreeSet<Key>, alloc: Global) -> Result<Publishes, Mem>
 
 /// For each key that is listed under the subscription that it publishes nothing there any more.
 pub(crate) fn removals(index: &Index, alloc: Global, sub: u64) -> Result<Publishes, Mem>
-    ensures {
-        IfOk result (λ news. (k : Key) → last_news key_cmp (news_of news) k ≡
-            (if is_listed (lists_of index.now.entries) sub k then Some None else None))
-    }
+    ensures { IfOk result (λ news. (k : Key) → last_news key_cmp (news_of news) k ≡
+        (if is_listed (lists_of index.now.entries) sub k then Some None else None)) }
 {
     match index.get(&sub) {
         None => Ok(Publishes::new(alloc)),

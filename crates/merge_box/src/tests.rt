@@ -1,4 +1,6 @@
 //! The box as a client sees it. Expected messages are written by hand, or recomputed from all that was shown.
+ghost use Rattle.std.specs.Prelude.{◌<◌};
+
 use crate::{DataList, DataMsg, MergeBox};
 use ejson_value::{Doc, Key, Mem, Publish, Publishes, Text, Value, Whole};
 use std::alloc::Global;
@@ -80,7 +82,11 @@ fn write_message(out: &mut String, alloc: Global, message: &DataMsg) -> Result<(
             write_key(out, "added ", key)?;
             write_fields(out, alloc, fields)
         }
-        DataMsg::Changed { key, fields, cleared } => {
+        DataMsg::Changed {
+            key,
+            fields,
+            cleared,
+        } => {
             write_key(out, "changed ", key)?;
             write_fields(out, alloc, fields)?;
             for name in cleared.as_slice() {
@@ -144,7 +150,11 @@ fn the_winner_leaves(rt: HostRuntime) {
         &rt,
         rt.alloc(),
         &[
-            (1, Act::Put("x", &[("a", 1), ("b", 1)]), "added c/x a=1 b=1;"),
+            (
+                1,
+                Act::Put("x", &[("a", 1), ("b", 1)]),
+                "added c/x a=1 b=1;",
+            ),
             (2, Act::Put("x", &[("a", 2), ("c", 2)]), "changed c/x c=2;"),
             (1, Act::Drop, "changed c/x a=2 -b;"),
             (2, Act::Drop, "removed c/x;"),
@@ -204,7 +214,13 @@ fn text_of_plan(merge: &mut MergeBox, alloc: Global, sub: u64) -> Result<String,
     text_of(alloc, plan.messages())
 }
 
-fn planned_and_committed(merge: &mut MergeBox, alloc: Global, sub: u64, id: &str, fields: &[(&str, i64)]) -> Result<(String, String), Mem> {
+fn planned_and_committed(
+    merge: &mut MergeBox,
+    alloc: Global,
+    sub: u64,
+    id: &str,
+    fields: &[(&str, i64)],
+) -> Result<(String, String), Mem> {
     let doc = doc_of(alloc, fields)?;
     let plan = merge.plan(sub, &news_of(alloc, id, Some(doc))?)?;
     let planned = text_of(alloc, plan.messages())?;
@@ -233,7 +249,9 @@ fn a_plan_changes_nothing_by_itself(rt: HostRuntime) {
     }
     let seen = text_of_doc(&merge, alloc, "x").expect(&rt, "memory");
     assert_eq!(rt; seen.as_str(), " a=1");
-    let (planned, committed) = planned_and_committed(&mut merge, alloc, 2, "y", &[("b", 2)]).expect(&rt, "memory");
+    let (planned, committed) = planned_and_committed(&mut merge, alloc, 2, "y", &[("b", 2)]).expect(
+        &rt, "memory",
+    );
     assert_eq!(rt; planned.as_str(), "added c/y b=2;");
     assert_eq!(rt; committed.as_str(), "added c/y b=2;");
     let none = text_of_doc(&merge, alloc, "z").expect(&rt, "memory");
@@ -241,7 +259,9 @@ fn a_plan_changes_nothing_by_itself(rt: HostRuntime) {
 }
 
 const SUBS: usize = 3;
+
 const IDS: [&str; 3] = ["p", "q", "r"];
+
 const NAMES: [&str; 3] = ["a", "b", "c"];
 
 // What a subscription shows of a document: whether it does, and each field's value, 0 where there is none.
@@ -266,8 +286,11 @@ fn since(moments: &[Moment], sub: usize, id: usize, name: usize) -> usize
     requires name { name < 3 }
 {
     let mut first = moments.len();
-    while first > 0 && moments[first - 1][sub][id].values[name] != 0 {
-        first -= 1;
+    for moment in moments.iter().rev() {
+        if moment[sub][id].values[name] == 0 {
+            return first;
+        }
+        first = first.saturating_sub(1);
     }
     first
 }
@@ -310,7 +333,13 @@ fn merged_of(moments: &[Moment], id: usize) -> Shown
 }
 
 // The message from one document to the other, as text.
-fn write_difference(out: &mut String, alloc: Global, id: usize, old: &Shown, new: &Shown) -> Result<(), Mem>
+fn write_difference(
+    out: &mut String,
+    alloc: Global,
+    id: usize,
+    old: &Shown,
+    new: &Shown,
+) -> Result<(), Mem>
     requires { id < 3 }
 {
     if !new.is_shown {
@@ -337,7 +366,11 @@ fn write_difference(out: &mut String, alloc: Global, id: usize, old: &Shown, new
     if old.is_shown && changes.is_empty() {
         return Ok(());
     }
-    out.push_str(if old.is_shown { "changed c/" } else { "added c/" })?;
+    out.push_str(if old.is_shown {
+        "changed c/"
+    } else {
+        "added c/"
+    })?;
     out.push_str(IDS[id])?;
     out.push_str(changes.as_str())?;
     out.push_str(";")?;
@@ -359,7 +392,10 @@ fn doc_shown(alloc: Global, shown: &Shown) -> Result<Option<Doc>, Mem> {
     let mut doc = Doc::new(alloc);
     for name in 0..NAMES.len() {
         if shown.values[name] != 0 {
-            doc.put(Text::from_str(alloc, NAMES[name])?, number(i64::from(shown.values[name])))?;
+            doc.put(
+                Text::from_str(alloc, NAMES[name])?,
+                number(i64::from(shown.values[name])),
+            )?;
         }
     }
     Ok(Some(doc))
@@ -376,7 +412,10 @@ impl Numbers {
         requires { 0 < limit }
         ensures { result < limit }
     {
-        self.state = self.state.wrapping_mul(6364136223846793005).wrapping_add(1442695040888963407);
+        self.state = self
+            .state
+            .wrapping_mul(6364136223846793005)
+            .wrapping_add(1442695040888963407);
         ((self.state >> 33) % limit) as usize
     }
 }
@@ -392,7 +431,12 @@ fn next_shown(numbers: &mut Numbers) -> Shown {
     shown
 }
 
-fn step(merge: &mut MergeBox, alloc: Global, numbers: &mut Numbers, moments: &mut Vec<Moment>) -> Result<(String, String), Mem> {
+fn step(
+    merge: &mut MergeBox,
+    alloc: Global,
+    numbers: &mut Numbers,
+    moments: &mut Vec<Moment>,
+) -> Result<(String, String), Mem> {
     let old = [
         merged_of(moments.as_slice(), 0),
         merged_of(moments.as_slice(), 1),

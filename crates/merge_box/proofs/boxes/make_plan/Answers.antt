@@ -14,5 +14,5 @@ returns-clause-planned c =
     let plan : PlanState = record { sub = c.args.sub; kept = c.in_ok-plan.plan.entries; messages = map message_of c.in_ok-messages.messages } in
     let same = c.plan_news-made.ensures.same in
     plan_is c.args.sub (news_of c.args.news.now) c.args.kept.now.entries box plan same (box_same old box c.requires same c.plan_news-made.ensures.listed c.len-len.ensures.ordered)
-      c.len-planned.ensures.ordered (sorted-union key_order plan.kept box.kept c.len-len.ensures.ordered)
-      c.in_ok-plan.ensures.planned c.in_ok-plan.ensures.room c.in_ok-plan.ensures.listed_here c.in_ok-messages.ensures
+    c.len-planned.ensures.ordered (sorted-union key_order plan.kept box.kept c.len-len.ensures.ordered)
+    c.in_ok-plan.ensures.planned c.in_ok-plan.ensures.room c.in_ok-plan.ensures.listed_here c.in_ok-messages.ensures

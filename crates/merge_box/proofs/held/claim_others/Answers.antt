@@ -26,8 +26,8 @@ loop-name-preserved-then-not-contains_key c =
       done = walk.done ++ (name, value) ∷ [];
       whole = walk_on all walk.done (name, value) (entries c.loop-name.name-iterator) rest walk.whole (ap entries c.in-Some.ensures.steps);
       made = λ f. ap (λ es. at text_cmp es f) c.in_ok-insert.ensures.entries ∙ ap (λ n. at text_cmp (insert_entry text_cmp c.loop-name.made.entries n c.in_ok-claims.claims) f) c.in_ok-copy.ensures ∙
-        claim_next c.args.sub c.args.fields.now.entries c.args.made.now.entries c.loop-name.made.entries all walk.done name value rest
-          (walk.whole ∙ ap (λ l. walk.done ++ l) (ap entries c.in-Some.ensures.steps)) sorted walk.made c.in_ok-claims.claims claims (sym c.if-not-contains_key.ensures) f
+          claim_next c.args.sub c.args.fields.now.entries c.args.made.now.entries c.loop-name.made.entries all walk.done name value rest
+          (walk.whole ∙ ap (λ l. walk.done ++ l) (ap entries c.in-Some.ensures.steps)) sorted walk.made c.in_ok-claims.claims claims (sym c.if-not-contains_key.ensures) f;
     }
 
 pub loop-name-preserved : goal.loop-name-preserved
@@ -44,5 +44,5 @@ loop-name-preserved c =
       done = walk.done ++ (name, value) ∷ [];
       whole = walk_on all walk.done (name, value) (entries c.loop-name.name-iterator) rest walk.whole (ap entries c.in-Some.ensures.steps);
       made = claim_passed c.args.sub c.args.fields.now.entries c.args.made.now.entries c.loop-name.made.entries all walk.done name value rest
-          (walk.whole ∙ ap (λ l. walk.done ++ l) (ap entries c.in-Some.ensures.steps)) sorted walk.made (sym c.if-not-contains_key.ensures)
+          (walk.whole ∙ ap (λ l. walk.done ++ l) (ap entries c.in-Some.ensures.steps)) sorted walk.made (sym c.if-not-contains_key.ensures);
     }

@@ -14,5 +14,5 @@ invariant-loop-name l = record {
   whole : entries l.initial.name-iterator ≡ done ++ entries l.name-iterator;
   made : (f : List ℕ) → at text_cmp l.made.entries f ≡
       cond (is_some (at text_cmp l.fields.entries f)) (at text_cmp l.initial.made.entries f)
-        (option_or (option_map (λ v. (l.sub, v) ∷ []) (at text_cmp done f)) (at text_cmp l.initial.made.entries f))
+      (option_or (option_map (λ v. (l.sub, v) ∷ []) (at text_cmp done f)) (at text_cmp l.initial.made.entries f));
 }

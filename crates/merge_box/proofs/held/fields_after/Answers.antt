@@ -21,5 +21,5 @@ loop-name-preserved c =
       done = walk.done ++ (name, claims) ∷ [];
       whole = walk_on all walk.done (name, claims) c.loop-name.name-iterator rest walk.whole c.in-Some.ensures.steps;
       made = c.in_ok-put_claims.ensures ∙ walk_unless_empty name_order (λ f cs. placed c.args.sub (said (option_copied c.args.doc) f) cs) all walk.done name claims rest c.loop-name.made.entries c.in_ok-placed.placed
-        (walk.whole ∙ ap (λ l. walk.done ++ l) c.in-Some.ensures.steps) walk.made sorted (c.in_ok-placed.ensures ∙ ap (λ w. placed c.args.sub w claims) c.value_in.ensures)
+          (walk.whole ∙ ap (λ l. walk.done ++ l) c.in-Some.ensures.steps) walk.made sorted (c.in_ok-placed.ensures ∙ ap (λ w. placed c.args.sub w claims) c.value_in.ensures);
     }

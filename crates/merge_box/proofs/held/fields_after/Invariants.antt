@@ -12,5 +12,5 @@ invariant-loop-name l = record {
   is_finite : goal.iterator-loop-name.is_finite l.name-iterator;
   done : List (List ℕ × List (ℕ × Val));
   whole : l.initial.name-iterator ≡ done ++ l.name-iterator;
-  made : l.made.entries ≡ filter_map_entries (λ f claims. unless_empty (placed l.sub (said (option_copied l.doc) f) claims)) done
+  made : l.made.entries ≡ filter_map_entries (λ f claims. unless_empty (placed l.sub (said (option_copied l.doc) f) claims)) done;
 }

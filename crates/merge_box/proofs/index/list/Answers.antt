@@ -1,4 +1,4 @@
-use Rattle.std.proofs.Common.{true, cond, is_some, ap, sym, ◌∙◌}
+use Rattle.std.proofs.Common.{is_some, ap, sym, ◌∙◌}
 use Rattle.std.specs.Ordering.{is_eq}
 use Rattle.std.specs.List.{list_any}
 use Rattle.std.specs.Ordering.{eq_by_cmp}
@@ -12,7 +12,7 @@ returns-in_err-_new-in-Some-clause-kept c =
     let old = c.args.index.now.entries in
     let found = c.in-Some.ensures.value in
     listed_stays old (c.get_mut.follows.lender c.insert.new.self).entries c.args.sub c.insert.new.self ((c.get_mut.follows.holds c.insert.new.self).3 (ap is_some (sym found))).0
-      (λ k was. ap (list_any (eq_by_cmp key_cmp k)) c.in_err-_new-in-Some.ensures.err ∙ sym (found_listed old c.args.sub c.in-Some.keys.now found k) ∙ was)
+    (λ k was. ap (list_any (eq_by_cmp key_cmp k)) c.in_err-_new-in-Some.ensures.err ∙ sym (found_listed old c.args.sub c.in-Some.keys.now found k) ∙ was)
 
 pub returns-in_ok-_new-in-Some-clause-listed : goal.returns-in_ok-_new-in-Some-clause-listed
 returns-in_ok-_new-in-Some-clause-listed c =
@@ -26,4 +26,4 @@ returns-in_ok-_new-in-Some-clause-kept c =
     let old = c.args.index.now.entries in
     let found = c.in-Some.ensures.value in
     listed_stays old (c.get_mut.follows.lender c.insert.new.self).entries c.args.sub c.insert.new.self ((c.get_mut.follows.holds c.insert.new.self).3 (ap is_some (sym found))).0
-      (λ k was. c.in_ok-_new-in-Some.ensures.updates.0 k ∙ stays_added (is_eq (key_cmp c.in_ok-key.key k)) _ (sym (found_listed old c.args.sub c.in-Some.keys.now found k) ∙ was))
+    (λ k was. c.in_ok-_new-in-Some.ensures.updates.0 k ∙ stays_added (is_eq (key_cmp c.in_ok-key.key k)) _ (sym (found_listed old c.args.sub c.in-Some.keys.now found k) ∙ was))

@@ -1,4 +1,3 @@
-use Rattle.std.proofs.Common.{sym, ◌∙◌}
 use Rattle.merge_box.proofs.Listing.{none_listed}
 use Rattle.merge_box.proofs.index.lists_nothing.Goals as goal
 

@@ -1,5 +1,4 @@
-use Rattle.std.proofs.Common.{◌∷◌, [], ◌++◌, map, option_to_list, option_map, ap, ap₂, sym, ◌∙◌}
-use Rattle.map_model.specs.Maps.{filter_map_entries}
+use Rattle.std.proofs.Common.{◌∷◌, [], ◌++◌, map, ap, ◌∙◌}
 use Rattle.map_model.specs.Differences.{between}
 use Rattle.merge_model.specs.Kept.{kept_at, merged_doc}
 use Rattle.value_model.specs.Order.{text_cmp}
@@ -21,5 +20,5 @@ loop-key-preserved c =
       done = walk.done ++ (key, held) ∷ [];
       whole = walk_on c.into_iter-key-iterator.result walk.done (key, held) c.loop-key.key-iterator c.next.new.self walk.whole c.in-Some.ensures.steps;
       made = ap (map message_of) c.in_ok-push_message.ensures
-        ∙ message_next (λ k e. between text_cmp same_value (merged_doc (kept_at key_cmp c.args.kept.now.entries k)) (merged_doc e)) walk.done key held c.loop-key.messages c.in_ok-message.message walk.made c.in_ok-message.ensures
+          ∙ message_next (λ k e. between text_cmp same_value (merged_doc (kept_at key_cmp c.args.kept.now.entries k)) (merged_doc e)) walk.done key held c.loop-key.messages c.in_ok-message.message walk.made c.in_ok-message.ensures;
     }

@@ -15,5 +15,5 @@ invariant-loop-key l = record {
   is_finite : goal.iterator-loop-key.is_finite l.key-iterator;
   done : KeptDocs;
   whole : l.initial.key-iterator ≡ done ++ l.key-iterator;
-  made : map message_of l.messages ≡ filter_map_entries (λ k held. between text_cmp same_value (merged_doc (kept_at key_cmp l.kept.entries k)) (merged_doc held)) done
+  made : map message_of l.messages ≡ filter_map_entries (λ k held. between text_cmp same_value (merged_doc (kept_at key_cmp l.kept.entries k)) (merged_doc held)) done;
 }

@@ -1,4 +1,4 @@
-use Rattle.std.proofs.Common.{take, ap, sym, ◌∙◌}
+use Rattle.std.proofs.Common.{◌∙◌}
 use Rattle.merge_box.proofs.Plans.{news_step, planned_step, room_step, listed_step}
 use Rattle.merge_box.proofs.plan.plan_news.Goals as goal
 
@@ -15,5 +15,5 @@ loop-publish-preserved c =
       listed = λ s k was. c.plan_publish.ensures.listed s k (before.listed s k was);
       planned = planned_step c.args.sub c.args.kept.now.entries c.loop-publish.kept.entries c.loop-publish.plan.entries c.plan_publish.new.plan.entries news i p more before.same before.planned step.planned step.after step.whole;
       room = room_step c.loop-publish.kept.entries c.plan_publish.new.kept.entries c.loop-publish.plan.entries c.plan_publish.new.plan.entries p.key before.room c.plan_publish.ensures.grows step.room step.planned;
-      listed_here = listed_step c.args.sub c.loop-publish.index.entries c.plan_publish.new.index.entries news i p more before.listed_here c.plan_publish.ensures.listed step.listed_here
+      listed_here = listed_step c.args.sub c.loop-publish.index.entries c.plan_publish.new.index.entries news i p more before.listed_here c.plan_publish.ensures.listed step.listed_here;
     }

@@ -14,5 +14,5 @@ invariant-loop-publish l = record {
   listed : (s : ℕ) (k : Key) → is_listed (lists_of l.initial.index.entries) s k ≡ true → is_listed (lists_of l.index.entries) s k ≡ true;
   planned : (k : Key) → IsPlannedAt l.sub (last_news key_cmp (news_of (take l.publish-index l.news)) k) (kept_at key_cmp l.initial.kept.entries k) (at key_cmp l.plan.entries k);
   room : (k : Key) → IsSome (at key_cmp l.plan.entries k) → IsSome (at key_cmp l.kept.entries k);
-  listed_here : (k : Key) → IsPublished (last_news key_cmp (news_of (take l.publish-index l.news)) k) → is_listed (lists_of l.index.entries) l.sub k ≡ true
+  listed_here : (k : Key) → IsPublished (last_news key_cmp (news_of (take l.publish-index l.news)) k) → is_listed (lists_of l.index.entries) l.sub k ≡ true;
 }

@@ -22,5 +22,5 @@ loop-key-preserved c =
       whole = whole_left plan rest key held updates before.whole;
       held = held_step plan old new key held value put.kept before.whole before.held;
       planned_listed = planned_listed_step plan rest key held updates index left before.planned_listed c.unlist_unpublished.ensures;
-      listed = kept_listed_step plan old new key held value put.kept index left before.planned_listed before.listed c.unlist_unpublished.ensures
+      listed = kept_listed_step plan old new key held value put.kept index left before.planned_listed before.listed c.unlist_unpublished.ensures;
     }

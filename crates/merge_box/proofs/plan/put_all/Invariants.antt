@@ -15,7 +15,7 @@ invariant-loop-key l = record {
   whole : (k : Key) (e : KeptDoc) → at key_cmp l.plan.entries k ≡ Some e → IsHeld e;
   held : (k : Key) → IsHeld (kept_at key_cmp l.kept.entries k);
   planned_listed : (k : Key) (e : KeptDoc) (s : ℕ) → at key_cmp l.plan.entries k ≡ Some e → has s e.publishers ≡ true → is_listed (lists_of l.index.entries) s k ≡ true;
-  listed : (k : Key) (s : ℕ) → has s (publishers_at key_cmp l.kept.entries k) ≡ true → is_listed (lists_of l.index.entries) s k ≡ true
+  listed : (k : Key) (s : ℕ) → has s (publishers_at key_cmp l.kept.entries k) ≡ true → is_listed (lists_of l.index.entries) s k ≡ true;
 }
 
 abbrev pub decreases-loop-key : goal.decreases-loop-key

@@ -1,6 +1,5 @@
-use Rattle.std.proofs.Common.{None, Some, cond, ap, sym, ◌∙◌}
+use Rattle.std.proofs.Common.{None, cond, ap, sym, ◌∙◌}
 use Rattle.merge_model.specs.Publishing.{last_news}
-use Rattle.value_model.specs.Val.{Entries}
 use Rattle.ejson_value.specs.Key.{key_cmp}
 use Rattle.merge_box.specs.State.{news_of}
 use Rattle.merge_box.proofs.Listing.{found_listed, nothing_listed}

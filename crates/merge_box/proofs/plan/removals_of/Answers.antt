@@ -1,7 +1,4 @@
-use Rattle.std.proofs.Common.{◌∷◌, [], ◌++◌, None, map, ap, ap₂, sym, ◌∙◌}
-use Rattle.std.proofs.lemmas.List.{map-append}
-use Rattle.value_model.specs.Val.{Entries}
-use Rattle.ejson_value.specs.declared.key.Key.{Key}
+use Rattle.std.proofs.Common.{◌∷◌, [], ◌++◌, None, ap, ap₂, ◌∙◌}
 use Rattle.merge_box.specs.State.{news_of}
 use Rattle.merge_box.proofs.Walks.{walk_on, walk_end}
 use Rattle.merge_box.proofs.Plans.{news_push, gone_push, removed}
@@ -17,7 +14,7 @@ loop-key-preserved c =
       done = walk.done ++ key ∷ [];
       whole = walk_on c.into_iter-key-iterator.result walk.done key c.loop-key.key-iterator c.next.new.self walk.whole c.in-Some.ensures.steps;
       made = ap news_of c.in_ok-push.ensures.ok ∙ news_push c.loop-key.news (record { key = c.in_ok-key.key; new = None })
-        ∙ ap₂ (λ es k. es ++ (k, None) ∷ []) walk.made c.in_ok-key.ensures ∙ gone_push walk.done key
+          ∙ ap₂ (λ es k. es ++ (k, None) ∷ []) walk.made c.in_ok-key.ensures ∙ gone_push walk.done key;
     }
 
 pub returns : goal.returns

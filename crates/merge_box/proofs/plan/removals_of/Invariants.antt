@@ -9,5 +9,5 @@ invariant-loop-key l = record {
   is_finite : goal.iterator-loop-key.is_finite l.key-iterator;
   done : List Key;
   whole : l.initial.key-iterator ≡ done ++ l.key-iterator;
-  made : news_of l.news ≡ map (λ k. (k, None)) done
+  made : news_of l.news ≡ map (λ k. (k, None)) done;
 }

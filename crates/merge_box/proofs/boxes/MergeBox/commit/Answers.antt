@@ -1,8 +1,8 @@
-use Rattle.std.proofs.Common.{◌≡◌, IsSome, unwrap_or, subst₂, sym, ap, ap₂, ◌∙◌}
+use Rattle.std.proofs.Common.{unwrap_or, subst₂, sym, ap₂, ◌∙◌}
 use Rattle.merge_model.specs.Kept.{kept_at}
 use Rattle.map_model.specs.Maps.{at}
 use Rattle.ejson_value.specs.Key.{key_cmp}
-use Rattle.merge_box.specs.State.{planned, IsReady}
+use Rattle.merge_box.specs.State.{IsReady}
 use Rattle.merge_box.specs.Committed.{kept_at-planned}
 use Rattle.merge_box.proofs.boxes.MergeBox.commit.Goals as goal
 

@@ -1,7 +1,4 @@
-use Rattle.std.proofs.Common.{[], sym, subst₂}
-use Rattle.map_model.specs.MapLaws.{sorted-nil}
-use Rattle.value_model.specs.Order.{text_cmp}
-use Rattle.ejson_value.specs.Key.{key_cmp}
+use Rattle.std.proofs.Common.{sym, subst₂}
 use Rattle.merge_box.specs.Index.{lists_of}
 use Rattle.merge_box.specs.State.{IsBox}
 use Rattle.merge_box.proofs.MakePlan.{empty_box}

@@ -12,5 +12,5 @@ returns-clause-planned c =
     let box : BoxState = record { kept = c.make_plan.new.kept.entries; listed = lists_of c.make_plan.new.index.entries } in
     let news = news_of c.as_slice.result.now in
     map_ok c.make_plan.result (IsPlan (apply c.args.sub news) box) (IsPlan (drop_sub c.args.sub) box)
-      (λ plan is. drop_is c.args.sub news old box plan c.self.invariant c.make_plan.ensures.same (λ k. ap (λ n. last_news key_cmp (news_of n) k) c.as_slice.ensures ∙ c.in_ok-news.ensures k) is)
-      c.make_plan.ensures.planned
+    (λ plan is. drop_is c.args.sub news old box plan c.self.invariant c.make_plan.ensures.same (λ k. ap (λ n. last_news key_cmp (news_of n) k) c.as_slice.ensures ∙ c.in_ok-news.ensures k) is)
+    c.make_plan.ensures.planned

@@ -1,4 +1,4 @@
-use Rattle.std.proofs.Common.{ℕ, ◌==◌, not, cond, List, [], ◌∷◌, ◌++◌, filter, is_some, option_copied, ap₂, subst, ◌∙◌}
+use Rattle.std.proofs.Common.{◌==◌, not, cond, [], ◌∷◌, ◌++◌, filter, option_copied, ap₂, subst, ◌∙◌}
 use Rattle.merge_box.specs.Held.{KeptDoc, IsKeptAfter}
 use Rattle.merge_box.proofs.KeptAfter.{kept_after_of, held_after, is_some-copied}
 use Rattle.merge_box.proofs.held.Held.after.Goals as goal

@@ -23,8 +23,8 @@ loop-name-preserved c =
       done = walk.done ++ (name, claims) ∷ [];
       whole = walk_on all walk.done (name, claims) c.loop-name.name-iterator rest walk.whole c.in-Some.ensures.steps;
       made = c.in_ok-push_unseen.ensures
-        ∙ ap (λ w. c.loop-name.names ++ keys_of (keyed name (gone seen name w) [])) c.first.ensures
-        ∙ walk_keys (λ f cs. gone seen f (first_value cs)) walk.done name claims c.loop-name.names (gone seen name (first_value claims)) walk.made refl
+          ∙ ap (λ w. c.loop-name.names ++ keys_of (keyed name (gone seen name w) [])) c.first.ensures
+          ∙ walk_keys (λ f cs. gone seen f (first_value cs)) walk.done name claims c.loop-name.names (gone seen name (first_value claims)) walk.made refl;
     }
 
 pub returns : goal.returns

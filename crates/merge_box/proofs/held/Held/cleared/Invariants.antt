@@ -12,5 +12,5 @@ invariant-loop-name l = record {
   is_finite : goal.iterator-loop-name.is_finite l.name-iterator;
   done : List (List ℕ × List (ℕ × Val));
   whole : l.initial.name-iterator ≡ done ++ l.name-iterator;
-  made : l.names ≡ keys_of (filter_map_entries (λ f claims. gone (merged_fields l.after.fields) f (first_value claims)) done)
+  made : l.names ≡ keys_of (filter_map_entries (λ f claims. gone (merged_fields l.after.fields) f (first_value claims)) done);
 }

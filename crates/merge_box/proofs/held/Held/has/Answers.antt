@@ -8,10 +8,10 @@ use Rattle.merge_box.proofs.held.Held.has.Goals as goal
 pub returns-in-None : goal.returns-in-None
 returns-in-None c =
     sym (ap (λ e. is_some (at text_cmp (merged_fields e.fields) c.args.name.now)) (sym c.self.view_is)
-      ∙ ap is_some (at-merged_fields c.self.inside.fields.entries c.args.name.now None c.self.invariant.by_name (sym c.in-None.ensures.value)))
+    ∙ ap is_some (at-merged_fields c.self.inside.fields.entries c.args.name.now None c.self.invariant.by_name (sym c.in-None.ensures.value)))
 
 pub returns-in-Some : goal.returns-in-Some
 returns-in-Some c =
     c.is_some.ensures ∙ is_some-viewed c.first.result ∙ ap is_some c.first.ensures
     ∙ sym (ap (λ e. is_some (at text_cmp (merged_fields e.fields) c.args.name.now)) (sym c.self.view_is)
-      ∙ ap is_some (at-merged_fields c.self.inside.fields.entries c.args.name.now (Some c.in-Some.claims.now) c.self.invariant.by_name (sym c.in-Some.ensures.value)))
+    ∙ ap is_some (at-merged_fields c.self.inside.fields.entries c.args.name.now (Some c.in-Some.claims.now) c.self.invariant.by_name (sym c.in-Some.ensures.value)))

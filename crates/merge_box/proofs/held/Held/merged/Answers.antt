@@ -20,7 +20,7 @@ loop-name-preserved-in-None-first c =
       is_finite = tt;
       done = walk.done ++ (name, claims) ∷ [];
       whole = walk_on all walk.done (name, claims) c.loop-name.name-iterator rest walk.whole c.in-Some.ensures.steps;
-      made = walk_pass name_order (λ f cs. first_value cs) all walk.done name claims rest c.loop-name.doc (walk.whole ∙ ap (λ l. walk.done ++ l) c.in-Some.ensures.steps) walk.made (sym c.in-None-first.ensures)
+      made = walk_pass name_order (λ f cs. first_value cs) all walk.done name claims rest c.loop-name.doc (walk.whole ∙ ap (λ l. walk.done ++ l) c.in-Some.ensures.steps) walk.made (sym c.in-None-first.ensures);
     }
 
 pub loop-name-preserved : goal.loop-name-preserved
@@ -37,7 +37,7 @@ loop-name-preserved c =
       done = walk.done ++ (name, claims) ∷ [];
       whole = walk_on all walk.done (name, claims) c.loop-name.name-iterator rest walk.whole c.in-Some.ensures.steps;
       made = c.in_ok-put-in-Some-first.ensures.ok
-        ∙ ap (λ n. put c.loop-name.doc n (view c.in_ok-copy-in-Some-first-2.field-0)) c.in_ok-copy-in-Some-first.ensures
-        ∙ walk_put name_order (λ f cs. first_value cs) all walk.done name claims rest c.loop-name.doc (walk.whole ∙ ap (λ l. walk.done ++ l) c.in-Some.ensures.steps) walk.made (view c.in_ok-copy-in-Some-first-2.field-0) sorted
-          (sym c.in-Some-first.ensures ∙ ap Some (sym c.in_ok-copy-in-Some-first-2.ensures))
+          ∙ ap (λ n. put c.loop-name.doc n (view c.in_ok-copy-in-Some-first-2.field-0)) c.in_ok-copy-in-Some-first.ensures
+          ∙ walk_put name_order (λ f cs. first_value cs) all walk.done name claims rest c.loop-name.doc (walk.whole ∙ ap (λ l. walk.done ++ l) c.in-Some.ensures.steps) walk.made (view c.in_ok-copy-in-Some-first-2.field-0) sorted
+          (sym c.in-Some-first.ensures ∙ ap Some (sym c.in_ok-copy-in-Some-first-2.ensures));
     }

@@ -9,5 +9,5 @@ invariant-loop-name l = record {
   is_finite : goal.iterator-loop-name.is_finite l.name-iterator;
   done : List (List ℕ × List (ℕ × Val));
   whole : l.initial.name-iterator ≡ done ++ l.name-iterator;
-  made : l.doc ≡ merged_fields done
+  made : l.doc ≡ merged_fields done;
 }

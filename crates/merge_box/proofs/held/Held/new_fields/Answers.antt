@@ -24,8 +24,8 @@ loop-name-preserved c =
       done = walk.done ++ (name, claims) ∷ [];
       whole = walk_on all walk.done (name, claims) c.loop-name.name-iterator rest walk.whole c.in-Some.ensures.steps;
       made = c.in_ok-put_unseen.ensures
-        ∙ ap (λ w. put_some text_cmp c.loop-name.doc name (unseen seen name w)) c.first.ensures
-        ∙ walk_put_some name_order (λ f cs. unseen seen f (first_value cs)) all walk.done name claims rest c.loop-name.doc (unseen seen name (first_value claims)) (walk.whole ∙ ap (λ l. walk.done ++ l) c.in-Some.ensures.steps) walk.made sorted refl
+          ∙ ap (λ w. put_some text_cmp c.loop-name.doc name (unseen seen name w)) c.first.ensures
+          ∙ walk_put_some name_order (λ f cs. unseen seen f (first_value cs)) all walk.done name claims rest c.loop-name.doc (unseen seen name (first_value claims)) (walk.whole ∙ ap (λ l. walk.done ++ l) c.in-Some.ensures.steps) walk.made sorted refl;
     }
 
 pub returns : goal.returns

@@ -11,5 +11,5 @@ invariant-loop-name l = record {
   is_finite : goal.iterator-loop-name.is_finite l.name-iterator;
   done : List (List ℕ × List (ℕ × Val));
   whole : l.initial.name-iterator ≡ done ++ l.name-iterator;
-  made : l.doc ≡ filter_map_entries (λ f claims. unseen (merged_fields l.before.fields) f (first_value claims)) done
+  made : l.doc ≡ filter_map_entries (λ f claims. unseen (merged_fields l.before.fields) f (first_value claims)) done;
 }
