@@ -1,5 +1,5 @@
 -- What is kept of a document after a subscription's news.
-use Rattle.std.proofs.Common.{◌≡◌, ℕ, ◌==◌, Bool, true, false, cond, not, ◌||◌, List, [], ◌∷◌, ◌++◌, filter, Option, Some, None, option_map, option_and_then, option_copied, is_some, IsSome, unwrap_or, refl, sym, ap, ap₂, subst, ◌∙◌, true≢false}
+use Rattle.std.proofs.Common.{◌≡◌, ℕ, ◌==◌, Bool, true, false, cond, not, ◌||◌, List, [], ◌∷◌, ◌++◌, filter, Option, Some, None, option_map, option_and_then, option_copied, is_some, unwrap_or, refl, sym, ap, subst, ◌∙◌}
 use Rattle.std.specs.Option.{option_or}
 use Rattle.std.specs.Borrow.{Bor}
 use Rattle.std.specs.Ordering.{eq_by_cmp, is_eq}
@@ -7,16 +7,16 @@ use Rattle.std.specs.Map.{keys_of}
 use Rattle.std.specs.BTreeMap.{insert_entry}
 use Rattle.std.specs.declared.cmp.Ordering.{Ordering}
 use Rattle.std.proofs.lemmas.List.{map-append}
-use Rattle.map_model.specs.Maps.{at, IsSorted, IsKeyOrder, filter_map_entries}
-use Rattle.map_model.specs.MapLaws.{at-put, key_is, eq_by_cmp-self, at-filter_map_entries}
+use Rattle.map_model.specs.Maps.{at, IsSorted, filter_map_entries}
+use Rattle.map_model.specs.MapLaws.{at-put, key_is, at-filter_map_entries}
 use Rattle.map_model.specs.Orders.{IsAbove}
 use Rattle.map_model.specs.OrderLaws.{IsAbove-from_sorted}
 use Rattle.map_model.specs.Differences.{is_there}
 use Rattle.value_model.specs.Val.{Val, Entries}
 use Rattle.value_model.specs.Order.{text_cmp}
-use Rattle.merge_model.specs.Kept.{Kept, has, claimed, placed, is_empty, claims_of, claims_after, there_after, merged_fields, first_value}
+use Rattle.merge_model.specs.Kept.{has, claimed, placed, claims_of, merged_fields, first_value}
 use Rattle.merge_model.specs.Box.{unless_empty}
-use Rattle.merge_model.specs.PublishingLaws.{same_sub, sub-self, apart, differ}
+use Rattle.merge_model.specs.PublishingLaws.{same_sub, apart, differ}
 use Rattle.merge_model.specs.CellLaws.{claimed-placed}
 use Rattle.ejson_value.specs.declared.value.Value.{Value}
 use Rattle.ejson_value.specs.View.{view}

@@ -1,14 +1,13 @@
 -- What is listed after one subscription's keys change.
-use Rattle.std.proofs.Common.{◌≡◌, ℕ, arith, length, ◌==◌, Bool, true, false, cond, ◌&&◌, List, [], ◌∷◌, Option, Some, None, is_some, unwrap_or, refl, sym, ap, ap₂, subst, ◌∙◌, true≢false, nat_cmp}
+use Rattle.std.proofs.Common.{◌≡◌, ℕ, arith, length, ◌==◌, Bool, true, false, cond, ◌&&◌, List, [], ◌∷◌, Option, Some, None, unwrap_or, refl, sym, ap, ap₂, ◌∙◌, true≢false, nat_cmp}
 use Rattle.std.specs.List.{list_any}
 use Rattle.std.specs.Ordering.{eq_by_cmp, is_eq}
 use Rattle.std.specs.BTreeSet.{BTreeSet, contains}
-use Rattle.std.specs.BTreeMap.{is_at}
 use Rattle.std.proofs.lemmas.Cmp.{nat_cmp_total, eq_by_cmp_equiv}
 use Rattle.std.proofs.lemmas.Map.Lookups.{exact_unsigned}
 use Rattle.map_model.specs.Maps.{at, IsKeyOrder}
 use Rattle.map_model.specs.MapLaws.{key_is, eq_by_cmp-self}
-use Rattle.merge_model.specs.PublishingLaws.{same_sub, sub-self, apart, differ}
+use Rattle.merge_model.specs.PublishingLaws.{same_sub, sub-self, apart}
 use Rattle.ejson_value.specs.declared.key.Key.{Key}
 use Rattle.ejson_value.specs.Key.{key_cmp, key_order}
 use Rattle.merge_box.specs.Index.{lists_of, is_listed}

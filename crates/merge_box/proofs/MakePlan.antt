@@ -1,23 +1,23 @@
 -- What is planned for each document is a plan of the call.
-use Rattle.std.proofs.Common.{◌≡◌, ℕ, ◌==◌, Bool, true, false, cond, not, List, [], ◌∷◌, filter, Option, Some, None, is_some, IsSome, IfSome, option_and_then, unwrap_or, Result, Ok, Err, IfOk, refl, sym, ap, ap₂, subst, ◌∙◌, true≢false}
+use Rattle.std.proofs.Common.{◌≡◌, ℕ, ◌==◌, Bool, true, false, cond, not, List, [], ◌∷◌, Option, Some, None, is_some, IsSome, IfSome, option_and_then, unwrap_or, Result, Ok, Err, IfOk, refl, sym, ap, ap₂, subst, ◌∙◌, true≢false}
 use Rattle.std.specs.Ordering.{is_eq}
 use Rattle.map_model.specs.Maps.{at, IsSorted, filter_map_entries}
 use Rattle.map_model.specs.MapLaws.{at-filter_map_entries, sorted-filter_map_entries, sorted-nil}
 use Rattle.map_model.specs.Differences.{Step, between}
 use Rattle.map_model.specs.DifferenceLaws.{between_itself}
 use Rattle.value_model.specs.Val.{Val, Entries}
-use Rattle.value_model.specs.Order.{text_cmp, compare}
+use Rattle.value_model.specs.Order.{text_cmp}
 use Rattle.value_model.specs.OrderLaws.{compare_itself}
 use Rattle.merge_model.specs.Publishing.{apply, drop_sub, last_news}
-use Rattle.merge_model.specs.PublishingLaws.{same_sub, sub-self, apart, differ}
-use Rattle.merge_model.specs.Kept.{has, is_empty, claimed, placed, first_value, merged, merged_doc, kept_at, publishers_at, there_after, claims_of, claims_after}
+use Rattle.merge_model.specs.PublishingLaws.{same_sub}
+use Rattle.merge_model.specs.Kept.{has, is_empty, claimed, placed, first_value, merged_doc, kept_at, publishers_at, there_after, claims_of, claims_after}
 use Rattle.merge_model.specs.KeptLaws.{at-merged}
 use Rattle.ejson_value.specs.declared.key.Key.{Key}
 use Rattle.ejson_value.specs.Key.{key_cmp, key_order}
 use Rattle.merge_box.specs.Names.{name_order}
-use Rattle.merge_box.specs.Held.{KeptDoc, same_value, IsHeld, IsKeptAfter}
-use Rattle.merge_box.specs.Index.{Lists, is_listed}
-use Rattle.merge_box.specs.State.{KeptDocs, BoxState, PlanState, KeepsSame, planned, IsPlannedAt, IsPublished, IsBoxAfter, Tells, IsReady, IsPlan, IsBox, IsWhole}
+use Rattle.merge_box.specs.Held.{KeptDoc, same_value, IsHeld}
+use Rattle.merge_box.specs.Index.{is_listed}
+use Rattle.merge_box.specs.State.{KeptDocs, BoxState, PlanState, KeepsSame, planned, IsPlannedAt, IsPublished, Tells, IsPlan, IsBox, IsWhole}
 use Rattle.merge_box.specs.Committed.{kept_at-planned}
 
 -- one document of a plan

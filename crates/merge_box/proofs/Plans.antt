@@ -1,5 +1,5 @@
 -- What a plan makes of the documents, and what is kept once it is carried out.
-use Rattle.std.proofs.Common.{◌≡◌, ℕ, zero, suc, ◌+◌, ◌<◌, arith, add-one, length, get_or, take, option_map, option_to_list, ◌==◌, Bool, true, false, cond, not, ◌&&◌, ◌||◌, ◌++◌, List, [], ◌∷◌, map, Option, Some, None, is_some, IsSome, unwrap_or, refl, sym, ap, ap₂, subst, ◌∙◌, true≢false}
+use Rattle.std.proofs.Common.{◌≡◌, ℕ, zero, suc, ◌+◌, ◌<◌, arith, add-one, length, get_or, take, option_map, option_to_list, Bool, true, false, cond, ◌||◌, ◌++◌, List, [], ◌∷◌, map, Option, Some, None, is_some, IsSome, unwrap_or, refl, sym, ap, ap₂, subst, ◌∙◌, true≢false}
 use Rattle.std.specs.Option.{option_or}
 use Rattle.std.specs.List.{list_any}
 use Rattle.std.specs.BTreeSet.{BTreeSet}
@@ -22,7 +22,7 @@ use Rattle.ejson_value.specs.declared.key.Key.{Key}
 use Rattle.ejson_value.specs.Key.{key_cmp, key_order}
 use Rattle.merge_box.specs.Held.{KeptDoc, IsHeld, IsKeptAfter}
 use Rattle.merge_box.specs.State.{KeptDocs, KeepsSame, IsPlannedAt, IsPublished, news_of}
-use Rattle.merge_box.proofs.Listing.{either_way, found_listed}
+use Rattle.merge_box.proofs.Listing.{either_way}
 
 -- a place with nothing in it
 module _ (old new : KeptDocs) (key : Key) (none : is_some (at key_cmp old key) ≡ false) (change : (k : Key) → at key_cmp new k ≡ cond (is_eq (key_cmp key k)) (Some nothing_kept) (at key_cmp old k)) where

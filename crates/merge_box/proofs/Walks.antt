@@ -1,13 +1,10 @@
 -- Walks in order over the fields that are kept of a document: what is made of the fields so far, with the next one.
-use Rattle.std.proofs.Common.{◌≡◌, ℕ, Bool, true, false, cond, not, filter, List, [], ◌∷◌, ◌++◌, Option, Some, None, option_map, option_and_then, is_some, refl, sym, ap, ap₂, subst, ◌∙◌, append_assoc, append-nil}
-use Rattle.std.specs.Option.{option_or}
+use Rattle.std.proofs.Common.{◌≡◌, Bool, true, false, cond, filter, List, [], ◌∷◌, ◌++◌, Option, Some, None, refl, sym, ap, ap₂, subst, ◌∙◌, append_assoc, append-nil}
 use Rattle.std.specs.declared.cmp.Ordering.{Ordering}
-use Rattle.std.specs.Ordering.{eq_by_cmp}
 use Rattle.std.specs.BTreeMap.{insert_entry}
 use Rattle.std.specs.Map.{keys_of}
 use Rattle.std.proofs.lemmas.List.{map-append}
-use Rattle.map_model.specs.Maps.{at, IsSorted, IsKeyOrder, keyed, filter_map_entries}
-use Rattle.map_model.specs.MapLaws.{at-put, is_some-at, key_is}
+use Rattle.map_model.specs.Maps.{IsSorted, IsKeyOrder, keyed, filter_map_entries}
 use Rattle.map_model.specs.OrderLaws.{put_next, pass_next, filter_map_entries-append}
 use Rattle.merge_model.specs.Kept.{is_empty}
 use Rattle.merge_model.specs.Box.{unless_empty}

@@ -1,22 +1,22 @@
 -- What holds once a plan is carried out.
-use Rattle.std.specs.Prelude.{◌≡◌, ℕ, List, [], ◌∷◌, Option, Some, None, unwrap_or, refl}
+use Rattle.std.specs.Prelude.{◌≡◌, ◌∷◌, Option, Some, None, unwrap_or, refl}
 use Rattle.std.specs.Option.{option_or}
-use Rattle.std.proofs.Common.{sym, ap, ap₂, ◌∙◌, subst, subst₂}
-use Rattle.map_model.specs.Maps.{at, IsSorted, IsKeyOrder, union}
+use Rattle.std.proofs.Common.{sym, ap, ap₂, ◌∙◌}
+use Rattle.map_model.specs.Maps.{at, IsSorted}
 use Rattle.map_model.specs.MapLaws.{at-union, sorted-union, sorted-filter_map_entries}
 use Rattle.map_model.specs.Differences.{between, diff}
 use Rattle.map_model.specs.DifferenceLaws.{one_diff, diff_is}
-use Rattle.value_model.specs.Val.{Val, Entries}
+use Rattle.value_model.specs.Val.{Entries}
 use Rattle.value_model.specs.Order.{text_cmp}
 use Rattle.merge_model.specs.Publishing.{Call, sub_of, says, shown, shown_since}
-use Rattle.merge_model.specs.Kept.{has, merged, merged_doc, kept_at, publishers_at, nothing_kept, there_after, claims_of, claims_after, claims_at, IsInOrder}
+use Rattle.merge_model.specs.Kept.{has, merged, merged_doc, kept_at, nothing_kept, there_after, claims_of, claims_after, IsInOrder}
 use Rattle.merge_model.specs.MergeLaws.{one_merge}
 use Rattle.merge_model.specs.KeptLaws.{at-merged, merged_is, stands_after}
 use Rattle.ejson_value.specs.declared.key.Key.{Key}
 use Rattle.ejson_value.specs.Key.{key_cmp, key_order}
 use Rattle.merge_box.specs.Names.{name_order}
-use Rattle.merge_box.specs.Held.{KeptDoc, same_value, IsHeld}
-use Rattle.merge_box.specs.State.{KeptDocs, Told, Calls, BoxState, PlanState, KeepsSame, planned, IsBoxAfter, Tells, Answers, IsPlan, IsBox, IsMergeOf, StandsFor}
+use Rattle.merge_box.specs.Held.{KeptDoc, same_value}
+use Rattle.merge_box.specs.State.{KeptDocs, Told, BoxState, PlanState, KeepsSame, planned, IsBoxAfter, Tells, Answers, IsPlan, IsBox}
 
 kept_or : (x y : Option KeptDoc) → unwrap_or (option_or x y) nothing_kept ≡ unwrap_or x (unwrap_or y nothing_kept)
 kept_or None y = refl

@@ -1,5 +1,5 @@
 -- What contracts see of a merge box and of a plan, and what a call does to a box.
-use Rattle.std.specs.Prelude.{◌≡◌, ℕ, true, List, [], ◌∷◌, map, Option, Some, None, IsSome}
+use Rattle.std.specs.Prelude.{◌≡◌, ℕ, true, List, ◌∷◌, map, Option, Some, None, IsSome}
 use Rattle.std.specs.Option.{option_flatten}
 use Rattle.map_model.specs.Maps.{at, IsSorted, union}
 use Rattle.map_model.specs.Differences.{Step, IsDiff, diff}

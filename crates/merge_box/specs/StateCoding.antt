@@ -4,9 +4,8 @@ use Rattle.std.specs.Coded.{Coded, code_by, coded×, coded_list, coded_ℕ}
 use Rattle.map_model.specs.Differences.{Step, added, changed, removed}
 use Rattle.value_model.specs.Val.{Val, Entries}
 use Rattle.value_model.specs.Coding.{entries_code}
-use Rattle.ejson_value.specs.declared.key.Key.{Key}
 use Rattle.ejson_value.specs.Key.{key_code}
-use Rattle.merge_box.specs.Held.{KeptDoc, kept_code}
+use Rattle.merge_box.specs.Held.{kept_code}
 use Rattle.merge_box.specs.Index.{Lists}
 use Rattle.merge_box.specs.State.{KeptDocs, Told, BoxState, PlanState}
 
