@@ -1,0 +1,7 @@
+pub mod Query
+pub mod Coding
+pub mod View
+pub mod Falls
+pub mod Holds
+pub mod Asked
+pub mod Reading

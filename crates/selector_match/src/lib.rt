@@ -1,0 +1,14 @@
+//! Selectors over documents (MongoDB's documentation of query operators).
+#![tactic(auto)]
+
+mod fault;
+mod matching;
+mod names;
+mod reading;
+mod selector;
+mod steps;
+
+pub use fault::SelectorFault;
+pub use matching::{fits, matches};
+pub use selector::{Selector, Test};
+pub use steps::Steps;

@@ -1,0 +1,108 @@
+//! The names of operators.
+ghost use Rattle.std.specs.Prelude.{◌≡◌};
+ghost use Rattle.selector_match.specs.Reading.{begins_with_dollar, connective_named, operator_named, has_operator, has_plain_name, is_operator_set, is_literal};
+ghost use Rattle.value_model.specs.Val.{fields_of};
+ghost use Rattle.ejson_value.specs.View.{view};
+
+use ejson_value::{Doc, Text, Value};
+
+#[derive(Clone, Copy)]
+pub(crate) enum Connective {
+    And,
+    Or,
+    Nor,
+}
+
+#[derive(Clone, Copy)]
+pub(crate) enum OperatorName {
+    Equal,
+    NotEqual,
+    Among,
+    NotAmong,
+    Greater,
+    AtLeast,
+    Less,
+    AtMost,
+    Exists,
+    Size,
+    All,
+    ElementMatch,
+    Not,
+}
+
+pub(crate) fn connective_named(name: &Text) -> Option<Connective>
+    ensures { result ≡ connective_named name.now }
+{
+    match name.as_str() {
+        "$and" => Some(Connective::And),
+        "$or" => Some(Connective::Or),
+        "$nor" => Some(Connective::Nor),
+        _ => None,
+    }
+}
+
+pub(crate) fn operator_named(name: &Text) -> Option<OperatorName>
+    ensures { result ≡ operator_named name.now }
+{
+    match name.as_str() {
+        "$eq" => Some(OperatorName::Equal),
+        "$ne" => Some(OperatorName::NotEqual),
+        "$in" => Some(OperatorName::Among),
+        "$nin" => Some(OperatorName::NotAmong),
+        "$gt" => Some(OperatorName::Greater),
+        "$gte" => Some(OperatorName::AtLeast),
+        "$lt" => Some(OperatorName::Less),
+        "$lte" => Some(OperatorName::AtMost),
+        "$exists" => Some(OperatorName::Exists),
+        "$size" => Some(OperatorName::Size),
+        "$all" => Some(OperatorName::All),
+        "$elemMatch" => Some(OperatorName::ElementMatch),
+        "$not" => Some(OperatorName::Not),
+        _ => None,
+    }
+}
+
+pub(crate) fn begins_with_dollar(name: &Text) -> bool
+    ensures { result ≡ begins_with_dollar name.now }
+{
+    name.as_bytes().first() == Some(&b'$')
+}
+
+// Whether some name of the object begins with `$`.
+pub(crate) fn has_operator(fields: &Doc) -> bool
+    ensures { result ≡ has_operator (fields_of fields.now) }
+{
+    for (name, _value) in fields.iter() {
+        if begins_with_dollar(name) {
+            return true;
+        }
+    }
+    false
+}
+
+fn has_plain_name(fields: &Doc) -> bool
+    ensures { result ≡ has_plain_name (fields_of fields.now) }
+{
+    for (name, _value) in fields.iter() {
+        if !begins_with_dollar(name) {
+            return true;
+        }
+    }
+    false
+}
+
+// Whether the object is a set of operators: not empty, and each name begins with `$`.
+pub(crate) fn is_operator_set(fields: &Doc) -> bool
+    ensures { result ≡ is_operator_set (fields_of fields.now) }
+{
+    has_operator(fields) && !has_plain_name(fields)
+}
+
+pub(crate) fn is_literal(value: &Value) -> bool
+    ensures { result ≡ is_literal (view value.now) }
+{
+    match value {
+        Value::Object(fields) => !has_operator(fields),
+        Value::Null | Value::Bool(_) | Value::Int(_) | Value::Text(_) | Value::Date(_) | Value::Bytes(_) | Value::List(_) => true,
+    }
+}
