@@ -1,3 +1,4 @@
 pub mod Loops
 pub mod Ids
 pub mod Front
+pub mod Naming

@@ -5,3 +5,4 @@ pub mod Falls
 pub mod Holds
 pub mod Asked
 pub mod Reading
+pub mod Named

@@ -1,8 +1,10 @@
 //! Selectors over documents (MongoDB's documentation of query operators).
 #![tactic(auto)]
 
+mod copying;
 mod fault;
 mod matching;
+mod named;
 mod names;
 mod reading;
 mod selector;

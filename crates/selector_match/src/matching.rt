@@ -327,7 +327,7 @@ fn subject_at<'a>(id: Option<&'a Text>, doc: &'a Doc, path: &'a Path) -> Subject
 }
 
 // Whether the name is `_id`.
-fn is_id(name: &Text) -> bool
+pub(crate) fn is_id(name: &Text) -> bool
     ensures { result ≡ is_eq (text_cmp name.now (codes "_id")) }
 {
     name.as_str().cmp("_id").is_eq()

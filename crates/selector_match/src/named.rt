@@ -1,0 +1,84 @@
+//! The id that a selector names.
+ghost use Rattle.std.specs.Prelude.{◌≡◌, ℕ, List, true, IfSome};
+ghost use Rattle.std.specs.Option.{option_copied};
+ghost use Rattle.value_model.specs.Val.{Entries};
+ghost use Rattle.ejson_value.specs.View.{view};
+ghost use Rattle.selector_match.specs.View.{clause_view, predicate_view};
+ghost use Rattle.selector_match.specs.Holds.{holds};
+ghost use Rattle.selector_match.specs.Named.{text_in, named_by_predicate, named_by_predicates, is_id_path, named_by_clause, named_id};
+
+use crate::matching::is_id;
+use crate::selector::{Condition, Operator, Operators, Selector};
+use ejson_value::{Path, Text, Value};
+
+fn text_in(value: &Value) -> Option<&Text>
+    ensures { option_copied result ≡ text_in (view value.now) }
+{
+    match value {
+        Value::Text(text) => Some(text),
+        Value::Null | Value::Bool(_) | Value::Int(_) | Value::Date(_) | Value::Bytes(_) | Value::List(_) | Value::Object(_) => None,
+    }
+}
+
+fn named_by_operator(operator: &Operator) -> Option<&Text>
+    ensures { option_copied result ≡ named_by_predicate (predicate_view operator.now) }
+{
+    match operator {
+        Operator::Equal(operand) => text_in(operand),
+        Operator::NotEqual(_) | Operator::Among(_) | Operator::NotAmong(_) | Operator::Greater(_) | Operator::AtLeast(_) | Operator::Less(_) => None,
+        Operator::AtMost(_) | Operator::Present(_) | Operator::Sized(_) | Operator::HasAll(_) | Operator::HasElement(_) | Operator::Negated(_) => None,
+    }
+}
+
+fn named_by_operators(operators: &Operators) -> Option<&Text>
+    ensures { option_copied result ≡ named_by_predicates operators.now }
+{
+    for operator in &operators.operators {
+        match named_by_operator(operator) {
+            Some(text) => return Some(text),
+            None => {}
+        }
+    }
+    None
+}
+
+fn is_id_path(path: &Path) -> bool
+    ensures { result ≡ is_id_path path.now }
+{
+    match path.parts().split_first() {
+        None => false,
+        Some((first, rest)) => rest.is_empty() && is_id(first.name()),
+    }
+}
+
+fn named_by_condition(condition: &Condition) -> Option<&Text>
+    ensures { option_copied result ≡ named_by_clause (clause_view condition.now) }
+{
+    match condition {
+        Condition::AtPath(path, operators) => {
+            if is_id_path(path) {
+                named_by_operators(operators)
+            } else {
+                None
+            }
+        }
+        Condition::All(_) | Condition::Any(_) | Condition::Neither(_) => None,
+    }
+}
+
+impl Selector {
+    /// The text that `_id` must equal by one of the conditions, if there is such a condition. A
+    /// query then has to look at the document with this id alone.
+    pub fn named_id(&self) -> Option<&Text>
+        ensures named { option_copied result ≡ named_id self.now }
+        ensures only { IfSome result (λ text. (id : List ℕ) (doc : Entries) → holds self.now id doc ≡ true → id ≡ text.now) }
+    {
+        for condition in &self.conditions {
+            match named_by_condition(condition) {
+                Some(text) => return Some(text),
+                None => {}
+            }
+        }
+        None
+    }
+}
