@@ -1,19 +1,17 @@
 -- A document with its id as a field.
-use Rattle.std.proofs.Common.{◌≡◌, ◌==◌, ℕ, Bool, true, false, cond, List, [], ◌∷◌, length, Option, Some, None, refl, ap, sym, ◌∙◌, codes}
-use Rattle.std.specs.Map.{lookup}
+use Rattle.std.proofs.Common.{◌≡◌, ◌==◌, ℕ, true, false, cond, List, [], ◌∷◌, length, Some, None, refl, ap, sym, ◌∙◌, codes}
 use Rattle.std.specs.declared.cmp.Ordering.{Ordering}
 use Rattle.std.specs.declared.cmp.Ordering.TheVariants.{Less, Equal, Greater}
 use Rattle.std.specs.Ordering.{match_ordering, is_eq}
-use Rattle.std.specs.BTreeMap.{is_at, insert_entry}
 use Rattle.std.proofs.Common.{arith}
 use Rattle.std.proofs.lemmas.Bool.Decides.{nat_tests}
 use Rattle.std.proofs.lemmas.Cmp.{nat_list_cmp_total}
 use Rattle.std.proofs.lemmas.Map.Lookups.{exact_bytes}
-use Rattle.value_model.specs.Val.{Val, text, object, Entries, fields_of, entries_of, entries_of-fields_of}
+use Rattle.value_model.specs.Val.{Val, text, object, Entries, fields_of, entries_of-fields_of}
 use Rattle.value_model.specs.Order.{text_cmp}
 use Rattle.value_model.specs.OrderLaws.{own_reverse_ties}
 use Rattle.value_model.specs.Doc.{get, put}
-use Rattle.value_model.specs.Branches.{Branch, branches}
+use Rattle.value_model.specs.Branches.{branches}
 use Rattle.selector_match.specs.Holds.{with_id}
 
 ties : (k : List ℕ) → text_cmp k k ≡ Equal

@@ -6,7 +6,7 @@ use Rattle.std.proofs.lemmas.List.Folds.{list_any_more, list_any_at, list_all_mo
 use Rattle.std.specs.Option.{option_map_or}
 use Rattle.value_model.specs.Val.{Val, Fields, vals_of, list_of, list_of-vals_of}
 use Rattle.value_model.specs.Branches.{Branch}
-use Rattle.selector_match.specs.Query.{Query, queries_of, Queries, Predicates}
+use Rattle.selector_match.specs.Query.{Query, queries_of}
 use Rattle.selector_match.specs.Holds.{list_in, elements, has_length, branch_candidates, query_holds, clause_holds, all_hold, some_holds, predicates_hold, predicate_holds}
 use Rattle.selector_match.specs.View.{clause_view, predicate_view, clauses_view, predicates_view}
 use Rattle.selector_match.specs.declared.selector.Condition.{Condition}

@@ -1,18 +1,17 @@
 -- Lemmas of the id that a selector names.
-use Rattle.std.proofs.Common.{◌≡◌, ℕ, zero, suc, ◌+◌, ◌<◌, ◌&&◌, ◌||◌, Bool, true, false, codes, List, [], ◌∷◌, length, get_or, take, map, Option, Some, None, refl, ap, sym, ◌∙◌, arith}
+use Rattle.std.proofs.Common.{◌≡◌, ℕ, zero, suc, ◌<◌, ◌&&◌, ◌||◌, Bool, true, false, codes, List, [], ◌∷◌, length, get_or, take, map, Option, Some, None, refl, ap, ◌∙◌, arith}
 use Rattle.std.specs.declared.cmp.Ordering.{Ordering}
 use Rattle.std.specs.declared.cmp.Ordering.TheVariants.{Less, Equal, Greater}
 use Rattle.std.specs.Ordering.{is_eq}
 use Rattle.std.proofs.lemmas.Map.Lookups.{exact_bytes}
-use Rattle.value_model.specs.Val.{Val, text, object, Entries}
+use Rattle.value_model.specs.Val.{text, Entries}
 use Rattle.value_model.specs.Order.{text_cmp}
-use Rattle.value_model.specs.Branches.{Branch, branches}
 use Rattle.selector_match.specs.Query.{Query, no_clauses, clause, Clause, at_path, Predicates, no_predicates, predicate, Predicate, equal, query_of, predicates_of}
 use Rattle.selector_match.specs.View.{clause_view, predicate_view}
 use Rattle.selector_match.specs.declared.selector.Condition.{Condition}
 use Rattle.selector_match.specs.declared.selector.Operator.{Operator}
 use Rattle.selector_match.specs.Holds.{with_id, query_holds, clause_holds, predicates_hold, predicate_holds}
-use Rattle.selector_match.specs.Named.{first_of_both, text_in, named_by_predicate, named_by_predicates, is_id_path, if_true, named_by_clause, named_id}
+use Rattle.selector_match.specs.Named.{first_of_both, named_by_predicate, named_by_predicates, if_true, named_by_clause, named_id}
 use Rattle.selector_match.proofs.Ids.{at_id}
 
 -- what the first element gives that gives something

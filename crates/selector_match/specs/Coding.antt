@@ -1,5 +1,5 @@
 -- A code of selectors, by which contracts tell them apart.
-use Rattle.std.specs.Prelude.{◌≡◌, ℕ, zero, suc, Bool, true, false, List, [], ◌∷◌, refl}
+use Rattle.std.specs.Prelude.{◌≡◌, ℕ, zero, suc, List, [], ◌∷◌, refl}
 use Rattle.std.proofs.Common.{ap, ◌∙◌}
 use Rattle.std.specs.Coded.{Coded, code_by}
 use Rattle.value_model.specs.Val.{Val, vals_of, list_of, list_of-vals_of}

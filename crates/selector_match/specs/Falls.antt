@@ -2,7 +2,7 @@
 use Rattle.std.specs.Prelude.{◌+◌, ◌≤◌, List, [], ◌∷◌}
 use Rattle.std.proofs.Common.{arith}
 use denote.Param.Weighed.{most}
-use Rattle.selector_match.specs.Query.{Query, query_of, queries_of, predicates_of, query_height, queries_height, predicates_height, predicate_height, test_height}
+use Rattle.selector_match.specs.Query.{Query, queries_of, query_height, queries_height, predicates_height, predicate_height, test_height}
 use Rattle.selector_match.specs.declared.selector.Condition.{Condition}
 use Rattle.selector_match.specs.declared.selector.Condition.TheVariants as condition
 use Rattle.selector_match.specs.declared.selector.Operator.{Operator}
@@ -10,7 +10,7 @@ use Rattle.selector_match.specs.declared.selector.Operator.TheVariants as operat
 use Rattle.selector_match.specs.declared.selector.TestKind.{TestKind}
 use Rattle.selector_match.specs.declared.selector.TestKind.TheVariants as kind
 use Rattle.selector_match.specs.declared.selector.Operators.TheDeep.{deep-Condition, deep-Operator, deep-TestKind}
-use Rattle.selector_match.specs.View.{clause_view, predicate_view, kind_view, clauses_view, predicates_view}
+use Rattle.selector_match.specs.View.{predicate_view, kind_view, clauses_view, predicates_view}
 
 pub most_le-query_height : (cs : List Condition) → most (λ c. deep-Condition c) cs ≤ query_height (clauses_view cs)
 most_le-query_height [] = omega arith

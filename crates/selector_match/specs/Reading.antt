@@ -1,7 +1,7 @@
 -- How a value is read as a selector (query operators, in MongoDB's documentation). The first fault in reading order is answered, keys by bytes.
 use Rattle.std.specs.Prelude.{◌≡◌, ℕ, Bool, true, false, not, List, [], ◌∷◌, codes, bytes_eq, Option, None, Some, ok_or, Result, Ok, Err, if◌then◌else◌, ◌&&◌, ◌||◌, ◌==◌, pos}
-use Rattle.std.specs.List.{list_any, list_all}
-use Rattle.value_model.specs.Val.{Val, null, boolean, int, text, date, bytes, list, object, Vals, no_vals, val, Fields, no_fields, field, list_of}
+use Rattle.std.specs.List.{list_all}
+use Rattle.value_model.specs.Val.{Val, null, boolean, int, list, object, Vals, no_vals, val, Fields, no_fields, field, list_of}
 use Rattle.value_model.specs.Branches.{path_of}
 use Rattle.selector_match.specs.declared.fault.SelectorFault.{SelectorFault}
 use Rattle.selector_match.specs.declared.fault.SelectorFault.TheVariants as fault

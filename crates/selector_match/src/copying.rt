@@ -13,7 +13,10 @@ fn copy_condition(condition: &Condition) -> Result<Condition, Mem>
         Condition::All(selectors) => Ok(Condition::All(copy_selectors(selectors)?)),
         Condition::Any(selectors) => Ok(Condition::Any(copy_selectors(selectors)?)),
         Condition::Neither(selectors) => Ok(Condition::Neither(copy_selectors(selectors)?)),
-        Condition::AtPath(path, operators) => Ok(Condition::AtPath(path.copy()?, copy_operators(operators)?)),
+        Condition::AtPath(path, operators) => Ok(Condition::AtPath(
+            path.copy()?,
+            copy_operators(operators)?,
+        )),
     }
 }
 

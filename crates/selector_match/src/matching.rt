@@ -94,7 +94,13 @@ fn id_relates(relation: Relation, id: &Text, operand: &Value) -> bool
 {
     match operand {
         Value::Text(text) => text_relates(relation, id, text),
-        Value::Null | Value::Bool(_) | Value::Int(_) | Value::Date(_) | Value::Bytes(_) | Value::List(_) | Value::Object(_) => false,
+        Value::Null
+        | Value::Bool(_)
+        | Value::Int(_)
+        | Value::Date(_)
+        | Value::Bytes(_)
+        | Value::List(_)
+        | Value::Object(_) => false,
     }
 }
 
@@ -125,7 +131,9 @@ fn reached_relates(relation: Relation, reached: Reached, operand: &Value) -> boo
 fn some_element_relates(relation: Relation, elements: &[Value], operand: &Value) -> bool
     ensures { result ≡ list_any (λ v. relates relation (view operand.now) (Some v)) (views elements.now) }
 {
-    elements.iter().any(|element| value_relates(relation, element, operand))
+    elements
+        .iter()
+        .any(|element| value_relates(relation, element, operand))
 }
 
 // The list that was reached, if it is one.
@@ -137,7 +145,13 @@ fn reached_list<'a>(reached: Reached<'a>) -> Option<&'a Items>
     };
     match value {
         Value::List(items) => Some(items),
-        Value::Null | Value::Bool(_) | Value::Int(_) | Value::Text(_) | Value::Date(_) | Value::Bytes(_) | Value::Object(_) => None,
+        Value::Null
+        | Value::Bool(_)
+        | Value::Int(_)
+        | Value::Text(_)
+        | Value::Date(_)
+        | Value::Bytes(_)
+        | Value::Object(_) => None,
     }
 }
 
@@ -180,7 +194,9 @@ fn answer(question: Question, reached: Reached, whole: bool) -> bool
     ensures { result ≡ asked question.entry (reached_view reached.entry) whole }
 {
     match question {
-        Question::Relates(relation, operand) => candidate_relates(relation, reached, whole, operand),
+        Question::Relates(relation, operand) => candidate_relates(
+            relation, reached, whole, operand,
+        ),
         Question::Present => is_present(reached),
         Question::HasLength(length) => reached_has_length(reached, length),
         Question::HasElement(test) => match reached_list(reached) {
@@ -211,7 +227,13 @@ pub fn fits(test: &Test, element: &Value) -> bool
         TestKind::Operators(operators) => operators_hold(operators, Subject::Element(element)),
         TestKind::Fields(selector) => match element {
             Value::Object(fields) => selector_holds(selector, None, fields),
-            Value::Null | Value::Bool(_) | Value::Int(_) | Value::Text(_) | Value::Date(_) | Value::Bytes(_) | Value::List(_) => false,
+            Value::Null
+            | Value::Bool(_)
+            | Value::Int(_)
+            | Value::Text(_)
+            | Value::Date(_)
+            | Value::Bytes(_)
+            | Value::List(_) => false,
         },
     }
 }
@@ -222,9 +244,13 @@ fn some_answer(question: Question, subject: Subject) -> bool
     ensures { result ≡ list_any (λ b. asked question.entry b.0 b.1) (subject_branches subject.entry) }
 {
     match subject {
-        Subject::Branches(doc, path) => some_branch(doc, path, &|value: Option<&Value>, whole: bool| -> bool
-            ensures { result ≡ asked question.entry (option_map (λ v. view v.now) value.entry) whole }
-        { answer(question, reached_by(value), whole) }),
+        Subject::Branches(doc, path) => some_branch(
+            doc,
+            path,
+            &|value: Option<&Value>, whole: bool| -> bool
+                ensures { result ≡ asked question.entry (option_map (λ v. view v.now) value.entry) whole }
+            { answer(question, reached_by(value), whole) },
+        ),
         Subject::Element(element) => answer(question, Reached::Value(element), true),
         Subject::Id(id) => answer(question, Reached::Id(id), false),
         Subject::Nothing => answer(question, Reached::Nothing, false),
@@ -287,7 +313,8 @@ fn operator_holds(operator: &Operator, subject: Subject) -> bool
         Operator::AtMost(operand) => some_relates(Relation::AtMost, operand, subject),
         Operator::Present(wanted) => some_answer(Question::Present, subject) == *wanted,
         Operator::Sized(length) => some_answer(Question::HasLength(*length), subject),
-        Operator::HasAll(operands) => !operands.is_empty() && equals_each(operands.as_slice(), subject),
+        Operator::HasAll(operands) => !operands.is_empty()
+            && equals_each(operands.as_slice(), subject),
         Operator::HasElement(test) => some_answer(Question::HasElement(test), subject),
         Operator::Negated(operators) => !operators_hold(operators, subject),
     }

@@ -16,7 +16,13 @@ fn text_in(value: &Value) -> Option<&Text>
 {
     match value {
         Value::Text(text) => Some(text),
-        Value::Null | Value::Bool(_) | Value::Int(_) | Value::Date(_) | Value::Bytes(_) | Value::List(_) | Value::Object(_) => None,
+        Value::Null
+        | Value::Bool(_)
+        | Value::Int(_)
+        | Value::Date(_)
+        | Value::Bytes(_)
+        | Value::List(_)
+        | Value::Object(_) => None,
     }
 }
 
@@ -25,8 +31,18 @@ fn named_by_operator(operator: &Operator) -> Option<&Text>
 {
     match operator {
         Operator::Equal(operand) => text_in(operand),
-        Operator::NotEqual(_) | Operator::Among(_) | Operator::NotAmong(_) | Operator::Greater(_) | Operator::AtLeast(_) | Operator::Less(_) => None,
-        Operator::AtMost(_) | Operator::Present(_) | Operator::Sized(_) | Operator::HasAll(_) | Operator::HasElement(_) | Operator::Negated(_) => None,
+        Operator::NotEqual(_)
+        | Operator::Among(_)
+        | Operator::NotAmong(_)
+        | Operator::Greater(_)
+        | Operator::AtLeast(_)
+        | Operator::Less(_) => None,
+        Operator::AtMost(_)
+        | Operator::Present(_)
+        | Operator::Sized(_)
+        | Operator::HasAll(_)
+        | Operator::HasElement(_)
+        | Operator::Negated(_) => None,
     }
 }
 

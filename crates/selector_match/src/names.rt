@@ -103,6 +103,12 @@ pub(crate) fn is_literal(value: &Value) -> bool
 {
     match value {
         Value::Object(fields) => !has_operator(fields),
-        Value::Null | Value::Bool(_) | Value::Int(_) | Value::Text(_) | Value::Date(_) | Value::Bytes(_) | Value::List(_) => true,
+        Value::Null
+        | Value::Bool(_)
+        | Value::Int(_)
+        | Value::Text(_)
+        | Value::Date(_)
+        | Value::Bytes(_)
+        | Value::List(_) => true,
     }
 }

@@ -7,7 +7,10 @@ ghost use Rattle.selector_match.specs.View.{clause_view, predicate_view};
 ghost use Rattle.selector_match.specs.Reading.{Gives, reading, clauses_reading, clause_made, path_reading, joined, queries_reading, more_queries_reading, condition_reading, predicates_reading, predicate_made, operator_named, literal, is_literal, list_operand, compared_operand, boolean_operand, size_operand, literals_operand, element_operand, set_operand, test_reading};
 
 use crate::fault::SelectorFault;
-use crate::names::{Connective, OperatorName, begins_with_dollar, connective_named, has_operator, is_literal, is_operator_set, operator_named};
+use crate::names::{
+    Connective, OperatorName, begins_with_dollar, connective_named, has_operator, is_literal,
+    is_operator_set, operator_named,
+};
 use crate::selector::{Condition, Operator, Operators, Selector, Selectors, Test, TestKind};
 use ejson_value::{Doc, Items, Path, PathFault, Text, Value, copy};
 use std::alloc::Global;
@@ -27,7 +30,13 @@ fn list_operand(value: &Value) -> Result<Items, SelectorFault>
 {
     match value {
         Value::List(items) => Ok(items.copy()?),
-        Value::Null | Value::Bool(_) | Value::Int(_) | Value::Text(_) | Value::Date(_) | Value::Bytes(_) | Value::Object(_) => Err(SelectorFault::BadOperand),
+        Value::Null
+        | Value::Bool(_)
+        | Value::Int(_)
+        | Value::Text(_)
+        | Value::Date(_)
+        | Value::Bytes(_)
+        | Value::Object(_) => Err(SelectorFault::BadOperand),
     }
 }
 
@@ -35,7 +44,9 @@ fn compared_operand(value: &Value) -> Result<Value, SelectorFault>
     ensures { Gives view result (compared_operand (view value.now)) }
 {
     match value {
-        Value::Bool(_) | Value::Int(_) | Value::Text(_) | Value::Date(_) | Value::Bytes(_) => Ok(copy(value)?),
+        Value::Bool(_) | Value::Int(_) | Value::Text(_) | Value::Date(_) | Value::Bytes(_) => Ok(
+            copy(value)?,
+        ),
         Value::Null | Value::List(_) | Value::Object(_) => Err(SelectorFault::BadOperand),
     }
 }
@@ -45,7 +56,13 @@ fn boolean_operand(value: &Value) -> Result<bool, SelectorFault>
 {
     match value {
         Value::Bool(truth) => Ok(*truth),
-        Value::Null | Value::Int(_) | Value::Text(_) | Value::Date(_) | Value::Bytes(_) | Value::List(_) | Value::Object(_) => Err(SelectorFault::BadOperand),
+        Value::Null
+        | Value::Int(_)
+        | Value::Text(_)
+        | Value::Date(_)
+        | Value::Bytes(_)
+        | Value::List(_)
+        | Value::Object(_) => Err(SelectorFault::BadOperand),
     }
 }
 
@@ -55,9 +72,19 @@ fn size_operand(value: &Value) -> Result<u64, SelectorFault>
     match value {
         Value::Int(whole) => {
             let number = whole.get();
-            if number < 0 { Err(SelectorFault::BadOperand) } else { Ok(number as u64) }
+            if number < 0 {
+                Err(SelectorFault::BadOperand)
+            } else {
+                Ok(number as u64)
+            }
         }
-        Value::Null | Value::Bool(_) | Value::Text(_) | Value::Date(_) | Value::Bytes(_) | Value::List(_) | Value::Object(_) => Err(SelectorFault::BadOperand),
+        Value::Null
+        | Value::Bool(_)
+        | Value::Text(_)
+        | Value::Date(_)
+        | Value::Bytes(_)
+        | Value::List(_)
+        | Value::Object(_) => Err(SelectorFault::BadOperand),
     }
 }
 
@@ -78,7 +105,13 @@ fn literals_operand(value: &Value) -> Result<Items, SelectorFault>
                 Err(SelectorFault::BadOperand)
             }
         }
-        Value::Null | Value::Bool(_) | Value::Int(_) | Value::Text(_) | Value::Date(_) | Value::Bytes(_) | Value::Object(_) => Err(SelectorFault::BadOperand),
+        Value::Null
+        | Value::Bool(_)
+        | Value::Int(_)
+        | Value::Text(_)
+        | Value::Date(_)
+        | Value::Bytes(_)
+        | Value::Object(_) => Err(SelectorFault::BadOperand),
     }
 }
 
@@ -108,7 +141,13 @@ fn read_selector(alloc: Global, value: &Value) -> Result<Selector, SelectorFault
 {
     match value {
         Value::Object(fields) => read_conditions(alloc, fields, true),
-        Value::Null | Value::Bool(_) | Value::Int(_) | Value::Text(_) | Value::Date(_) | Value::Bytes(_) | Value::List(_) => Err(SelectorFault::NotObject),
+        Value::Null
+        | Value::Bool(_)
+        | Value::Int(_)
+        | Value::Text(_)
+        | Value::Date(_)
+        | Value::Bytes(_)
+        | Value::List(_) => Err(SelectorFault::NotObject),
     }
 }
 
@@ -126,7 +165,12 @@ fn read_conditions(alloc: Global, fields: &Doc, top: bool) -> Result<Selector, S
 }
 
 #[cycle(reading)]
-fn read_condition(alloc: Global, name: &Text, value: &Value, top: bool) -> Result<Condition, SelectorFault>
+fn read_condition(
+    alloc: Global,
+    name: &Text,
+    value: &Value,
+    top: bool,
+) -> Result<Condition, SelectorFault>
     ensures { Gives clause_view result (clause_made top name.now (queries_reading (view value.now)) (condition_reading (view value.now))) }
 {
     if begins_with_dollar(name) {
@@ -157,7 +201,13 @@ fn read_selectors(alloc: Global, value: &Value) -> Result<Selectors, SelectorFau
                 read_each(alloc, items)
             }
         }
-        Value::Null | Value::Bool(_) | Value::Int(_) | Value::Text(_) | Value::Date(_) | Value::Bytes(_) | Value::Object(_) => Err(SelectorFault::BadOperand),
+        Value::Null
+        | Value::Bool(_)
+        | Value::Int(_)
+        | Value::Text(_)
+        | Value::Date(_)
+        | Value::Bytes(_)
+        | Value::Object(_) => Err(SelectorFault::BadOperand),
     }
 }
 
@@ -188,7 +238,13 @@ fn read_path_value(alloc: Global, value: &Value) -> Result<Operators, SelectorFa
                 literal(alloc, value)
             }
         }
-        Value::Null | Value::Bool(_) | Value::Int(_) | Value::Text(_) | Value::Date(_) | Value::Bytes(_) | Value::List(_) => literal(alloc, value),
+        Value::Null
+        | Value::Bool(_)
+        | Value::Int(_)
+        | Value::Text(_)
+        | Value::Date(_)
+        | Value::Bytes(_)
+        | Value::List(_) => literal(alloc, value),
     }
 }
 
@@ -236,13 +292,23 @@ fn read_element_operand(alloc: Global, value: &Value) -> Result<Test, SelectorFa
         Value::Object(fields) => {
             if is_operator_set(fields) {
                 let operators = read_operators(alloc, fields)?;
-                Ok(Test { kind: TestKind::Operators(operators) })
+                Ok(Test {
+                    kind: TestKind::Operators(operators),
+                })
             } else {
                 let selector = read_conditions(alloc, fields, false)?;
-                Ok(Test { kind: TestKind::Fields(selector) })
+                Ok(Test {
+                    kind: TestKind::Fields(selector),
+                })
             }
         }
-        Value::Null | Value::Bool(_) | Value::Int(_) | Value::Text(_) | Value::Date(_) | Value::Bytes(_) | Value::List(_) => Err(SelectorFault::BadOperand),
+        Value::Null
+        | Value::Bool(_)
+        | Value::Int(_)
+        | Value::Text(_)
+        | Value::Date(_)
+        | Value::Bytes(_)
+        | Value::List(_) => Err(SelectorFault::BadOperand),
     }
 }
 
@@ -258,7 +324,13 @@ fn read_set_operand(alloc: Global, value: &Value) -> Result<Operators, SelectorF
                 Err(SelectorFault::BadOperand)
             }
         }
-        Value::Null | Value::Bool(_) | Value::Int(_) | Value::Text(_) | Value::Date(_) | Value::Bytes(_) | Value::List(_) => Err(SelectorFault::BadOperand),
+        Value::Null
+        | Value::Bool(_)
+        | Value::Int(_)
+        | Value::Text(_)
+        | Value::Date(_)
+        | Value::Bytes(_)
+        | Value::List(_) => Err(SelectorFault::BadOperand),
     }
 }
 
@@ -279,7 +351,13 @@ impl Test {
     {
         match value {
             Value::Object(_) => read_element_operand(alloc, value),
-            Value::Null | Value::Bool(_) | Value::Int(_) | Value::Text(_) | Value::Date(_) | Value::Bytes(_) | Value::List(_) => Err(SelectorFault::NotObject),
+            Value::Null
+            | Value::Bool(_)
+            | Value::Int(_)
+            | Value::Text(_)
+            | Value::Date(_)
+            | Value::Bytes(_)
+            | Value::List(_) => Err(SelectorFault::NotObject),
         }
     }
 }

@@ -1,9 +1,9 @@
-use Rattle.std.proofs.Common.{◌≡◌, ◌<◌, ◌≤◌, Bool, true, false, not, List, length, ap, sym, ◌∙◌, arith, rules, option_map}
+use Rattle.std.proofs.Common.{ap, sym, ◌∙◌, rules, option_map}
 use Rattle.std.specs.List.{list_any, list_all}
 use Rattle.std.proofs.lemmas.List.Folds.{list_all-map}
 use Rattle.value_model.specs.Val.{vals_of}
 use Rattle.value_model.specs.Branches.{Branch}
-use Rattle.ejson_value.specs.View.{view, views}
+use Rattle.ejson_value.specs.View.{view}
 use Rattle.ejson_value.specs.declared.value.Value.{Value}
 use Rattle.selector_match.specs.declared.selector.Condition.{Condition}
 use Rattle.selector_match.specs.declared.selector.Operator.{Operator}

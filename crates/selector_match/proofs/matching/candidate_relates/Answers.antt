@@ -12,4 +12,4 @@ returns-in-Some c =
     c.some_element_relates.ensures
     ∙ (ap (λ vs. list_any (λ (v : Val). test (Some v)) vs) c.as_slice.ensures
     ∙ by_elements test (reached_view c.args.reached) c.args.whole c.in-Some.items.now (sym c.reached_relates.ensures ∙ c.if-reached_relates.false) c.if-whole.false
-        (sym c.reached_list.ensures ∙ ap (λ o. option_map (λ vs. vals_of vs.now) o) c.in-Some.is))
+    (sym c.reached_list.ensures ∙ ap (λ o. option_map (λ vs. vals_of vs.now) o) c.in-Some.is))

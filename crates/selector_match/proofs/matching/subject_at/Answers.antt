@@ -1,6 +1,5 @@
-use Rattle.std.proofs.Common.{◌≡◌, ◌∷◌, [], Some, None, false, codes, length, ap, sym, ◌∙◌, arith, rules}
+use Rattle.std.proofs.Common.{Some, false, codes, ap, sym, ◌∙◌}
 use Rattle.std.specs.Ordering.{is_eq}
-use Rattle.std.proofs.lemmas.Bool.Decides.{nat_tests}
 use Rattle.value_model.specs.Val.{text, object, fields_of}
 use Rattle.value_model.specs.Order.{text_cmp}
 use Rattle.value_model.specs.Branches.{branches}

@@ -1,4 +1,4 @@
-use Rattle.std.proofs.Common.{◌≡◌, ℕ, suc, ◌+◌, Some, None, length, take, option_copied, ap, sym, ◌∙◌, arith}
+use Rattle.std.proofs.Common.{◌≡◌, suc, ◌+◌, take, option_copied, ap, sym, ◌∙◌, arith}
 use Rattle.std.proofs.lemmas.List.{take_all}
 use Rattle.selector_match.specs.declared.selector.Operator.{Operator}
 use Rattle.selector_match.specs.View.{predicate_view}
@@ -17,7 +17,7 @@ loop-operator-preserved c =
     let one_more : suc c.loop-operator.operator-index ≡ c.loop-operator.operator-index + 1 = omega arith in
     ap (λ n. first_found test (take n c.deref-operator-items.result.now)) (sym one_more)
     ∙ found_more test c.deref-operator-items.result.now c.loop-operator.operator-index c.operator-item.result c.loop-operator-test.true c.loop-operator.invariant
-        (ap test (sym c.operator-item.is) ∙ (sym c.named_by_operator.ensures ∙ ap (λ o. option_copied o) c.in-None.is))
+    (ap test (sym c.operator-item.is) ∙ (sym c.named_by_operator.ensures ∙ ap (λ o. option_copied o) c.in-None.is))
 
 pub returns : goal.returns
 returns c =

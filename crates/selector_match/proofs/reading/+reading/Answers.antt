@@ -1,4 +1,4 @@
-use Rattle.std.proofs.Common.{◌≡◌, ◌∷◌, [], ◌++◌, ◌+◌, ℕ, suc, false, Ok, List, length, map, drop, get_or, ap, sym, subst, ◌∙◌, arith}
+use Rattle.std.proofs.Common.{◌≡◌, ◌∷◌, [], ◌++◌, ◌+◌, suc, Ok, List, map, drop, get_or, ap, sym, subst, ◌∙◌, arith}
 use Rattle.std.proofs.Math.Seq.{drop-cons}
 use Rattle.std.proofs.lemmas.List.{append_assoc, map-append, drop_all}
 use Rattle.value_model.specs.Val.{fields_of, vals_of}
@@ -7,7 +7,7 @@ use Rattle.ejson_value.proofs.Walks.{item_depth, field_depth}
 use Rattle.selector_match.specs.Query.{Query, clause, query, predicate}
 use Rattle.selector_match.specs.View.{clause_view, predicate_view}
 use Rattle.selector_match.specs.Reading.{Gives, made, reading, clauses_reading, clause_made, queries_reading, condition_reading, more_queries_reading, predicates_reading, predicate_made, operator_named, element_operand, set_operand}
-use Rattle.selector_match.proofs.Front.{after, made_more, made_none, after-query, after-queries, after-predicates, some_queries}
+use Rattle.selector_match.proofs.Front.{after, made_more, after-query, after-queries, after-predicates, some_queries}
 use Rattle.selector_match.proofs.reading.+reading.Goals as goal
 
 pub read_conditions-read_condition-requires : goal.read_conditions-read_condition-requires
@@ -29,9 +29,9 @@ read_conditions-loop-name-preserved t c =
       tt,
       (done ++ (name, value) ∷ [], all ∙ sym (append_assoc done ((name, value) ∷ []) c.next.new.self)),
       c.loop-name.invariant.3
-      ∙ (ap (λ it. made (λ q. after clause made_so_far q) (clauses_reading c.args.top (fields_of (entries it)))) c.in-Some.ensures.steps
-      ∙ (made_more clause made_so_far (clause_view c.in_ok-condition.condition) (clause_made c.args.top c.in-Some.name.now (queries_reading (view c.in-Some.value.now)) (condition_reading (view c.in-Some.value.now))) more c.in_ok-condition.ensures
-      ∙ ap (λ xs. made (λ q. after clause xs q) more) (sym (ap (λ xs. map clause_view xs) c.in_ok-push.ensures.items ∙ map-append clause_view c.loop-name.conditions.items (c.in_ok-condition.condition ∷ []))))),
+          ∙ (ap (λ it. made (λ q. after clause made_so_far q) (clauses_reading c.args.top (fields_of (entries it)))) c.in-Some.ensures.steps
+          ∙ (made_more clause made_so_far (clause_view c.in_ok-condition.condition) (clause_made c.args.top c.in-Some.name.now (queries_reading (view c.in-Some.value.now)) (condition_reading (view c.in-Some.value.now))) more c.in_ok-condition.ensures
+          ∙ ap (λ xs. made (λ q. after clause xs q) more) (sym (ap (λ xs. map clause_view xs) c.in_ok-push.ensures.items ∙ map-append clause_view c.loop-name.conditions.items (c.in_ok-condition.condition ∷ []))))),
     )
 
 pub read_conditions-returns : goal.read_conditions-returns
@@ -61,9 +61,9 @@ read_operators-loop-name-preserved t c =
       tt,
       (done ++ (name, value) ∷ [], all ∙ sym (append_assoc done ((name, value) ∷ []) c.next.new.self)),
       c.loop-name.invariant.3
-      ∙ (ap (λ it. made (λ q. after predicate made_so_far q) (predicates_reading (fields_of (entries it)))) c.in-Some.ensures.steps
-      ∙ (made_more predicate made_so_far (predicate_view c.in_ok-operator.operator) (predicate_made (operator_named c.in-Some.name.now) (view c.in-Some.value.now) (element_operand (view c.in-Some.value.now)) (set_operand (view c.in-Some.value.now))) more c.in_ok-operator.ensures
-      ∙ ap (λ xs. made (λ q. after predicate xs q) more) (sym (ap (λ xs. map predicate_view xs) c.in_ok-push.ensures.items ∙ map-append predicate_view c.loop-name.operators.items (c.in_ok-operator.operator ∷ []))))),
+          ∙ (ap (λ it. made (λ q. after predicate made_so_far q) (predicates_reading (fields_of (entries it)))) c.in-Some.ensures.steps
+          ∙ (made_more predicate made_so_far (predicate_view c.in_ok-operator.operator) (predicate_made (operator_named c.in-Some.name.now) (view c.in-Some.value.now) (element_operand (view c.in-Some.value.now)) (set_operand (view c.in-Some.value.now))) more c.in_ok-operator.ensures
+          ∙ ap (λ xs. made (λ q. after predicate xs q) more) (sym (ap (λ xs. map predicate_view xs) c.in_ok-push.ensures.items ∙ map-append predicate_view c.loop-name.operators.items (c.in_ok-operator.operator ∷ []))))),
     )
 
 pub read_operators-returns : goal.read_operators-returns
@@ -104,5 +104,5 @@ read_each-returns t c =
 pub read_selectors-returns-else-is_empty : goal.read_selectors-returns-else-is_empty
 read_selectors-returns-else-is_empty t c =
     subst (λ r. Gives (λ qs. qs) c.read_each.result r)
-        (some_queries c.in-List.items (sym c.is_empty.ensures ∙ c.if-is_empty.false) ∙ ap (λ v. queries_reading (view v)) (sym c.in-List.is))
-        c.read_each.ensures
+    (some_queries c.in-List.items (sym c.is_empty.ensures ∙ c.if-is_empty.false) ∙ ap (λ v. queries_reading (view v)) (sym c.in-List.is))
+    c.read_each.ensures

@@ -1,6 +1,6 @@
 use Rattle.std.proofs.Common.{ap, sym, ◌∙◌, Ok}
 use Rattle.ejson_value.specs.View.{view}
-use Rattle.selector_match.specs.Reading.{list_operand, Reading}
+use Rattle.selector_match.specs.Reading.{list_operand}
 use Rattle.selector_match.proofs.Front.{list_operand-list}
 use Rattle.selector_match.proofs.reading.list_operand.Goals as goal
 

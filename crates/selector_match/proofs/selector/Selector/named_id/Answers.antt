@@ -1,4 +1,4 @@
-use Rattle.std.proofs.Common.{◌≡◌, ℕ, suc, ◌+◌, Some, None, length, take, option_copied, ap, sym, ◌∙◌, arith}
+use Rattle.std.proofs.Common.{◌≡◌, suc, ◌+◌, take, option_copied, ap, sym, ◌∙◌, arith}
 use Rattle.std.proofs.lemmas.List.{take_all}
 use Rattle.selector_match.specs.declared.selector.Condition.{Condition}
 use Rattle.selector_match.specs.View.{clause_view}
@@ -23,7 +23,7 @@ loop-condition-preserved c =
     let one_more : suc c.loop-condition.condition-index ≡ c.loop-condition.condition-index + 1 = omega arith in
     ap (λ n. first_found test (take n c.deref-condition-items.result.now)) (sym one_more)
     ∙ found_more test c.deref-condition-items.result.now c.loop-condition.condition-index c.condition-item.result c.loop-condition-test.true c.loop-condition.invariant
-        (ap test (sym c.condition-item.is) ∙ (sym c.named_by_condition.ensures ∙ ap (λ o. option_copied o) c.in-None.is))
+    (ap test (sym c.condition-item.is) ∙ (sym c.named_by_condition.ensures ∙ ap (λ o. option_copied o) c.in-None.is))
 
 pub returns-clause-named : goal.returns-clause-named
 returns-clause-named c =
