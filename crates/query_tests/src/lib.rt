@@ -1,10 +1,10 @@
 //! Tables of selectors and documents, with what MongoDB's rules and the differences told in docs/QUERIES.md answer.
 #![tactic(auto)]
 
+ghost use Rattle.std.specs.Prelude.{◌≡◌};
+
 #[cfg(test)]
 mod tests {
-    ghost use Rattle.std.specs.Prelude.{◌≡◌};
-
     use ejson_codec::parse;
     use ejson_value::{Doc, Text, Value};
     use selector_match::{Selector, SelectorFault, Steps, Test, fits, matches};
