@@ -15,15 +15,15 @@ const ALPHABET: [u8; 55] = *b"23456789ABCDEFGHJKLMNPQRSTWXYZabcdefghijkmnopqrstu
 
 const ID_LENGTH: u32 = 17;
 
-/// The id with number `n`, counted from 0, that `seed` draws for `collection`. It has 17 letters.
-/// The time does not grow with `n`.
+/// The id with number `n`, counted from 0, that `seed` draws for `collection`: 17 letters. It goes
+/// straight to the id's place in the key stream, so its time does not grow with `n`.
 pub fn draw(alloc: Global, seed: &Text, collection: &Text, n: u32) -> Result<Text, Mem>
     requires { n < 4096 }
     ensures { IfOk result (λ id. id ≡ drawn_id seed.now collection.now n) }
 {
     let mut words = ChaCha20Rng::from_seed(key_bytes(seed, collection));
     words.set_word_pos(u128::from(ID_LENGTH * n));
-    let mut id = String::with_capacity(alloc, 17)?;
+    let mut id = String::with_capacity(alloc, ID_LENGTH as usize)?;
     for _ in 0..ID_LENGTH {
         id.push(letter(words.next_word()))?;
     }
@@ -43,7 +43,7 @@ fn key_bytes(seed: &Text, collection: &Text) -> [u8; 32]
 fn letter(word: u32) -> char
     ensures { result ≡ letter_of word }
 {
-    let place = u64::from(word) * 55 >> 32;
+    let place = (u64::from(word) * 55) >> 32;
     char::from(ALPHABET[place as usize])
 }
 
