@@ -1,5 +1,5 @@
 -- A source and a sink in memory: their bytes, their calls so far, and the calls that are to fail.
-use Rattle.std.specs.Prelude.{ℕ, ◌+◌, ◌-◌, ◌^◌, ◌<◌, ◌≤◌, ◌==◌, ◌&&◌, ◌||◌, nat_lt, not, min, List, ◌++◌, Bool, Option, Some, None, if◌then◌else◌, length, take, drop}
+use Rattle.std.specs.Prelude.{ℕ, ◌+◌, ◌-◌, ◌^◌, ◌==◌, ◌&&◌, ◌||◌, nat_lt, min, List, ◌++◌, Bool, Option, Some, None, if◌then◌else◌, length, drop}
 use Rattle.std.specs.List.{list_any}
 
 -- calls are counted up to this number, and none after it is made to fail

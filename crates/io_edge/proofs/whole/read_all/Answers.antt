@@ -1,4 +1,3 @@
-use Rattle.std.proofs.Common.{◌++◌, take}
 use Rattle.io_edge.proofs.Taken.{gave_next, taken_of}
 use Rattle.io_edge.proofs.whole.read_all.Goals as goal
 
