@@ -1,5 +1,5 @@
 -- What a walk answers where a part of it fails.
-use Rattle.std.proofs.Common.{◌≡◌, ◌≢◌, ℕ, zero, suc, ◌-◌, List, [], ◌∷◌, Option, Some, None, Result, Ok, Err, String, Global, string_bytes, refl, sym, ap, ◌∙◌, subst, sub-one, arith}
+use Rattle.std.proofs.Common.{◌≡◌, ◌≢◌, ℕ, zero, suc, ◌-◌, List, [], ◌∷◌, None, Result, Ok, Err, String, Global, string_bytes, refl, ap, ◌∙◌, arith}
 use Rattle.std.specs.BTreeMap.{BTreeMap}
 use Rattle.std.specs.Map.{values_of}
 use Rattle.serde_json.specs.Data.{Data, Members, no_members, member}
@@ -10,9 +10,8 @@ use Rattle.serde_json.specs.View.{members_view}
 use Rattle.serde_json.specs.declared.value.Value.{Value as Json}
 use Rattle.serde_json.specs.declared.value.Value.{Object}
 use Rattle.serde_json.proofs.Views.{view-Object}
-use Rattle.value_model.specs.Val.{Val, Entries, object, fields_of}
-use Rattle.ejson_value.specs.View.{view}
-use Rattle.ejson_codec.specs.Reading.{Gives, made, below, object_made, members_reading, escape_reading}
+use Rattle.value_model.specs.Val.{Entries, object, fields_of}
+use Rattle.ejson_codec.specs.Reading.{Gives, below, object_made, members_reading, escape_reading}
 use Rattle.ejson_codec.specs.declared.fault.EjsonFault.{EjsonFault}
 use Rattle.ejson_codec.specs.declared.fault.EjsonFault.TheVariants as fault
 use Rattle.ejson_codec.specs.declared.fault.ReadFault.{ReadFault}

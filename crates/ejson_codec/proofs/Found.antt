@@ -1,5 +1,5 @@
 -- The relation of trees and values, from the exact answer.
-use Rattle.std.proofs.Common.{◌≡◌, ◌≤◌, sym, ◌∙◌, Result, Ok, Err, IfOk}
+use Rattle.std.proofs.Common.{◌≤◌, sym, ◌∙◌, Result, Ok, Err, IfOk}
 use Rattle.serde_json.specs.Data.{Data}
 use Rattle.value_model.specs.Val.{Val}
 use Rattle.value_model.specs.Depth.{depth}

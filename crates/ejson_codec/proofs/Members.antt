@@ -1,8 +1,8 @@
 -- The members of an object, seen through the walks of its map.
 use Rattle.std.proofs.Common.{◌≡◌, List, [], ◌∷◌, map, String, string_bytes, Option, Some, None, MatchOption, Bor, Global, refl, ap, sym, ◌∙◌, ℕ}
-use Rattle.std.specs.BTreeMap.{BTreeMap, keys, values}
+use Rattle.std.specs.BTreeMap.{BTreeMap, keys}
 use Rattle.std.specs.Map.{keys_of, values_of}
-use Rattle.serde_json.specs.Data.{Data, null}
+use Rattle.serde_json.specs.Data.{null}
 use Rattle.serde_json.specs.View.{view, members_view}
 use Rattle.serde_json.specs.declared.value.Value.{Value}
 use Rattle.ejson_codec.specs.Shape.{keys_of_members, shape_of, first_of}

@@ -1,5 +1,5 @@
 -- Base64 (RFC 4648, section 4: the alphabet with `+` and `/`, padded with `=`), and the bytes that a text is the encoding of.
-use Rattle.std.specs.Prelude.{ℕ, List, Bool, ◌&&◌, bytes_eq, nat_lt, Option, Some, None, Result, Ok, Err, if◌then◌else◌}
+use Rattle.std.specs.Prelude.{ℕ, List, ◌&&◌, bytes_eq, nat_lt, Option, Some, None, Result, Ok, Err, if◌then◌else◌}
 use Rattle.std.specs.List.{list_all}
 use Rattle.base64.specs.Engines.{standard}
 use Rattle.base64.specs.GeneralPurpose.{encode_of, decode_of}

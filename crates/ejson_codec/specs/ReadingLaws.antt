@@ -1,23 +1,21 @@
 -- Reading answers exactly the value that the tree reads as, where its depth is within the levels.
-use Rattle.std.specs.Prelude.{◌≡◌, ℕ, zero, suc, ◌<◌, ◌≤◌, ◌⊎◌, max, ℤ, pos, neg_ℤ, int_le, ◌≤ℤ◌, Bool, true, false, ◌&&◌, List, [], ◌∷◌, All, Option, Some, None, Result, Ok, Err, if◌then◌else◌, refl}
-use Rattle.std.proofs.Common.{sym, ap, ◌∙◌, subst, arith, inl, inr}
+use Rattle.std.specs.Prelude.{◌≡◌, ℕ, zero, suc, ◌≤◌, ℤ, pos, neg_ℤ, int_le, ◌≤ℤ◌, true, List, [], ◌∷◌, Option, Some, None, Result, Ok, Err, refl}
+use Rattle.std.proofs.Common.{sym, ap, ◌∙◌, arith, inl, inr}
 use Rattle.std.proofs.lemmas.Bool.{cases_Bool, and_parts, and_from}
 use Rattle.std.proofs.lemmas.Int.{ints}
 use Rattle.serde_json.specs.Data.{Num, unsigned, negative, float, Data, Items, no_items, item, Members, no_members, member}
 use Rattle.serde_json.specs.Data as json
-use Rattle.serde_json.specs.Find.{as_integer}
-use Rattle.value_model.specs.Val.{Val, null, boolean, int, text, date, bytes, list, object, vals_of, Entries, fields_of}
+use Rattle.value_model.specs.Val.{Val, null, boolean, int, text, date, list, object, vals_of, Entries, fields_of}
 use Rattle.value_model.specs.Valid.{IsWhole, max_whole}
 use Rattle.value_model.specs.Depth.{depth, vals_depth, fields_depth}
 use Rattle.ejson_codec.specs.Shape.{keys_of_members, shape_of, first_of}
-use Rattle.ejson_codec.specs.Base64.{base64, bytes_of}
+use Rattle.ejson_codec.specs.Base64.{bytes_of}
 use Rattle.ejson_codec.specs.Base64Laws.{bytes_of_some, bytes_of-base64}
 use Rattle.ejson_codec.specs.Reads.{IsAccepted, IsDate, IsBinary, ByShape, Reads, ItemsRead, MembersRead, EscapeReads}
 use Rattle.ejson_codec.specs.Reading.{is_whole, whole_reading, number_reading, made, date_reading, bytes_reading, binary_reading, below, list_made, object_made, with_item, with_field, by_shape, reading, items_reading, members_reading, escape_reading}
 use Rattle.ejson_codec.specs.declared.shape.Shape.{Shape}
 use Rattle.ejson_codec.specs.declared.shape.Shape.TheVariants.{Plain, Date, Binary, Escape, Unsupported}
 use Rattle.ejson_codec.specs.declared.fault.EjsonFault.{EjsonFault}
-use Rattle.ejson_codec.specs.declared.fault.EjsonFault.TheVariants as fault
 
 -- ---- numbers
 

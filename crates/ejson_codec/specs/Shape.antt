@@ -1,5 +1,5 @@
 -- What a JSON object stands for in EJSON, by the exact set of its keys.
-use Rattle.std.specs.Prelude.{ℕ, List, [], ◌∷◌, Bool, true, false, codes, ◌||◌, ◌&&◌, if◌then◌else◌}
+use Rattle.std.specs.Prelude.{ℕ, List, [], ◌∷◌, codes, ◌&&◌, if◌then◌else◌}
 use Rattle.serde_json.specs.Data.{Data, null, Members, no_members, member}
 use Rattle.value_model.specs.Size.{is_name}
 use Rattle.ejson_codec.specs.declared.shape.Shape.{Shape}

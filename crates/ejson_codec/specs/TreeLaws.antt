@@ -1,5 +1,5 @@
 -- A value's tree is in the form that a text is read into, and nests at most twice as deep as the value.
-use Rattle.std.specs.Prelude.{◌≡◌, ℕ, suc, ◌+◌, ◌*◌, ◌≤◌, ◌<◌, max, ℤ, pos, negsuc, ◌<ℤ◌, Bool, true, false, ◌||◌, List, [], ◌∷◌, codes, refl}
+use Rattle.std.specs.Prelude.{◌≡◌, ℕ, ◌+◌, ◌*◌, ◌≤◌, ℤ, pos, negsuc, ◌<ℤ◌, Bool, true, false, List, [], ◌∷◌, codes, refl}
 use Rattle.std.proofs.Common.{sym, ap, ◌∙◌, subst, arith}
 use Rattle.std.proofs.lemmas.Int.{ints}
 use Rattle.std.proofs.lemmas.Bool.{or_from}
@@ -14,14 +14,10 @@ use Rattle.value_model.specs.Valid.{IsValue, AreValues, HaveValues}
 use Rattle.value_model.specs.Order.{text_cmp}
 use Rattle.value_model.specs.Depth.{depth, vals_depth, fields_depth}
 use Rattle.value_model.specs.Size.{names_of, is_special}
-use Rattle.ejson_codec.specs.Shape.{keys_of_members, shape_of}
-use Rattle.ejson_codec.specs.Base64.{base64}
-use Rattle.ejson_codec.specs.Reads.{ByShape}
-use Rattle.ejson_codec.specs.Written.{alone, escaped_if, written, items_written, members_written}
+use Rattle.ejson_codec.specs.Shape.{keys_of_members}
+use Rattle.ejson_codec.specs.Written.{escaped_if, written, items_written, members_written}
 use Rattle.ejson_codec.specs.WrittenLaws.{keys_of_members-members_written, plain_names}
-use Rattle.ejson_codec.specs.Trees.{IsHeldOnce, HoldsNumbersOnce, ItemsHoldNumbersOnce, MembersHoldNumbersOnce, IsTree, HasRisingKeys, ItemsHaveRisingKeys, MembersHaveRisingKeys, IsEscapedExactly, ItemsAreEscapedExactly, MembersAreEscapedExactly, EscapesSpecial}
-use Rattle.ejson_codec.specs.declared.shape.Shape.{Shape}
-use Rattle.ejson_codec.specs.declared.shape.Shape.TheVariants.{Plain, Date, Binary, Escape, Unsupported}
+use Rattle.ejson_codec.specs.Trees.{IsHeldOnce, HoldsNumbersOnce, ItemsHoldNumbersOnce, MembersHoldNumbersOnce, IsTree, HasRisingKeys, ItemsHaveRisingKeys, MembersHaveRisingKeys, IsEscapedExactly, ItemsAreEscapedExactly, MembersAreEscapedExactly}
 
 -- ---- numbers
 

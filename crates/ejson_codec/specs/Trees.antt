@@ -1,5 +1,5 @@
 -- Which JSON trees are in the form that a text is read into, and which have `$escape` exactly where it must be.
-use Rattle.std.specs.Prelude.{◌≡◌, ℕ, pos, ◌<ℤ◌, true, List}
+use Rattle.std.specs.Prelude.{◌≡◌, pos, ◌<ℤ◌, true}
 use Rattle.std.specs.List.Sorted.{IsStrictlySortedBy}
 use Rattle.serde_json.specs.Data.{Num, unsigned, negative, float, Data, null, boolean, number, string, array, object, Items, no_items, item, Members, no_members, member}
 use Rattle.value_model.specs.Order.{text_cmp}

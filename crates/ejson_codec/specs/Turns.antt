@@ -1,8 +1,7 @@
 -- Reading an element or a member more, in front of the answer to the rest.
-use Rattle.std.specs.Prelude.{◌≡◌, ℕ, suc, ◌+◌, ◌<◌, List, [], ◌∷◌, ◌++◌, length, drop, Result, Ok, Err, refl}
-use Rattle.std.proofs.Common.{sym, ap, ◌∙◌, arith}
+use Rattle.std.specs.Prelude.{◌≡◌, ℕ, List, [], ◌∷◌, ◌++◌, Result, Ok, Err, refl}
+use Rattle.std.proofs.Common.{sym, ap}
 use Rattle.std.proofs.lemmas.List.{append_assoc}
-use Rattle.serde_json.specs.Data.{Data, Items, no_items, item, Members, no_members, member}
 use Rattle.value_model.specs.Val.{Val, Entries}
 use Rattle.ejson_codec.specs.Reading.{made, with_item, with_field}
 use Rattle.ejson_codec.specs.declared.fault.EjsonFault.{EjsonFault}

@@ -1,23 +1,19 @@
 -- A value's tree reads as the value, and is the only tree that does and that has `$escape` exactly where it must be.
-use Rattle.std.specs.Prelude.{◌≡◌, ℕ, suc, ◌+◌, ◌*◌, ◌≤◌, ◌<◌, ◌⊎◌, max, ℤ, pos, negsuc, ◌≤ℤ◌, ◌<ℤ◌, Bool, true, false, ◌&&◌, ◌||◌, List, [], ◌∷◌, All, codes, bytes_eq, Ok, if◌then◌else◌, refl}
-use Rattle.std.proofs.Common.{sym, ap, ap₂, ◌∙◌, subst, arith, inl, inr}
-use Rattle.std.proofs.lemmas.Bool.{cases_Bool, and_parts, or_parts, and_from}
+use Rattle.std.specs.Prelude.{◌≡◌, ℕ, ℤ, pos, negsuc, ◌<ℤ◌, Bool, true, false, ◌&&◌, ◌||◌, List, [], ◌∷◌, codes, refl}
+use Rattle.std.proofs.Common.{sym, ap, ap₂, ◌∙◌, subst, arith}
+use Rattle.std.proofs.lemmas.Bool.{or_parts}
 use Rattle.std.proofs.lemmas.Slice.Eq.{bytes_eq-Decides}
 use Rattle.std.proofs.lemmas.Int.{ints}
-use Rattle.std.specs.Map.{keys_of}
 use Rattle.serde_json.specs.Data.{Num, unsigned, negative, float, Data, Items, no_items, item, Members, no_members, member}
 use Rattle.serde_json.specs.Data as json
-use Rattle.serde_json.specs.Find.{of_integer, is_float}
-use Rattle.serde_json.specs.Written.{has_float, items_have_float, members_have_float}
+use Rattle.serde_json.specs.Find.{of_integer}
 use Rattle.value_model.specs.Val.{Val, null, boolean, int, text, date, bytes, list, object, Vals, no_vals, val, Fields, no_fields, field, vals_of, list_of, Entries, fields_of, entries_of, vals_of-list_of, fields_of-entries_of}
 use Rattle.value_model.specs.Valid.{IsWhole, IsValue, AreValues, HaveValues}
-use Rattle.value_model.specs.Depth.{depth, vals_depth, fields_depth}
 use Rattle.value_model.specs.Size.{is_name, names_of, is_special}
 use Rattle.ejson_codec.specs.Shape.{keys_of_members, shape_of, shape_of_one, shape_of_two, first_of}
-use Rattle.ejson_codec.specs.Base64.{base64}
 use Rattle.ejson_codec.specs.Reads.{IsAccepted, IsDate, IsBinary, ByShape, Reads, ItemsRead, MembersRead, EscapeReads}
 use Rattle.ejson_codec.specs.Written.{alone, escaped_if, written, items_written, members_written}
-use Rattle.ejson_codec.specs.Trees.{IsHeldOnce, HoldsNumbersOnce, ItemsHoldNumbersOnce, MembersHoldNumbersOnce, IsTree, HasRisingKeys, ItemsHaveRisingKeys, MembersHaveRisingKeys, IsEscapedExactly, ItemsAreEscapedExactly, MembersAreEscapedExactly, EscapesSpecial}
+use Rattle.ejson_codec.specs.Trees.{IsHeldOnce, HoldsNumbersOnce, ItemsHoldNumbersOnce, MembersHoldNumbersOnce, IsEscapedExactly, ItemsAreEscapedExactly, MembersAreEscapedExactly, EscapesSpecial}
 use Rattle.ejson_codec.specs.declared.shape.Shape.{Shape}
 use Rattle.ejson_codec.specs.declared.shape.Shape.TheVariants.{Plain, Date, Binary, Escape, Unsupported}
 

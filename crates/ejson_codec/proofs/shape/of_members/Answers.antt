@@ -1,6 +1,6 @@
-use Rattle.std.proofs.Common.{◌≡◌, List, [], ◌∷◌, sym, ap, ap₂, ◌∙◌, String, Global, string_bytes, map}
+use Rattle.std.proofs.Common.{◌≡◌, List, [], ◌∷◌, sym, ap, ap₂, ◌∙◌, String, Global}
 use Rattle.std.specs.BTreeMap.{keys}
-use Rattle.ejson_codec.specs.Shape.{shape_of, shape_of_one, shape_of_two}
+use Rattle.ejson_codec.specs.Shape.{shape_of_one, shape_of_two}
 use Rattle.ejson_codec.proofs.Members.{shape_of-keys}
 use Rattle.ejson_codec.proofs.shape.of_members.Goals as goal
 

@@ -1,12 +1,10 @@
-use Rattle.std.proofs.Common.{List, ℕ, length, ◌≡◌, false, sym, ap, ◌∙◌}
-use Rattle.serde_json.specs.Data.{Data}
+use Rattle.std.proofs.Common.{length, ◌≡◌, false, sym, ap, ◌∙◌}
 use Rattle.serde_json.specs.Read as json_text
 use Rattle.serde_json.specs.Written.{has_float, compact_text}
 use Rattle.ejson_value.specs.View.{view}
 use Rattle.serde_json.specs.View.{view as json_view}
 use Rattle.ejson_codec.specs.SizeLaws.{size-written}
 use Rattle.ejson_codec.specs.TreeLaws.{rising_written, has_float-written}
-use Rattle.ejson_codec.specs.Written.{written}
 use Rattle.ejson_codec.proofs.TextLaws.{parsed_back}
 use Rattle.ejson_codec.proofs.texts.text.Goals as goal
 
