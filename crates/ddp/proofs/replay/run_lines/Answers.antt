@@ -1,0 +1,28 @@
+use Rattle.std.proofs.Common.{◌≡◌, ◌++◌, ◌+◌, true, ap, sym, subst, ◌∙◌, arith}
+use Rattle.std.specs.Prelude.{is_some, length}
+use Rattle.world_model.specs.Run.{AreEvents}
+use Rattle.ddp.specs.Input.{lines_in}
+use Rattle.ddp.specs.Replay.{bad_line, events_of, RunsLine}
+use Rattle.ddp.proofs.Turns.{whole, turned, Turned}
+use Rattle.ddp.proofs.replay.run_lines.Goals as goal
+
+pub loop-rest-preserved : goal.loop-rest-preserved
+loop-rest-preserved c =
+    let app = c.args.app.now in
+    let n = c.loop-rest.number in
+    let line = c.first_line.result.0.now in
+    let more = lines_in c.first_line.result.1.now in
+    let old = c.loop-rest.world in
+    let new = c.run_line.new.world in
+    let before = c.loop-rest.output.items in
+    let now = c.run_line.new.output.items in
+    let cut = c.first_line.ensures.lines in
+    let ran : RunsLine app line old new before now true = subst (λ b. RunsLine app line old new before now b) c.if-not-branch.false c.in_ok-run_line.ensures in
+    let t = turned app n line more old new before now ran in
+    let kept = c.loop-rest.invariant in
+    record {
+      text = sym t.text ∙ (ap (λ ls. before ++ whole old app n ls) (sym cut) ∙ kept.text);
+      bad = ap is_some (sym t.bad) ∙ (ap (λ ls. is_some (bad_line app n ls)) (sym cut) ∙ kept.bad);
+      events = λ p. kept.events (subst (λ ls. AreEvents (events_of app ls)) (sym cut) (t.events p));
+      number = omega (arith, kept.number, c.first_line.ensures.shorter);
+    }

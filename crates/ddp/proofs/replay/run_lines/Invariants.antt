@@ -1,0 +1,19 @@
+use Rattle.std.proofs.Common.{◌≡◌, ℕ, ◌+◌, ◌≤◌, ◌++◌, length}
+use Rattle.std.specs.Prelude.{is_some}
+use Rattle.world_model.specs.World.{start}
+use Rattle.world_model.specs.Run.{AreEvents}
+use Rattle.ddp.specs.Input.{lines_in}
+use Rattle.ddp.specs.Replay.{events_of, bad_line}
+use Rattle.ddp.proofs.Turns.{whole}
+use Rattle.ddp.proofs.replay.run_lines.Given as goal
+
+abbrev pub invariant-loop-rest : goal.invariant-loop-rest
+invariant-loop-rest l = record {
+  text : l.output.items ++ whole l.world l.app l.number (lines_in l.rest) ≡ l.initial.output.items ++ whole (start l.app) l.app 2 (lines_in l.lines);
+  bad : is_some (bad_line l.app l.number (lines_in l.rest)) ≡ is_some (bad_line l.app 2 (lines_in l.lines));
+  events : AreEvents (events_of l.app (lines_in l.rest)) → AreEvents (events_of l.app (lines_in l.lines));
+  number : l.number + length l.rest ≤ 2 + length l.lines;
+}
+
+abbrev pub decreases-loop-rest : goal.decreases-loop-rest
+decreases-loop-rest l = length l.rest

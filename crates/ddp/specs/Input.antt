@@ -1,0 +1,28 @@
+-- The lines of an input, and the value that a line is.
+use Rattle.std.specs.Prelude.{ℕ, List, [], ◌∷◌, Bool, Option, None, ◌||◌, ◌==◌, if◌then◌else◌}
+use Rattle.std.specs.List.{list_all}
+use Rattle.std.specs.Str.{is_utf8}
+use Rattle.std.specs.Result.{result_ok}
+use Rattle.value_model.specs.Val.{Val}
+use Rattle.ejson_codec.specs.Reading.{parsed}
+
+abbrev pub line_feed : ℕ
+line_feed = 10
+
+-- with one more byte in front of the first line
+abbrev pub with_byte : ℕ → List (List ℕ) → List (List ℕ)
+with_byte b [] = (b ∷ []) ∷ []
+with_byte b (line ∷ lines) = (b ∷ line) ∷ lines
+
+-- each line ends at a line feed, which the last may lack
+abbrev pub lines_in : List ℕ → List (List ℕ)
+lines_in [] = []
+lines_in (b ∷ bytes) = if b == line_feed then [] ∷ lines_in bytes else with_byte b (lines_in bytes)
+
+-- a line of spaces, tabs and carriage returns alone
+abbrev pub is_blank : List ℕ → Bool
+is_blank line = list_all (λ b. (b == 32) || (b == 9) || (b == 13)) line
+
+-- the value of a line; none where it is no UTF-8, no JSON or no EJSON
+abbrev pub value_in : List ℕ → Option Val
+value_in line = if is_utf8 line then result_ok (parsed line) else None

@@ -1,0 +1,6 @@
+pub mod Input
+pub mod InputLaws
+pub mod Replay
+pub mod ReplayLaws
+pub mod Status
+pub mod Cause

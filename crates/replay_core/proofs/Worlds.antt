@@ -1,0 +1,150 @@
+-- Worlds that events lead to, and what the program's world keeps.
+use Rattle.std.proofs.Common.{◌≡◌, ℕ, suc, ◌+◌, ◌<◌, Bool, true, false, List, [], ◌∷◌, ◌++◌, length, Option, Some, None, refl, ap, sym, subst, ◌∙◌, add-one, arith, inl, inr}
+use Rattle.std.specs.Borrow.{Bor}
+use Rattle.std.specs.Bool.{OnFalse}
+use Rattle.world_model.specs.declared.events.Act.TheVariants as act
+use Rattle.std.specs.Prelude.{◌||◌, option_copied, option_map, is_some, is_none, if◌then◌else◌}
+use Rattle.value_model.specs.Valid.{HasRisingNames}
+use Rattle.session_model.specs.App.{App}
+use Rattle.session_model.specs.History.{Entry, contents, can_insert}
+use Rattle.session_model.specs.Journal.{live_of}
+use Rattle.session_model.specs.OutLaws.{shown-longer, within_from}
+use Rattle.world_model.specs.declared.events.Act.{Act}
+use Rattle.world_model.specs.declared.events.Event.{Event}
+use Rattle.world_model.specs.declared.events.Event.TheVariants as event
+use Rattle.world_model.specs.Client.{Client}
+use Rattle.world_model.specs.World.{World, start, done, can}
+use Rattle.world_model.specs.Settle.{many, times, round, rounds, settled, is_stuck}
+use Rattle.world_model.specs.Run.{step, run, IsEvent, AreEvents, Reachable, HoldsOf}
+use Rattle.world_model.specs.Kept.{IsKept}
+use Rattle.world_model.specs.RunLaws.{settled_keeps, reachable_is_kept}
+use Rattle.world_model.specs.SettleLaws.{round_lowers, rounds_settle, Lowers}
+use Rattle.replay_core.specs.Store.{Stored}
+use Rattle.replay_core.specs.Connections.{client_of}
+use Rattle.replay_core.specs.Worlds.{world_of, Stands, IsKeptInside}
+use Rattle.replay_core.specs.declared.connection.Connection.{Connection}
+use Rattle.replay_core.specs.declared.world.World.TheInside.{Inside}
+
+app_stays : (w : World) (e : Event) → (step w e).app ≡ w.app
+app_stays w (event.Client name) = refl
+app_stays w (event.Sub who id name) = refl
+app_stays w (event.Insert key doc) = refl
+app_stays w (event.Do a) = refl
+app_stays w event.Settle = settled_keeps (λ v. v.app ≡ w.app) (λ a v p. p) w refl
+app_stays w (event.Show who) = refl
+
+run-append : (w : World) (events : List Event) (e : Event) → run w (events ++ e ∷ []) ≡ step (run w events) e
+run-append w [] e = refl
+run-append w (f ∷ events) e = run-append (step w f) events e
+
+AreEvents-append : (events : List Event) (e : Event) → AreEvents events → IsEvent e → AreEvents (events ++ e ∷ [])
+AreEvents-append [] e all one = (one, tt)
+AreEvents-append (f ∷ events) e all one = (all.0, AreEvents-append events e all.1 one)
+
+-- one more event
+pub reachable_step : (w : World) (e : Event) → IsEvent e → Reachable w → Reachable (step w e)
+reachable_step w e is r = (
+  r.0 ++ e ∷ [],
+  AreEvents-append r.0 e r.1 is,
+  ap (λ app. run (start app) (r.0 ++ e ∷ [])) (app_stays w e) ∙ (run-append (start w.app) r.0 e ∙ ap (λ v. step v e) r.2),
+)
+
+pub reachable_start : (app : App) → Reachable (start app)
+reachable_start app = ([], tt, refl)
+
+-- the client and its session are as they were
+pub kept_same : (a : Inside) (connection : Option Connection) → IsKeptInside a → Stands a.store connection → option_map client_of connection ≡ option_map client_of a.connection → IsKeptInside (record a { connection = connection })
+kept_same a connection k stands same = record {
+  stands = stands;
+  reachable = subst Reachable (ap (λ (o : Option Client). record (world_of a) { client = o }) (sym same)) k.reachable;
+}
+
+-- an event that changes the client alone
+pub kept_step : (a : Inside) (connection : Option Connection) (e : Event) (after : Option Client) → IsEvent e → IsKeptInside a → Stands a.store connection →
+    step (world_of a) e ≡ record (world_of a) { client = after } → option_map client_of connection ≡ after → IsKeptInside (record a { connection = connection })
+kept_step a connection e after is k stands made same = record {
+  stands = stands;
+  reachable = subst Reachable (made ∙ ap (λ (o : Option Client). record (world_of a) { client = o }) (sym same)) (reachable_step (world_of a) e is k.reachable);
+}
+
+longer_session : (store : Stored) (more : List Entry) (c : Option Connection) → HoldsOf (option_map client_of c) (IsKept store.app store.history) → Stands store c →
+    Stands (record store { history = store.history ++ more }) c
+longer_session store more None k s = tt
+longer_session store more (Some c) k s =
+    let live = live_of c.session.journal.items in
+    record {
+      live = s.live;
+      shown = s.shown ∙ sym (shown-longer store.app store.history more live (within_from (length store.history) None c.session.journal.items tt k.fits));
+    }
+
+-- an insert that nothing refuses
+pub kept_insert : (a : Inside) (store : Stored) (entry : Entry) → HasRisingNames entry.doc → IsKeptInside a → can_insert a.store.app (contents a.store.history) entry ≡ true →
+    store ≡ record a.store { history = a.store.history ++ entry ∷ [] } → IsKeptInside (record a { store = store })
+kept_insert a store entry rising k can made =
+    let longer : Stored = record a.store { history = a.store.history ++ entry ∷ [] } in
+    let kept : IsKeptInside (record a { store = longer }) = record {
+      stands = longer_session a.store (entry ∷ []) a.connection (reachable_is_kept (world_of a) k.reachable).client k.stands;
+      reachable =
+          subst Reachable
+          (ap (λ b. let h : List Entry = if b then a.store.history ++ entry ∷ [] else a.store.history in let w : World = record (world_of a) { history = h } in w) can)
+          (reachable_step (world_of a) (event.Insert entry.key entry.doc) rising k.reachable);
+    } in
+    subst (λ s. IsKeptInside (record a { store = s })) (sym made) kept
+
+not_below : (n : ℕ) → n < n → ⊥
+not_below n h = omega (arith, h)
+
+not_lower : (w : World) → Lowers w w → ⊥
+not_lower w h = elim h [ inl less ↦ not_below _ less | inr both ↦ not_below _ both.1 ]
+
+-- a round that leaves the world finds it stuck
+pub stays_is_stuck : (w : World) → round w ≡ w → is_stuck w ≡ true
+stays_is_stuck w same =
+    elim (round_lowers w) [ inl stuck ↦ stuck.0 | inr lower ↦ absurd (not_lower w (subst (Lowers w) same lower.1)) ]
+
+-- however many rounds it took
+pub settles : (n : ℕ) (w v : World) → v ≡ rounds n w → round v ≡ v → v ≡ settled w
+settles n w v is same =
+    is ∙ rounds_settle n w (ap is_stuck (sym is) ∙ stays_is_stuck v same)
+
+pub none_there : {A : Type 0} (r : Option (Bor A)) (o : Option A) → option_copied r ≡ o → is_some r ≡ false → is_none o ≡ true
+none_there None o e f = ap is_none (sym e)
+none_there (Some x) o e f = cc
+
+pub many_none : (a : Act) (w : World) → w ≡ many 0 a w
+unfolding many
+many_none a w = refl
+
+pub many_more : (n : ℕ) (a : Act) (w v u : World) → v ≡ many n a w → u ≡ done a v → u ≡ many (n + 1) a w
+unfolding many
+many_more n a w v u is made = rw add-one (made ∙ ap (done a) is)
+
+pub rounds_none : (w : World) → w ≡ rounds 0 w
+unfolding rounds
+rounds_none w = refl
+
+pub rounds_more : (n : ℕ) (w v u : World) → v ≡ rounds n w → u ≡ round v → u ≡ rounds (suc n) w
+unfolding rounds
+rounds_more n w v u is made = made ∙ ap round is
+
+pub idle_or : (a b : Bool) (u v w : World) → OnFalse a (v ≡ w) → OnFalse b (u ≡ v) → OnFalse (a || b) (u ≡ w)
+idle_or true b u v w p q = tt
+idle_or false true u v w p q = tt
+idle_or false false u v w p q = q ∙ p
+
+pub idle_or_before : (a b : Bool) (u v w : World) → OnFalse a (u ≡ v) → OnFalse b (v ≡ w) → OnFalse (a || b) (u ≡ w)
+idle_or_before true b u v w p q = tt
+idle_or_before false true u v w p q = tt
+idle_or_before false false u v w p q = p ∙ q
+
+-- the steps of a round, one after another
+pub round_is : (w0 w1 w2 w3 w4 w5 w6 w7 : World) → w1 ≡ many (times w0 act.Up) act.Up w0 → w2 ≡ many (times w1 act.Recv) act.Recv w1 → w3 ≡ many (times w2 act.Handle) act.Handle w2 →
+    w4 ≡ many (times w3 act.Load) act.Load w3 → w5 ≡ many (times w4 act.Advance) act.Advance w4 → w6 ≡ many (times w5 act.Send) act.Send w5 → w7 ≡ many (times w6 act.Take) act.Take w6 →
+    w7 ≡ round w0
+round_is w0 w1 w2 w3 w4 w5 w6 w7 e1 e2 e3 e4 e5 e6 e7 =
+    let made = λ (a : Act) (w : World). many (times w a) a w in
+    e7 ∙ ap (made act.Take) (e6 ∙ ap (made act.Send) (e5 ∙ ap (made act.Advance) (e4 ∙ ap (made act.Load) (e3 ∙ ap (made act.Handle) (e2 ∙ ap (made act.Recv) e1)))))
+
+-- a round that leaves the world, after some rounds
+pub settles_after : (n : ℕ) (w v u : World) → v ≡ rounds n w → u ≡ round v → u ≡ v → u ≡ settled w
+settles_after n w v u is made same = same ∙ settles n w v is (sym made ∙ same)

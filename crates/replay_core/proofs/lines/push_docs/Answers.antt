@@ -1,0 +1,20 @@
+use Rattle.std.proofs.Common.{◌∷◌, [], ◌++◌, ap, sym, ◌∙◌}
+use Rattle.std.proofs.lemmas.List.{append_assoc}
+use Rattle.replay_core.proofs.Printed.{next_doc}
+use Rattle.replay_core.proofs.lines.push_docs.Goals as goal
+
+pub loop-key-preserved : goal.loop-key-preserved
+loop-key-preserved c =
+    let done = c.loop-key.invariant.2.0 in
+    let key = c.in-Some.key.now in
+    let doc = c.in-Some.doc.now in
+    let rest = c.next.new.self in
+    let all = c.loop-key.invariant.2.1 ∙ ap (λ more. done ++ more) c.in-Some.ensures.steps in (
+      tt,
+      tt,
+      (
+        done ++ (key, doc) ∷ [],
+        all ∙ sym (append_assoc done ((key, doc) ∷ []) rest),
+        next_doc c.args.lines.now c.loop-key.lines _ done key doc c.loop-key.invariant.2.2 c.in_ok-push_doc.ensures,
+      ),
+    )

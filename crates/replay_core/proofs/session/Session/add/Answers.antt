@@ -1,0 +1,30 @@
+use Rattle.std.proofs.Common.{◌≡◌, ◌∷◌, [], ◌++◌, refl, ap, ◌∙◌}
+use Rattle.std.specs.Prelude.{option_to_list, is_ok, if◌then◌else◌}
+use Rattle.session_model.specs.Out.{own_message}
+use Rattle.replay_core.specs.Sessions.{with_session}
+use Rattle.replay_core.proofs.Sessions.{with_item_is, messages_are, stands_after, live_ref}
+use Rattle.replay_core.proofs.session.Session.add.Goals as goal
+
+pub returns-clause-added : goal.returns-clause-added
+returns-clause-added c cl =
+    let old = c.args.self.now in
+    let store = c.args.store.now in
+    let own = c.in_ok-own.own in
+    let journal : c.push.new.self.items ≡ old.journal.items ++ c.args.item ∷ [] =
+    c.push.ensures.items
+    ∙ (ap (λ r. if is_ok r then c.reserve.new.self.items ++ c.args.item ∷ [] else c.reserve.new.self.items) c.unwrap.ensures
+    ∙ ap (λ xs. xs ++ c.args.item ∷ []) c.reserve.ensures.items) in
+    let own_is = c.in_ok-own.ensures ∙ ap (λ live. own_message old.number live c.args.item) (live_ref c.as_ref.result old.live c.as_ref.ensures.value) in
+    let messages = messages_are store old c.args.item own c.args.rows c.push_own.new.messages c.requires.stands c.requires.rows own_is
+    (c.in_ok-push_own.ensures ∙ ap (λ ms. ms ++ option_to_list own) c.in_ok-messages.ensures) in
+    with_item_is store.app store.history (with_session cl old) c.args.item c.push.new.self.items c.append.new.self journal
+    (c.in_ok-append.ensures.ok ∙ ap (λ ms. old.outbox ++ ms) messages)
+
+pub returns-clause-stands : goal.returns-clause-stands
+returns-clause-stands c =
+    let old = c.args.self.now in
+    let journal : c.push.new.self.items ≡ old.journal.items ++ c.args.item ∷ [] =
+    c.push.ensures.items
+    ∙ (ap (λ r. if is_ok r then c.reserve.new.self.items ++ c.args.item ∷ [] else c.reserve.new.self.items) c.unwrap.ensures
+    ∙ ap (λ xs. xs ++ c.args.item ∷ []) c.reserve.ensures.items) in
+    stands_after c.args.store.now old.journal.items c.args.item c.args.live c.args.rows c.requires.live c.requires.rows _ journal refl refl

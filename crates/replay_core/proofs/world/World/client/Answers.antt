@@ -1,0 +1,14 @@
+use Rattle.std.proofs.Common.{refl}
+use Rattle.world_model.specs.declared.events.Event.TheVariants as event
+use Rattle.replay_core.proofs.Worlds.{kept_same, kept_step}
+use Rattle.replay_core.proofs.world.World.client.Goals as goal
+
+pub invariant_of-self : goal.invariant_of-self
+invariant_of-self c =
+    let old = c.self.inside in
+    kept_same old c.begin.new.connection c.self.invariant (c.begin.ensures.stands old.store c.self.invariant.stands) c.in_err-done.ensures.err
+
+pub invariant_of-self-2 : goal.invariant_of-self-2
+invariant_of-self-2 c =
+    let old = c.self.inside in
+    kept_step old c.begin.new.connection (event.Client c.args.name.now) _ tt c.self.invariant (c.begin.ensures.stands old.store c.self.invariant.stands) refl c.in_ok-done.ensures.ok

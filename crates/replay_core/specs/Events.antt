@@ -1,0 +1,91 @@
+-- The event that a line describes.
+use Rattle.std.specs.Prelude.{ℕ, List, length, Bool, true, false, Option, Some, None, option_and_then, option_map, is_some, nat_lt, ◌&&◌, if◌then◌else◌, codes}
+use Rattle.value_model.specs.Val.{Val, text, list, object, Vals, no_vals, val, entries_of, Entries}
+use Rattle.value_model.specs.Doc.{get, remove}
+use Rattle.value_model.specs.Size.{is_name}
+use Rattle.session_model.specs.App.{App, publication}
+use Rattle.world_model.specs.declared.events.Event.{Event}
+use Rattle.world_model.specs.declared.events.Event.TheVariants as event
+
+-- the text that stands first, and what follows it
+abbrev pub text_first : Vals → Option (List ℕ × Vals)
+text_first (val (text t) vs) = Some (t, vs)
+text_first _ = None
+
+abbrev pub is_nil : Vals → Bool
+is_nil no_vals = true
+is_nil (val v vs) = false
+
+-- the text that stands alone
+abbrev pub text_alone : Vals → Option (List ℕ)
+text_alone vs = option_and_then (λ first. if is_nil first.1 then Some first.0 else None) (text_first vs)
+
+-- the list that stands alone
+abbrev pub list_alone : Vals → Option Vals
+list_alone (val (list vs) rest) = if is_nil rest then Some vs else None
+list_alone _ = None
+
+-- the document that stands alone
+abbrev pub doc_alone : Vals → Option Entries
+doc_alone (val (object fs) rest) = if is_nil rest then Some (entries_of fs) else None
+doc_alone _ = None
+
+-- no parameters, or an empty list of them
+abbrev pub has_no_params : Vals → Bool
+has_no_params no_vals = true
+has_no_params (val (list vs) rest) = is_nil rest && is_nil vs
+has_no_params _ = false
+
+-- a subscription to a publication of the application, its id of at most 256 bytes
+abbrev pub sub_with : App → List ℕ → List ℕ → List ℕ → Vals → Option Event
+sub_with app who id name params =
+    if has_no_params params && nat_lt (length id) 257 && is_some (publication app name) then Some (event.Sub who id name) else None
+
+-- `["sub",client,id,name]` and `["sub",client,id,name,[]]`, after the word
+abbrev pub sub_in : App → Vals → Option Event
+sub_in app vs =
+    option_and_then (λ who.
+    option_and_then (λ id.
+    option_and_then (λ name. sub_with app who.0 id.0 name.0 name.1) (text_first id.1))
+    (text_first who.1))
+    (text_first vs)
+
+-- an id of a document has 1 to 256 bytes
+abbrev pub is_valid_id : List ℕ → Bool
+is_valid_id id = nat_lt 0 (length id) && nat_lt (length id) 257
+
+abbrev pub insert_with : List ℕ → Option Val → Entries → Option Event
+insert_with collection (Some (text id)) doc = if is_valid_id id then Some (event.Insert (record { collection = collection; id = id }) doc) else None
+insert_with collection _ doc = None
+
+-- the insert of a document: its id is the field `_id`, and the other fields are the document
+abbrev pub insert_in : List ℕ → Entries → Option Event
+insert_in collection es = insert_with collection (get es (codes "_id")) (remove es (codes "_id"))
+
+-- `["insert",collection,document]`
+abbrev pub operation_in : Vals → Option Event
+operation_in vs =
+    option_and_then (λ word.
+    if is_name word.0 (codes "insert")
+    then option_and_then (λ collection. option_and_then (λ doc. insert_in collection.0 doc) (doc_alone collection.1)) (text_first word.1)
+    else None)
+    (text_first vs)
+
+-- `["admin",operation]`, after the word
+abbrev pub admin_in : Vals → Option Event
+admin_in vs = option_and_then operation_in (list_alone vs)
+
+-- the event of this word and what follows it
+abbrev pub row_in : App → List ℕ → Vals → Option Event
+row_in app word vs =
+    if is_name word (codes "client") then option_map event.Client (text_alone vs)
+    else if is_name word (codes "sub") then sub_in app vs
+    else if is_name word (codes "admin") then admin_in vs
+    else if is_name word (codes "settle") then (if is_nil vs then Some event.Settle else None)
+    else if is_name word (codes "show") then option_map event.Show (text_alone vs)
+    else None
+
+-- the event of a line
+abbrev pub event_in : App → Val → Option Event
+event_in app (list vs) = option_and_then (λ first. row_in app first.0 first.1) (text_first vs)
+event_in app _ = None

@@ -1,0 +1,12 @@
+pub mod Faults
+pub mod App
+pub mod Difference
+pub mod Events
+pub mod Store
+pub mod Stands
+pub mod Queue
+pub mod Sessions
+pub mod Connections
+pub mod Worlds
+pub mod Left
+pub mod Text

@@ -1,0 +1,104 @@
+//! The lines that an event prints.
+ghost use Rattle.std.specs.Prelude.{◌≡◌, ◌++◌, ◌∷◌, [], ℕ, pos, length, map, codes, false, IfOk, OnOk, OnErr, option_map};
+ghost use Rattle.value_model.specs.Val.{text, int, list, vals_of};
+ghost use Rattle.ejson_value.specs.View.{view};
+ghost use Rattle.world_model.specs.Lines.{line, idle, idle_unless, refused, doc_line, state_word, sub_lines, show_lines, shown_to};
+ghost use Rattle.replay_core.specs.Text.{line_text};
+ghost use Rattle.replay_core.specs.Connections.{as_sub, client_of};
+
+use crate::connection::{Connection, Sub};
+use ejson_codec::{Lines, text};
+use ejson_value::{Contents, Doc, Items, Key, Mem, Text, Value, Whole};
+use std::alloc::Global;
+
+// The word that says what a line is.
+fn worded(alloc: Global, word: &str) -> Result<Items, Mem>
+    ensures { IfOk result (λ items. items ≡ text word.now ∷ []) }
+{
+    let mut items = Items::new(alloc);
+    items.push(Value::Text(Text::from_str(alloc, word)?))?;
+    Ok(items)
+}
+
+fn push_line(alloc: Global, lines: &mut Lines, items: Items) -> Result<(), Mem>
+    ensures { OnOk result (lines.new ≡ lines.old ++ line_text (list (vals_of items)) ∷ []) }
+{
+    lines.push(text(alloc, &Value::List(items))?)
+}
+
+/// The line `["idle"]`, unless the event was enabled.
+pub(crate) fn idle_unless(alloc: Global, done: bool) -> Result<Lines, Mem>
+    ensures lines { IfOk result (λ lines. lines ≡ map line_text (idle_unless done)) }
+    ensures err { OnErr result (done ≡ false) }
+{
+    let mut lines = Lines::new(alloc);
+    if done {
+        return Ok(lines);
+    }
+    push_line(alloc, &mut lines, worded(alloc, "idle")?)?;
+    Ok(lines)
+}
+
+/// The line `["refused",code]`.
+pub(crate) fn refused(alloc: Global, code: u16) -> Result<Lines, Mem>
+    ensures { IfOk result (λ lines. lines ≡ map line_text (refused code ∷ [])) }
+{
+    let mut items = worded(alloc, "refused")?;
+    let Some(number) = Whole::of(i64::from(code)) else {
+        return Err(Mem);
+    };
+    items.push(Value::Int(number))?;
+    let mut lines = Lines::new(alloc);
+    push_line(alloc, &mut lines, items)?;
+    Ok(lines)
+}
+
+fn push_doc(alloc: Global, lines: &mut Lines, key: &Key, doc: &Doc) -> Result<(), Mem>
+    ensures { OnOk result (lines.new ≡ lines.old ++ line_text (doc_line (key.now, doc.now)) ∷ []) }
+{
+    let mut items = worded(alloc, "doc")?;
+    items.push(Value::Text(key.collection.copy()?))?;
+    items.push(Value::Text(key.id.copy()?))?;
+    items.push(Value::Object(doc.copy()?))?;
+    push_line(alloc, lines, items)
+}
+
+fn push_sub(alloc: Global, lines: &mut Lines, sub: Option<&Sub>) -> Result<(), Mem>
+    ensures { OnOk result (lines.new ≡ lines.old ++ map line_text (sub_lines (option_map (λ s. as_sub s.now) sub.entry))) }
+{
+    let Some(sub) = sub else {
+        return Ok(());
+    };
+    let mut items = worded(alloc, "sub")?;
+    items.push(Value::Text(sub.id.copy()?))?;
+    items.push(Value::Text(state_word(alloc, sub.is_ready)?))?;
+    push_line(alloc, lines, items)
+}
+
+fn state_word(alloc: Global, is_ready: bool) -> Result<Text, Mem>
+    ensures { IfOk result (λ word. word ≡ state_word is_ready) }
+{
+    Text::from_str(alloc, if is_ready { "ready" } else { "waiting" })
+}
+
+/// What the client has: its documents by collection and id, then its subscription.
+pub(crate) fn show(alloc: Global, connection: &Connection) -> Result<Lines, Mem>
+    ensures { IfOk result (λ lines. lines ≡ map line_text (show_lines (client_of connection.now))) }
+{
+    let mut lines = Lines::new(alloc);
+    let mut items = worded(alloc, "show")?;
+    items.push(Value::Text(connection.client.name.copy()?))?;
+    push_line(alloc, &mut lines, items)?;
+    push_docs(alloc, &mut lines, &connection.client.rows)?;
+    push_sub(alloc, &mut lines, connection.client.sub.as_ref())?;
+    Ok(lines)
+}
+
+fn push_docs(alloc: Global, lines: &mut Lines, rows: &Contents) -> Result<(), Mem>
+    ensures { OnOk result (lines.new ≡ lines.old ++ map line_text (map doc_line rows.now)) }
+{
+    for (key, doc) in rows.iter() {
+        push_doc(alloc, lines, key, doc)?;
+    }
+    Ok(())
+}

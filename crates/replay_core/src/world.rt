@@ -1,0 +1,369 @@
+//! A world: one store, one server and its client.
+ghost use Rattle.std.specs.Prelude.{◌≡◌, [], length, map, IfOk, OnOk, OnErr, is_none, option_map};
+ghost use Rattle.std.specs.Bool.{OnFalse};
+ghost use Rattle.session_model.specs.History.{contents};
+ghost use Rattle.world_model.specs.Acts.{acts};
+ghost use Rattle.world_model.specs.World.{start, done, can, after_act, can_by};
+ghost use Rattle.world_model.specs.Settle.{times_of, times, many, round, settled};
+ghost use Rattle.world_model.specs.Run.{after_client, after_sub, can_subscribe, subscribes, inserted, step, Reachable, HoldsOf, IsAtRest, IsTrueWorld};
+ghost use Rattle.world_model.specs.Lines.{subscribed, refusal, shown_to, lines_of};
+ghost use Rattle.replay_core.specs.Store.{Stored};
+ghost use Rattle.replay_core.specs.Sessions.{IsTrueTo, Does};
+ghost use Rattle.replay_core.specs.Connections.{client_of};
+ghost use Rattle.replay_core.specs.Worlds.{Stands};
+ghost use Rattle.replay_core.specs.Left.{IsLeft};
+ghost use Rattle.replay_core.specs.Text.{line_text};
+
+use crate::app::App;
+use crate::connection::{Connection, Sub};
+use crate::lines::{idle_unless, refused, show};
+use crate::store::Store;
+use ejson_codec::Lines;
+use ejson_value::{Doc, Key, Mem, Text};
+use session_model::messages::FromClient;
+use std::alloc::Global;
+use std::marker::Model;
+use world_model::events::{Act, Event};
+
+/// A world. A contract sees its application, the history of its store and its client.
+#[derive(Debug, Drop)]
+pub struct World {
+    store: Store,
+    connection: Option<Connection>,
+}
+
+impl Model for World {
+    ghost use Rattle.world_model.specs.World.{World as TheWorld};
+
+    ghost Value = { TheWorld };
+
+    ghost use Rattle.std.specs.Coded.{codes};
+    ghost use Rattle.value_model.specs.Coding.{val_code};
+
+    ghost coded = { Prim.hlevel (codes, val_code) };
+
+    ghost use Rattle.replay_core.specs.Worlds.{world_of, IsKeptInside};
+
+    ghost view = { world_of };
+
+    ghost invariant = { IsKeptInside };
+}
+
+// A client of this name begins, if there is none yet. Whether it did.
+fn begin(alloc: Global, connection: &mut Option<Connection>, name: &Text) -> Result<bool, Mem>
+    ensures done { IfOk result (λ done. done ≡ is_none (option_map client_of connection.old)) }
+    ensures ok { OnOk result (option_map client_of connection.new ≡ after_client name.now (option_map client_of connection.old)) }
+    ensures err { OnErr result (option_map client_of connection.new ≡ option_map client_of connection.old) }
+    ensures stands { (store : Stored) → Stands store connection.old → Stands store connection.new }
+{
+    match connection {
+        Some(_) => Ok(false),
+        None => {
+            *connection = Some(Connection::new(alloc, name)?);
+            Ok(true)
+        }
+    }
+}
+
+// A client subscribes once it is connected, once, to a publication of the application.
+fn can_subscribe(connection: &Connection, app: &App, who: &Text, name: &Text) -> bool
+    ensures { result ≡ can_subscribe app.now (client_of connection.now) who.now name.now }
+{
+    connection.client.name.as_str() == who.as_str()
+        && connection.client.session.is_some()
+        && connection.client.sub.is_none()
+        && app.publication(name).is_some()
+}
+
+fn subscribe_one(
+    connection: &mut Connection,
+    app: &App,
+    who: &Text,
+    id: &Text,
+    name: &Text,
+) -> Result<bool, Mem>
+    ensures ok { IfOk result (λ done. Does done (client_of connection.old) (client_of connection.new) (subscribes app.now (client_of connection.old) who.now id.now name.now)) }
+    ensures err { OnErr result (client_of connection.new ≡ client_of connection.old) }
+    ensures stands { (store : Stored) → IsTrueTo store connection.old.session → IsTrueTo store connection.new.session }
+{
+    if !can_subscribe(connection, app, who, name) {
+        return Ok(false);
+    }
+    let sub = Sub {
+        id: id.copy()?,
+        is_ready: false,
+    };
+    let id = id.copy()?;
+    let name = name.copy()?;
+    connection
+        .client
+        .waiting
+        .push(FromClient::Sub { id, name })?;
+    connection.client.sub = Some(sub);
+    Ok(true)
+}
+
+// The client subscribes, if it can. Whether it did.
+fn subscribe(
+    connection: &mut Option<Connection>,
+    app: &App,
+    who: &Text,
+    id: &Text,
+    name: &Text,
+) -> Result<bool, Mem>
+    ensures done { IfOk result (λ done. done ≡ subscribed app.now (option_map client_of connection.old) who.now name.now) }
+    ensures ok { OnOk result (option_map client_of connection.new ≡ after_sub app.now who.now id.now name.now (option_map client_of connection.old)) }
+    ensures err { OnErr result (option_map client_of connection.new ≡ option_map client_of connection.old) }
+    ensures stands { (store : Stored) → Stands store connection.old → Stands store connection.new }
+{
+    match connection {
+        Some(connection) => {
+            let done = subscribe_one(connection, app, who, id, name)?;
+            Ok(done)
+        }
+        None => Ok(false),
+    }
+}
+
+// A step of the client or its session. Whether it is enabled.
+fn act(connection: &mut Connection, store: &Store, act: Act) -> Result<bool, Mem>
+    requires { IsTrueTo store.now connection.old.session }
+    ensures ok { IfOk result (λ done. Does done (client_of connection.old) (client_of connection.new) (acts store.now.app store.now.history (client_of connection.old) act)) }
+    ensures err { OnErr result (client_of connection.new ≡ client_of connection.old) }
+    ensures stands { IsTrueTo store.now connection.new.session }
+{
+    match act {
+        Act::Up => connection.move_up(),
+        Act::Recv => connection.receive(store),
+        Act::Handle => connection.handle(store),
+        Act::Load => connection.load(store),
+        Act::Advance => connection.advance(store),
+        Act::Send => connection.send(),
+        Act::Take => connection.take(),
+    }
+}
+
+// A step, if it is enabled. Whether it is.
+fn make(connection: &mut Option<Connection>, store: &Store, step: Act) -> Result<bool, Mem>
+    requires { Stands store.now connection.old }
+    ensures can { IfOk result (λ made. made ≡ can_by store.now.app store.now.history step (option_map client_of connection.old)) }
+    ensures ok { OnOk result (option_map client_of connection.new ≡ after_act store.now.app store.now.history step (option_map client_of connection.old)) }
+    ensures idle { IfOk result (λ made. OnFalse made (option_map client_of connection.new ≡ option_map client_of connection.old)) }
+    ensures err { OnErr result (option_map client_of connection.new ≡ option_map client_of connection.old) }
+    ensures stands { Stands store.now connection.new }
+{
+    match connection {
+        Some(connection) => {
+            let made = act(connection, store, step)?;
+            Ok(made)
+        }
+        None => Ok(false),
+    }
+}
+
+// How often a round makes the step at most.
+fn times_of(connection: &Connection, act: Act) -> usize
+    ensures { result ≡ times_of (client_of connection.now) act }
+{
+    match act {
+        Act::Up => connection.client.waiting.len(),
+        Act::Recv => connection.upward.len(),
+        Act::Handle => connection.session.queue.len(),
+        Act::Load | Act::Advance => 1,
+        Act::Send => connection.session.outbox.len(),
+        Act::Take => connection.downward.len(),
+    }
+}
+
+impl World {
+    /// The world of the application at its beginning.
+    pub fn new(alloc: Global, app: &App) -> Result<World, Mem>
+        ensures { IfOk result (λ w. w ≡ start app.now) }
+    {
+        Ok(World {
+            store: Store::new(alloc, app)?,
+            connection: None,
+        })
+    }
+
+    // A client of this name begins.
+    fn client(&mut self, name: &Text) -> Result<bool, Mem>
+        ensures done { IfOk result (λ done. done ≡ is_none self.old.client) }
+        ensures ok { OnOk result (self.new ≡ record self.old { client = after_client name.now self.old.client }) }
+        ensures err { OnErr result (self.new ≡ self.old) }
+        ensures idle { IfOk result (λ done. OnFalse done (self.new ≡ self.old)) }
+    {
+        let done = begin(self.store.allocator(), &mut self.connection, name)?;
+        Ok(done)
+    }
+
+    // The client subscribes.
+    fn sub(&mut self, who: &Text, id: &Text, name: &Text) -> Result<bool, Mem>
+        ensures done { IfOk result (λ done. done ≡ subscribed self.old.app self.old.client who.now name.now) }
+        ensures ok { OnOk result (self.new ≡ record self.old { client = after_sub self.old.app who.now id.now name.now self.old.client }) }
+        ensures err { OnErr result (self.new ≡ self.old) }
+        ensures idle { IfOk result (λ done. OnFalse done (self.new ≡ self.old)) }
+    {
+        let done = subscribe(&mut self.connection, self.store.app(), who, id, name)?;
+        Ok(done)
+    }
+
+    // A document is inserted from outside. What is printed.
+    fn insert(&mut self, key: &Key, doc: &Doc) -> Result<Lines, Mem>
+        ensures ok { OnOk result (self.new ≡ record self.old { history = inserted self.old.app self.old.history (record { key = key.now; doc = doc.now }) }) }
+        ensures lines { IfOk result (λ lines. lines ≡ map line_text (refusal self.old.app (contents self.old.history) key.now)) }
+        ensures err { OnErr result (self.new ≡ self.old) }
+    {
+        let alloc = self.store.allocator();
+        if !self.store.app().has_collection(&key.collection) {
+            return refused(alloc, 404);
+        }
+        if self.store.get(key).is_some() {
+            return refused(alloc, 409);
+        }
+        doc.known();
+        self.store.insert(key, doc)?;
+        Ok(Lines::new(alloc))
+    }
+
+    // A single step. Whether it is enabled.
+    fn make(&mut self, step: Act) -> Result<bool, Mem>
+        ensures can { IfOk result (λ made. made ≡ can self.old step) }
+        ensures ok { OnOk result (self.new ≡ done step self.old) }
+        ensures idle { IfOk result (λ made. OnFalse made (self.new ≡ self.old)) }
+        ensures err { OnErr result (self.new ≡ self.old) }
+    {
+        let made = make(&mut self.connection, &self.store, step)?;
+        Ok(made)
+    }
+
+    // How often a round makes the step at most.
+    fn times(&self, step: Act) -> usize
+        ensures { result ≡ times self.now step }
+    {
+        match &self.connection {
+            Some(connection) => times_of(connection, step),
+            None => 0,
+        }
+    }
+
+    // The step, as often as there are messages for it. Whether it was made.
+    fn make_often(&mut self, step: Act) -> Result<bool, Mem>
+        ensures ok { OnOk result (self.new ≡ many (times self.old step) step self.old) }
+        ensures idle { IfOk result (λ made. OnFalse made (self.new ≡ self.old)) }
+    {
+        let mut made = false;
+        for _ in 0..self.times(step) {
+            let now = self.make(step)?;
+            made = now || made;
+        }
+        Ok(made)
+    }
+
+    // Each step in turn, as often as there are messages for it. Whether one was made.
+    fn round(&mut self) -> Result<bool, Mem>
+        ensures ok { OnOk result (self.new ≡ round self.old) }
+        ensures idle { IfOk result (λ made. OnFalse made (self.new ≡ self.old)) }
+    {
+        let up = self.make_often(Act::Up)?;
+        let received = self.make_often(Act::Recv)?;
+        let handled = self.make_often(Act::Handle)?;
+        let loaded = self.make_often(Act::Load)?;
+        let advanced = self.make_often(Act::Advance)?;
+        let sent = self.make_often(Act::Send)?;
+        let taken = self.make_often(Act::Take)?;
+        Ok(up || received || handled || loaded || advanced || sent || taken)
+    }
+
+    fn settle_all(&mut self) -> Result<(), Mem>
+        ensures { OnOk result (self.new ≡ settled self.old) }
+    {
+        for _ in 0..u64::MAX {
+            let made = self.round()?;
+            if !made {
+                return Ok(());
+            }
+        }
+        Err(Mem)
+    }
+
+    /// Steps are made until none is enabled. Where memory runs out, those made so far stay made.
+    pub fn settle(&mut self) -> Result<(), Mem>
+        ensures settled { OnOk result (self.new ≡ settled self.old) }
+        ensures at_rest { OnOk result (HoldsOf self.new.client (IsAtRest self.new.history)) }
+        ensures true_world { IsTrueWorld self.new }
+    {
+        self.reached();
+        let answer = self.settle_all();
+        self.known();
+        answer
+    }
+
+    // What the client of this name has, as lines.
+    fn show(&self, who: &Text) -> Result<Lines, Mem>
+        ensures { IfOk result (λ lines. lines ≡ map line_text (shown_to who.now self.now.client)) }
+    {
+        let alloc = self.store.allocator();
+        match &self.connection {
+            Some(connection) if connection.client.name.as_str() == who.as_str() => {
+                show(alloc, connection)
+            }
+            _ => idle_unless(alloc, false),
+        }
+    }
+
+    fn apply(&mut self, event: &Event) -> Result<Lines, Mem>
+        ensures step { OnOk result (self.new ≡ step self.old event.now) }
+        ensures lines { IfOk result (λ lines. lines ≡ map line_text (lines_of self.old event.now)) }
+        ensures err { OnErr result (IsLeft event.now self.old self.new) }
+    {
+        let alloc = self.store.allocator();
+        match event {
+            Event::Client { name } => {
+                let done = self.client(name)?;
+                idle_unless(alloc, done)
+            }
+            Event::Sub { client, id, name } => {
+                let done = self.sub(client, id, name)?;
+                idle_unless(alloc, done)
+            }
+            Event::Insert { key, doc } => self.insert(key, doc),
+            Event::Do(step) => {
+                let done = self.make(*step)?;
+                idle_unless(alloc, done)
+            }
+            Event::Settle => {
+                self.settle_all()?;
+                Ok(Lines::new(alloc))
+            }
+            Event::Show { client } => self.show(client),
+        }
+    }
+
+    /// The event happens. Answers the lines that it prints: `["idle"]` where it is not enabled, and
+    /// `["refused",code]` for an insert that is refused.
+    pub fn event(&mut self, event: &Event) -> Result<Lines, Mem>
+        ensures step { OnOk result (self.new ≡ step self.old event.now) }
+        ensures lines { IfOk result (λ lines. lines ≡ map line_text (lines_of self.old event.now)) }
+        ensures err { OnErr result (IsLeft event.now self.old self.new) }
+        ensures true_world { IsTrueWorld self.new }
+    {
+        let answer = self.apply(event);
+        self.known();
+        answer
+    }
+
+    // Tells a proof that events lead here; it does nothing.
+    fn reached(&self)
+        ensures { Reachable self.now }
+    {
+        let _ = &self.store;
+    }
+
+    /// Tells a proof the headline; it does nothing.
+    pub fn known(&self)
+        ensures { IsTrueWorld self.now }
+    {
+        let _ = &self.store;
+    }
+}
