@@ -1,5 +1,5 @@
 -- Worlds that events lead to, and what the program's world keeps.
-use Rattle.std.proofs.Common.{◌≡◌, ℕ, suc, ◌+◌, ◌<◌, Bool, true, false, List, [], ◌∷◌, ◌++◌, length, Option, Some, None, refl, ap, sym, subst, ◌∙◌, add-one, arith, inl, inr}
+use Rattle.std.proofs.Common.{◌≡◌, ℕ, zero, suc, ◌+◌, ◌<◌, Bool, true, false, List, [], ◌∷◌, ◌++◌, length, Option, Some, None, refl, ap, sym, subst, ◌∙◌, add-one, arith, inl, inr}
 use Rattle.std.specs.Borrow.{Bor}
 use Rattle.std.specs.Bool.{OnFalse}
 use Rattle.world_model.specs.declared.events.Act.TheVariants as act
@@ -21,6 +21,7 @@ use Rattle.world_model.specs.RunLaws.{settled_keeps, reachable_is_kept}
 use Rattle.world_model.specs.SettleLaws.{round_lowers, rounds_settle, Lowers}
 use Rattle.replay_core.specs.Store.{Stored}
 use Rattle.replay_core.specs.Connections.{client_of}
+use Rattle.replay_core.specs.Left.{after_steps, StepsLead}
 use Rattle.replay_core.specs.Worlds.{world_of, Stands, IsKeptInside}
 use Rattle.replay_core.specs.declared.connection.Connection.{Connection}
 use Rattle.replay_core.specs.declared.world.World.TheInside.{Inside}
@@ -148,3 +149,21 @@ round_is w0 w1 w2 w3 w4 w5 w6 w7 e1 e2 e3 e4 e5 e6 e7 =
 -- a round that leaves the world, after some rounds
 pub settles_after : (n : ℕ) (w v u : World) → v ≡ rounds n w → u ≡ round v → u ≡ v → u ≡ settled w
 settles_after n w v u is made same = same ∙ settles n w v is (sym made ∙ same)
+
+after_steps-append : (xs ys : List Act) (w : World) → after_steps (xs ++ ys) w ≡ after_steps ys (after_steps xs w)
+after_steps-append [] ys w = refl
+after_steps-append (a ∷ xs) ys w = after_steps-append xs ys (done a w)
+
+pub lead_none : (w v : World) → v ≡ w → StepsLead w v
+lead_none w v same = ([], sym same)
+
+pub lead_then : (w v u : World) → StepsLead w v → StepsLead v u → StepsLead w u
+lead_then w v u p q = (p.0 ++ q.0, after_steps-append p.0 q.0 w ∙ (ap (after_steps q.0) p.1 ∙ q.1))
+
+many_lead : (n : ℕ) (a : Act) (w : World) → StepsLead w (many n a w)
+unfolding many
+many_lead zero a w = ([], refl)
+many_lead (suc n) a w = lead_then w (many n a w) (done a (many n a w)) (many_lead n a w) (a ∷ [], refl)
+
+pub many_leads : (n : ℕ) (a : Act) (w v : World) → v ≡ many n a w → StepsLead w v
+many_leads n a w v is = subst (StepsLead w) (sym is) (many_lead n a w)

@@ -1,115 +1,163 @@
-use crate::{App, Event, World, read_event};
-use ejson_codec::{Lines, parse};
-use ejson_value::{Mem, Text, Value};
+//! One table for each public call. The expected lines follow from the rules of events, not from the program.
+use crate::{App, AppFault, Event, LineFault, World, read_event};
+use ejson_codec::parse;
+use ejson_value::{Text, Value};
 use std::alloc::Global;
 use std::test::Fail;
 
-const APPLICATION: &str =
-    r#"{"collections":["tasks"],"methods":{},"publications":{"all":[{"collection":"tasks"}]}}"#;
+const LINE: &str =
+    "{\"collections\":[\"tasks\"],\"methods\":{},\"publications\":{\"all\":[{\"collection\":\"tasks\"}]}}";
 
-fn value(alloc: Global, line: &str) -> Result<Value, Fail> {
-    let line = Text::from_str(alloc, line)?;
-    Ok(parse(alloc, &line)?)
+fn value(alloc: Global, text: &str) -> Result<Value, Fail> {
+    Ok(parse(alloc, &Text::from_str(alloc, text)?)?)
 }
 
-// The lines that the event of this line prints.
-fn lines(alloc: Global, app: &App, world: &mut World, line: &str) -> Result<Lines, Fail> {
-    let line = value(alloc, line)?;
-    let event: Event = read_event(alloc, app, &line)?;
-    Ok(world.event(&event)?)
+fn app(alloc: Global) -> Result<App, Fail> {
+    Ok(App::read(alloc, &value(alloc, LINE)?)?)
 }
 
-fn joined(alloc: Global, lines: &Lines) -> Result<Text, Mem> {
-    let mut all = Text::new(alloc);
+// The lines that the event of this line prints, each with a line feed.
+fn printed(alloc: Global, app: &App, world: &mut World, line: &str) -> Result<String, Fail> {
+    let event = read_event(alloc, app, &value(alloc, line)?)?;
+    let lines = world.event(&event)?;
+    let mut text = String::new(alloc);
     for line in lines.as_slice() {
-        all.push_str(line.as_str())?;
-        all.push_str("\n")?;
+        text.push_str(line.as_str())?;
+        text.push('\n')?;
     }
-    Ok(all)
+    Ok(text)
 }
 
-// Each event prints these lines.
 #[test]
-fn events_and_their_lines(rt: HostRuntime) -> Result<(), Fail> {
+fn applications(rt: HostRuntime) -> Result<(), Fail> {
     let alloc = rt.alloc();
-    let line = value(alloc, APPLICATION)?;
-    let app = App::read(alloc, &line)?;
+    let app = app(alloc)?;
+    let name = Text::from_str(alloc, "all")?;
+    let tasks = Text::from_str(alloc, "tasks")?;
+    let copy = app.copy()?;
+    assert!(rt; copy.has_collection(&tasks));
+    assert!(rt; !copy.has_collection(&name));
+    assert_eq!(rt; copy.publication(&name).map(|c| c.as_str()), Some("tasks"));
+    for bad in [
+        "{}",
+        "[]",
+        "{\"collections\":[\"a\",\"a\"],\"methods\":{},\"publications\":{}}",
+        "{\"collections\":[\"\"],\"methods\":{},\"publications\":{}}",
+        "{\"collections\":[\"a\"],\"methods\":{\"m\":{}},\"publications\":{}}",
+        "{\"collections\":[\"a\"],\"methods\":{},\"publications\":{\"p\":[{\"collection\":\"b\"}]}}",
+        "{\"collections\":[\"a\"],\"methods\":{},\"publications\":{\"p\":[]}}",
+        "{\"collections\":[\"a\"],\"methods\":{},\"publications\":{},\"more\":0}",
+    ] {
+        assert_eq!(rt;
+            App::read(alloc, &value(alloc, bad)?).err(),
+            Some(AppFault::Bad),
+            "{bad}"
+        );
+    }
+    Ok(())
+}
+
+#[test]
+fn events(rt: HostRuntime) -> Result<(), Fail> {
+    let alloc = rt.alloc();
+    let app = app(alloc)?;
+    for good in [
+        "[\"client\",\"a\"]",
+        "[\"sub\",\"a\",\"1\",\"all\"]",
+        "[\"sub\",\"a\",\"1\",\"all\",[]]",
+        "[\"admin\",[\"insert\",\"none\",{\"_id\":\"t1\"}]]",
+        "[\"settle\"]",
+        "[\"show\",\"\"]",
+    ] {
+        assert!(rt;
+            read_event(alloc, &app, &value(alloc, good)?).is_ok(),
+            "{good}"
+        );
+    }
+    for bad in [
+        "{}",
+        "[]",
+        "[\"client\"]",
+        "[\"client\",1]",
+        "[\"sub\",\"a\",\"1\",\"none\"]",
+        "[\"sub\",\"a\",\"1\",\"all\",[1]]",
+        "[\"admin\",[\"insert\",\"tasks\",{\"n\":1}]]",
+        "[\"admin\",[\"insert\",\"tasks\",{\"_id\":\"\"}]]",
+        "[\"admin\",[\"remove\",\"tasks\",{}]]",
+        "[\"settle\",1]",
+        "[\"up\",\"a\"]",
+    ] {
+        let answer = read_event(alloc, &app, &value(alloc, bad)?).err();
+        assert_eq!(rt; answer, Some(LineFault::NotAnEvent), "{bad}");
+    }
+    Ok(())
+}
+
+#[test]
+fn worlds(rt: HostRuntime) -> Result<(), Fail> {
+    let alloc = rt.alloc();
+    let app = app(alloc)?;
     let mut world = World::new(alloc, &app)?;
-    let rows = [
-        (r#"["show","a"]"#, "[\"idle\"]\n"),
-        (r#"["client","a"]"#, ""),
-        (r#"["client","b"]"#, "[\"idle\"]\n"),
-        (r#"["sub","a","1","all"]"#, "[\"idle\"]\n"),
-        (r#"["settle"]"#, ""),
-        (r#"["sub","b","1","all",[]]"#, "[\"idle\"]\n"),
+    for (line, lines) in [
         (
-            r#"["admin",["insert","lists",{"_id":"t1"}]]"#,
-            "[\"refused\",404]\n",
+            "[\"admin\",[\"insert\",\"tasks\",{\"_id\":\"t1\",\"n\":1}]]",
+            "",
         ),
-        (r#"["admin",["insert","tasks",{"_id":"t1","n":1}]]"#, ""),
         (
-            r#"["admin",["insert","tasks",{"_id":"t1","n":2}]]"#,
+            "[\"admin\",[\"insert\",\"tasks\",{\"_id\":\"t1\",\"n\":1}]]",
             "[\"refused\",409]\n",
         ),
-        (r#"["sub","a","1","all",[]]"#, ""),
         (
-            r#"["show","a"]"#,
+            "[\"admin\",[\"insert\",\"notes\",{\"_id\":\"t1\"}]]",
+            "[\"refused\",404]\n",
+        ),
+        ("[\"sub\",\"a\",\"1\",\"all\"]", "[\"idle\"]\n"),
+        ("[\"show\",\"a\"]", "[\"idle\"]\n"),
+        ("[\"client\",\"a\"]", ""),
+        ("[\"client\",\"b\"]", "[\"idle\"]\n"),
+        ("[\"sub\",\"a\",\"1\",\"all\"]", "[\"idle\"]\n"),
+        ("[\"settle\"]", ""),
+        ("[\"show\",\"a\"]", "[\"show\",\"a\"]\n"),
+        ("[\"sub\",\"b\",\"1\",\"all\"]", "[\"idle\"]\n"),
+        ("[\"sub\",\"a\",\"1\",\"all\",[]]", ""),
+        ("[\"sub\",\"a\",\"2\",\"all\"]", "[\"idle\"]\n"),
+        (
+            "[\"show\",\"a\"]",
             "[\"show\",\"a\"]\n[\"sub\",\"1\",\"waiting\"]\n",
         ),
-        (r#"["settle"]"#, ""),
-        (r#"["sub","a","2","all",[]]"#, "[\"idle\"]\n"),
-        (r#"["admin",["insert","tasks",{"_id":"t0"}]]"#, ""),
-        (r#"["settle"]"#, ""),
+        ("[\"settle\"]", ""),
         (
-            r#"["show","a"]"#,
+            "[\"show\",\"a\"]",
+            "[\"show\",\"a\"]\n[\"doc\",\"tasks\",\"t1\",{\"n\":1}]\n[\"sub\",\"1\",\"ready\"]\n",
+        ),
+        ("[\"admin\",[\"insert\",\"tasks\",{\"_id\":\"t0\"}]]", ""),
+        ("[\"settle\"]", ""),
+        (
+            "[\"show\",\"a\"]",
             "[\"show\",\"a\"]\n[\"doc\",\"tasks\",\"t0\",{}]\n[\"doc\",\"tasks\",\"t1\",{\"n\":1}]\n[\"sub\",\"1\",\"ready\"]\n",
         ),
-    ];
-    for (line, printed) in rows {
-        let lines = lines(alloc, &app, &mut world, line)?;
-        let text = joined(alloc, &lines)?;
-        assert_eq!(rt; text.as_str(), printed);
+        ("[\"show\",\"b\"]", "[\"idle\"]\n"),
+    ] {
+        assert_eq!(rt;
+            printed(alloc, &app, &mut world, line)?.as_str(),
+            lines,
+            "{line}"
+        );
     }
     Ok(())
 }
 
-// Lines that are no events.
 #[test]
-fn lines_that_are_no_events(rt: HostRuntime) -> Result<(), Fail> {
+fn settled_worlds(rt: HostRuntime) -> Result<(), Fail> {
     let alloc = rt.alloc();
-    let line = value(alloc, APPLICATION)?;
-    let app = App::read(alloc, &line)?;
-    for line in [
-        r#"["client"]"#,
-        r#"["client",1]"#,
-        r#"["sub","a","1","nope",[]]"#,
-        r#"["sub","a","1","all",[1]]"#,
-        r#"["admin",["insert","tasks",{"n":1}]]"#,
-        r#"["admin",["insert","tasks",{"_id":""}]]"#,
-        r#"["settle",1]"#,
-        r#"{}"#,
-    ] {
-        let line = value(alloc, line)?;
-        assert!(rt; read_event(alloc, &app, &line).is_err());
-    }
-    Ok(())
-}
-
-// Values that are no applications.
-#[test]
-fn values_that_are_no_applications(rt: HostRuntime) -> Result<(), Fail> {
-    let alloc = rt.alloc();
-    for line in [
-        "null",
-        r#"{"collections":[],"methods":{}}"#,
-        r#"{"collections":["t","t"],"methods":{},"publications":{}}"#,
-        r#"{"collections":[""],"methods":{},"publications":{}}"#,
-        r#"{"collections":["t"],"methods":{"m":1},"publications":{}}"#,
-        r#"{"collections":["t"],"methods":{},"publications":{"p":[{"collection":"u"}]}}"#,
-        r#"{"collections":["t"],"methods":{},"publications":{"p":[]}}"#,
-    ] {
-        let line = value(alloc, line)?;
-        assert!(rt; App::read(alloc, &line).is_err());
-    }
+    let mut world = World::new(alloc, &app(alloc)?)?;
+    world.event(&Event::Client {
+        name: Text::from_str(alloc, "a")?,
+    })?;
+    world.settle()?;
+    world.known();
+    let lines = world.event(&Event::Do(world_model::events::Act::Take))?;
+    assert_eq!(rt; lines.len(), 1);
+    assert_eq!(rt; lines.get(0).map(|line| line.as_str()), Some("[\"idle\"]"));
     Ok(())
 }

@@ -1,17 +1,17 @@
 //! A world: one store, one server and its client.
-ghost use Rattle.std.specs.Prelude.{◌≡◌, [], length, map, IfOk, OnOk, OnErr, is_none, option_map};
+ghost use Rattle.std.specs.Prelude.{◌≡◌, ◌+◌, ◌<◌, [], true, length, map, IfOk, OnOk, OnErr, is_none, option_map};
 ghost use Rattle.std.specs.Bool.{OnFalse};
 ghost use Rattle.session_model.specs.History.{contents};
-ghost use Rattle.world_model.specs.Acts.{acts};
+ghost use Rattle.world_model.specs.Acts.{acts, journal_limit};
 ghost use Rattle.world_model.specs.World.{start, done, can, after_act, can_by};
-ghost use Rattle.world_model.specs.Settle.{times_of, times, many, round, settled};
-ghost use Rattle.world_model.specs.Run.{after_client, after_sub, can_subscribe, subscribes, inserted, step, Reachable, HoldsOf, IsAtRest, IsTrueWorld};
+ghost use Rattle.world_model.specs.Settle.{times_of, times, many, round, is_stuck, settled};
+ghost use Rattle.world_model.specs.Run.{after_client, after_sub, can_subscribe, subscribes, inserted, step, Reachable, HoldsOf, IsAtRest, IsQuiescent, IsTrueWorld};
 ghost use Rattle.world_model.specs.Lines.{subscribed, refusal, shown_to, lines_of};
 ghost use Rattle.replay_core.specs.Store.{Stored};
 ghost use Rattle.replay_core.specs.Sessions.{IsTrueTo, Does};
 ghost use Rattle.replay_core.specs.Connections.{client_of};
 ghost use Rattle.replay_core.specs.Worlds.{Stands};
-ghost use Rattle.replay_core.specs.Left.{IsLeft};
+ghost use Rattle.replay_core.specs.Left.{StepsLead, IsLeft};
 ghost use Rattle.replay_core.specs.Text.{line_text};
 
 use crate::app::App;
@@ -251,6 +251,7 @@ impl World {
     fn make_often(&mut self, step: Act) -> Result<bool, Mem>
         ensures ok { OnOk result (self.new ≡ many (times self.old step) step self.old) }
         ensures idle { IfOk result (λ made. OnFalse made (self.new ≡ self.old)) }
+        ensures steps { StepsLead self.old self.new }
     {
         let mut made = false;
         for _ in 0..self.times(step) {
@@ -264,6 +265,7 @@ impl World {
     fn round(&mut self) -> Result<bool, Mem>
         ensures ok { OnOk result (self.new ≡ round self.old) }
         ensures idle { IfOk result (λ made. OnFalse made (self.new ≡ self.old)) }
+        ensures steps { StepsLead self.old self.new }
     {
         let up = self.make_often(Act::Up)?;
         let received = self.make_often(Act::Recv)?;
@@ -276,7 +278,8 @@ impl World {
     }
 
     fn settle_all(&mut self) -> Result<(), Mem>
-        ensures { OnOk result (self.new ≡ settled self.old) }
+        ensures settled { OnOk result (self.new ≡ settled self.old) }
+        ensures steps { StepsLead self.old self.new }
     {
         for _ in 0..u64::MAX {
             let made = self.round()?;
@@ -290,7 +293,10 @@ impl World {
     /// Steps are made until none is enabled. Where memory runs out, those made so far stay made.
     pub fn settle(&mut self) -> Result<(), Mem>
         ensures settled { OnOk result (self.new ≡ settled self.old) }
+        ensures stuck { OnOk result (is_stuck self.new ≡ true) }
         ensures at_rest { OnOk result (HoldsOf self.new.client (IsAtRest self.new.history)) }
+        ensures quiescent { OnOk result (3 + length self.old.history < journal_limit → HoldsOf self.new.client (IsQuiescent self.new.history)) }
+        ensures steps { StepsLead self.old self.new }
         ensures true_world { IsTrueWorld self.new }
     {
         self.reached();

@@ -1,6 +1,6 @@
 use Rattle.std.proofs.Common.{◌≡◌, ◌||◌, refl, ap, sym, subst, ◌∙◌}
 use Rattle.std.specs.Bool.{OnFalse}
-use Rattle.replay_core.proofs.Worlds.{many_none, many_more, idle_or_before}
+use Rattle.replay_core.proofs.Worlds.{many_none, many_more, many_leads, idle_or_before}
 use Rattle.replay_core.proofs.world.World.make_often.Goals as goal
 use Rattle.replay_core.proofs.world.World.make_often.Goals.{then-now, else-now}
 
@@ -19,3 +19,9 @@ loop-preserved c =
       subst (λ b. OnFalse b (c.make.new.self ≡ c.args.self.now)) (sym either)
           (idle_or_before now made c.make.new.self c.loop.self c.args.self.now c.in_ok-now.ensures.idle c.loop.invariant.1),
     )
+
+pub returns-clause-steps : goal.returns-clause-steps
+returns-clause-steps c = many_leads c.loop.counter c.args.step c.args.self.now c.loop.self c.loop.invariant.0
+
+pub returns-in_err-now-clause-steps : goal.returns-in_err-now-clause-steps
+returns-in_err-now-clause-steps c = many_leads c.loop.counter c.args.step c.args.self.now c.make.new.self (c.in_err-now.ensures.err ∙ c.loop.invariant.0)
