@@ -21,7 +21,7 @@ use Rattle.merge_model.specs.CellLaws.{claimed-placed}
 use Rattle.ejson_value.specs.declared.value.Value.{Value}
 use Rattle.ejson_value.specs.View.{view}
 use Rattle.merge_box.specs.Names.{name_order}
-use Rattle.merge_box.specs.Held.{KeptDoc, said, same_value, IsHeld, IsKeptAfter}
+use Rattle.merge_box.specs.Held.{KeptDoc, value_in, same_value, IsHeld, IsKeptAfter}
 
 -- who publishes afterwards
 has-append : (s : ℕ) (ps qs : List ℕ) → has s (ps ++ qs) ≡ (has s ps || has s qs)
@@ -106,7 +106,7 @@ or_empty [] = refl
 or_empty (x ∷ xs) = refl
 
 abbrev pub fields_placed : ℕ → Option Entries → List (List ℕ × List (ℕ × Val)) → List (List ℕ × List (ℕ × Val))
-fields_placed sub doc fields = filter_map_entries (λ f claims. unless_empty (placed sub (said doc f) claims)) fields
+fields_placed sub doc fields = filter_map_entries (λ f claims. unless_empty (placed sub (value_in doc f) claims)) fields
 
 claims_none : (sub : ℕ) (x : Option (List (ℕ × Val))) → unwrap_or (option_and_then (λ claims. unless_empty (placed sub None claims)) x) [] ≡ placed sub None (unwrap_or x [])
 claims_none sub None = refl
@@ -130,7 +130,7 @@ pub claims_with : (sub : ℕ) (doc : Entries) (fields made all : List (List ℕ 
 claims_with sub doc fields made all f s is more =
     ap (λ x. unwrap_or x []) more
     ∙ claims_some sub (at text_cmp doc f) (at text_cmp fields f) (at text_cmp made f)
-    (ap (λ m. at text_cmp m f) is ∙ at-filter_map_entries name_order (λ q claims. unless_empty (placed sub (said (Some doc) q) claims)) fields f s)
+    (ap (λ m. at text_cmp m f) is ∙ at-filter_map_entries name_order (λ q claims. unless_empty (placed sub (value_in (Some doc) q) claims)) fields f s)
 
 -- each subscription with a claim publishes the document, afterwards too
 pub held_after : (sub : ℕ) (doc : Option Entries) (old new : KeptDoc) → IsHeld old → IsKeptAfter sub doc old new → IsSorted text_cmp new.fields → IsHeld new
@@ -138,13 +138,13 @@ held_after sub doc old new held after sorted = record {
   by_name = sorted;
   published = λ f s some.
       after.publishers s
-      ∙ elim (s == sub) as (λ b. is_some (cond b (said doc f) (claimed s (claims_of text_cmp old f))) ≡ true → cond b (is_some doc) (has s old.publishers) ≡ true) [
+      ∙ elim (s == sub) as (λ b. is_some (cond b (value_in doc f) (claimed s (claims_of text_cmp old f))) ≡ true → cond b (is_some doc) (has s old.publishers) ≡ true) [
         | true ↦ λ e. there doc f e
         | false ↦ λ e. held.published f s e
-      ] (ap is_some (sym (claimed-placed (claims_of text_cmp old f) sub (said doc f) s)) ∙ ap (λ claims. is_some (claimed s claims)) (sym (after.claims f)) ∙ some);
+      ] (ap is_some (sym (claimed-placed (claims_of text_cmp old f) sub (value_in doc f) s)) ∙ ap (λ claims. is_some (claimed s claims)) (sym (after.claims f)) ∙ some);
 }
   where
-    there : (d : Option Entries) (f : List ℕ) → is_some (said d f) ≡ true → is_some d ≡ true
+    there : (d : Option Entries) (f : List ℕ) → is_some (value_in d f) ≡ true → is_some d ≡ true
     there None f e = e
     there (Some d) f e = refl
 
@@ -163,7 +163,7 @@ is_some-viewed (Some v) = refl
 
 -- what is made of the publishers and of the fields is what is kept after the news
 pub kept_after_of : (sub : ℕ) (doc : Option Entries) (old new : KeptDoc) → new.publishers ≡ filter (λ p. not (p == sub)) old.publishers ++ cond (is_some doc) (sub ∷ []) []
-    → ((f : List ℕ) → unwrap_or (at text_cmp new.fields f) [] ≡ placed sub (said doc f) (unwrap_or (at text_cmp old.fields f) [])) → IsKeptAfter sub doc old new
+    → ((f : List ℕ) → unwrap_or (at text_cmp new.fields f) [] ≡ placed sub (value_in doc f) (unwrap_or (at text_cmp old.fields f) [])) → IsKeptAfter sub doc old new
 kept_after_of sub doc old new publishers claims = record {
   publishers = λ s. has_after sub s (is_some doc) old.publishers new.publishers publishers;
   claims = claims;

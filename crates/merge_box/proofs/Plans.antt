@@ -9,8 +9,8 @@ use Rattle.map_model.specs.Maps.{keyed, filter_map_entries}
 use Rattle.map_model.specs.Differences.{Step}
 use Rattle.map_model.specs.OrderLaws.{filter_map_entries-append}
 use Rattle.value_model.specs.Val.{Val}
-use Rattle.merge_box.specs.declared.messages.DataMsg.{DataMsg}
-use Rattle.merge_box.specs.Messages.{message_of}
+use Rattle.ejson_value.specs.declared.message.DataMsg.{DataMsg}
+use Rattle.ejson_value.specs.Messages.{said}
 use Rattle.merge_box.specs.Index.{lists_of, is_listed}
 use Rattle.std.specs.Ordering.{eq_by_cmp, is_eq}
 use Rattle.map_model.specs.Maps.{at}
@@ -149,14 +149,14 @@ trimmed_others old new key change k other = change k ∙ ap (λ b. cond b None (
 
 -- one more message
 pub message_next : {X : Type 0} (f : Key → X → Option (Step (List ℕ) Val)) (done : List (Key × X)) (k : Key) (x : X) (messages : List DataMsg) (message : Option DataMsg)
-    → map message_of messages ≡ filter_map_entries f done → option_map message_of message ≡ option_map (λ step. (k, step)) (f k x)
-    → map message_of (messages ++ option_to_list message) ≡ filter_map_entries f (done ++ (k, x) ∷ [])
+    → map said messages ≡ filter_map_entries f done → option_map said message ≡ option_map (λ step. (k, step)) (f k x)
+    → map said (messages ++ option_to_list message) ≡ filter_map_entries f (done ++ (k, x) ∷ [])
 message_next f done k x messages message so_far is =
-    map-append message_of messages (option_to_list message)
+    map-append said messages (option_to_list message)
     ∙ ap₂ (λ a b. a ++ b) so_far (listed message ∙ ap option_to_list is ∙ keyed_is (f k x))
     ∙ sym (filter_map_entries-append f done (k, x))
   where
-    listed : (m : Option DataMsg) → map message_of (option_to_list m) ≡ option_to_list (option_map message_of m)
+    listed : (m : Option DataMsg) → map said (option_to_list m) ≡ option_to_list (option_map said m)
     listed None = refl
     listed (Some m) = refl
 

@@ -25,8 +25,8 @@ abbrev pub same_value : Val → Val → Bool
 same_value v w = is_eq (compare v w)
 
 -- the value of a field of a document, if there is one
-abbrev pub said : Option Entries → List ℕ → Option Val
-said doc name = option_and_then (λ d. at text_cmp d name) doc
+abbrev pub value_in : Option Entries → List ℕ → Option Val
+value_in doc name = option_and_then (λ d. at text_cmp d name) doc
 
 -- the value, if it passes the test
 abbrev pub option_filter : {X : Type 0} → (X → Bool) → Option X → Option X

@@ -6,13 +6,12 @@ ghost use Rattle.merge_model.specs.Kept.{merged as merged_docs, merged_doc, kept
 ghost use Rattle.ejson_value.specs.declared.key.Key.{Key};
 ghost use Rattle.ejson_value.specs.Key.{key_cmp};
 ghost use Rattle.merge_box.specs.Index.{lists_of};
-ghost use Rattle.merge_box.specs.Messages.{message_of};
+ghost use Rattle.ejson_value.specs.Messages.{said};
 ghost use Rattle.merge_box.specs.State.{BoxState, KeepsSame, planned, news_of, IsBoxAfter, Tells, Answers, IsReady, IsPlan, IsBox};
 
 use crate::index::{Index, forget_unlisted};
-use crate::messages::DataList;
 use crate::plan::{KeptMap, messages_of, plan_news, put_all, removals};
-use ejson_value::{Doc, Key, Mem, Publish, Publishes};
+use ejson_value::{DataList, Doc, Key, Mem, Publish, Publishes};
 use std::alloc::Global;
 use std::collections::BTreeMap;
 use std::marker::Model;
@@ -54,13 +53,13 @@ impl Model for MergePlan {
     ghost use Rattle.std.specs.Prelude.{map};
     ghost use Rattle.merge_box.specs.State.{PlanState, IsWhole};
     ghost use Rattle.merge_box.specs.StateCoding.{plan_code};
-    ghost use Rattle.merge_box.specs.Messages.{message_of};
+    ghost use Rattle.ejson_value.specs.Messages.{said};
 
     ghost Value = { PlanState };
 
     ghost coded = { plan_code };
 
-    ghost view = { λ a. record { sub = a.sub; kept = a.kept.entries; messages = map message_of a.messages } };
+    ghost view = { λ a. record { sub = a.sub; kept = a.kept.entries; messages = map said a.messages } };
 
     ghost invariant = { λ a. IsWhole a.kept.entries };
 }
@@ -110,7 +109,7 @@ fn merged_at(kept: &KeptMap, alloc: Global, key: &Key) -> Result<Option<Doc>, Me
 impl MergePlan {
     /// The messages that the call will answer.
     pub fn messages(&self) -> &DataList
-        ensures { map message_of result.now ≡ self.now.messages }
+        ensures { map said result.now ≡ self.now.messages }
     {
         &self.messages
     }
@@ -169,7 +168,7 @@ impl MergeBox {
     pub fn commit(&mut self, plan: MergePlan) -> DataList
         requires { IsReady plan self.old }
         ensures kept { KeepsSame (planned plan self.old) self.new.kept }
-        ensures messages { map message_of result ≡ plan.messages }
+        ensures messages { map said result ≡ plan.messages }
     {
         let MergePlan {
             sub,
@@ -186,9 +185,9 @@ impl MergeBox {
     /// and id.
     pub fn apply(&mut self, sub: u64, news: &Publishes) -> Result<DataList, Mem>
         ensures after { OnOk result (IsBoxAfter (applied sub (news_of news.now)) self.old.kept self.new.kept) }
-        ensures told { IfOk result (λ messages. Tells self.old.kept self.new.kept (map message_of messages)) }
+        ensures told { IfOk result (λ messages. Tells self.old.kept self.new.kept (map said messages)) }
         ensures answers { IfOk result (λ messages.
-            Answers (applied sub (news_of news.now)) self.old.kept self.new.kept (map message_of messages)) }
+            Answers (applied sub (news_of news.now)) self.old.kept self.new.kept (map said messages)) }
         ensures err { OnErr result (KeepsSame self.old.kept self.new.kept) }
     {
         self.known();
@@ -203,8 +202,8 @@ impl MergeBox {
     /// collection and id.
     pub fn drop_sub(&mut self, sub: u64) -> Result<DataList, Mem>
         ensures after { OnOk result (IsBoxAfter (dropped sub) self.old.kept self.new.kept) }
-        ensures told { IfOk result (λ messages. Tells self.old.kept self.new.kept (map message_of messages)) }
-        ensures answers { IfOk result (λ messages. Answers (dropped sub) self.old.kept self.new.kept (map message_of messages)) }
+        ensures told { IfOk result (λ messages. Tells self.old.kept self.new.kept (map said messages)) }
+        ensures answers { IfOk result (λ messages. Answers (dropped sub) self.old.kept self.new.kept (map said messages)) }
         ensures err { OnErr result (KeepsSame self.old.kept self.new.kept) }
     {
         self.known();

@@ -9,7 +9,7 @@ ghost use Rattle.merge_model.specs.Kept.{placed, nothing_kept, has, is_empty, me
 ghost use Rattle.merge_model.specs.Box.{unless_empty};
 ghost use Rattle.value_model.specs.Order.{text_cmp};
 ghost use Rattle.ejson_value.specs.View.{view};
-ghost use Rattle.merge_box.specs.Held.{said, same_value, put_some, unseen, gone, IsHeld, IsKeptAfter};
+ghost use Rattle.merge_box.specs.Held.{value_in, same_value, put_some, unseen, gone, IsHeld, IsKeptAfter};
 
 use crate::claims::Claims;
 use ejson_value::{Doc, Mem, Names, Text, Value, compare, copy};
@@ -64,7 +64,7 @@ fn publishers_after(
 
 // What the document has as the field of this name.
 fn value_in<'a>(doc: Option<&'a Doc>, name: &Text) -> Option<&'a Value>
-    ensures { option_map (λ v. view v.now) result ≡ said (option_copied doc.entry) name.now }
+    ensures { option_map (λ v. view v.now) result ≡ value_in (option_copied doc.entry) name.now }
 {
     match doc {
         None => None,
@@ -91,7 +91,7 @@ fn fields_after(
     doc: Option<&Doc>,
 ) -> Result<BTreeMap<Text, Claims>, Mem>
     ensures { IfOk result (λ made. made.entries ≡
-        filter_map_entries (λ f claims. unless_empty (placed sub (said (option_copied doc.entry) f) claims)) fields.now.entries) }
+        filter_map_entries (λ f claims. unless_empty (placed sub (value_in (option_copied doc.entry) f) claims)) fields.now.entries) }
 {
     let mut made = BTreeMap::new(alloc);
     for (name, claims) in fields.iter() {
@@ -130,7 +130,7 @@ fn fields_with(
     doc: Option<&Doc>,
 ) -> Result<BTreeMap<Text, Claims>, Mem>
     ensures { IfOk result (λ made. (f : List ℕ) → unwrap_or (at text_cmp made.entries f) [] ≡
-        placed sub (said (option_copied doc.entry) f) (unwrap_or (at text_cmp fields.now.entries f) [])) }
+        placed sub (value_in (option_copied doc.entry) f) (unwrap_or (at text_cmp fields.now.entries f) [])) }
 {
     let _len = fields.len();
     let mut made = fields_after(alloc, fields, sub, doc)?;

@@ -9,7 +9,7 @@ mod messages;
 mod plan;
 
 pub use boxes::{MergeBox, MergePlan};
-pub use messages::{DataList, DataMsg};
+pub use ejson_value::{DataList, DataMsg};
 
 #[cfg(test)]
 mod tests;

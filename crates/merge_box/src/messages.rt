@@ -4,36 +4,15 @@ ghost use Rattle.map_model.specs.Differences.{between, changed_unless_same, new_
 ghost use Rattle.merge_model.specs.Kept.{merged_doc, merged_fields};
 ghost use Rattle.value_model.specs.Order.{text_cmp};
 ghost use Rattle.merge_box.specs.Held.{same_value};
-ghost use Rattle.merge_box.specs.Messages.{message_of};
+ghost use Rattle.ejson_value.specs.Messages.{said};
 
 use crate::held::Held;
-use ejson_value::{Doc, Key, ListOf, Mem, Names};
+use ejson_value::{DataMsg, Key, Mem};
 use std::alloc::Global;
-
-/// A data message of DDP: a document was added with these fields, was changed in these fields and
-/// lost the cleared ones, or was removed.
-#[derive(Debug, Drop)]
-pub enum DataMsg {
-    Added {
-        key: Key,
-        fields: Doc,
-    },
-    Changed {
-        key: Key,
-        fields: Doc,
-        cleared: Names,
-    },
-    Removed {
-        key: Key,
-    },
-}
-
-/// Data messages in the order in which a client takes them.
-pub type DataList = ListOf<DataMsg>;
 
 // The message about a document that the client sees before and afterwards.
 fn changed(alloc: Global, key: &Key, old: &Held, new: &Held) -> Result<Option<DataMsg>, Mem>
-    ensures { IfOk result (λ message. option_map message_of message ≡ option_map (λ step. (key.now, step))
+    ensures { IfOk result (λ message. option_map said message ≡ option_map (λ step. (key.now, step))
         (changed_unless_same text_cmp same_value
         (new_fields text_cmp same_value (merged_fields old.now.fields) (merged_fields new.now.fields))
         (cleared text_cmp same_value (merged_fields old.now.fields) (merged_fields new.now.fields)))) }
@@ -54,7 +33,7 @@ fn changed(alloc: Global, key: &Key, old: &Held, new: &Held) -> Result<Option<Da
 
 /// The message about a document, if the client sees it otherwise afterwards.
 pub(crate) fn told(alloc: Global, key: &Key, old: &Held, new: &Held) -> Result<Option<DataMsg>, Mem>
-    ensures { IfOk result (λ message. option_map message_of message ≡ option_map (λ step. (key.now, step))
+    ensures { IfOk result (λ message. option_map said message ≡ option_map (λ step. (key.now, step))
         (between text_cmp same_value (merged_doc old.now) (merged_doc new.now))) }
 {
     match (old.is_published(), new.is_published()) {

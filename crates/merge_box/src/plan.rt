@@ -12,13 +12,13 @@ ghost use Rattle.ejson_value.specs.Key.{key_cmp};
 ghost use Rattle.value_model.specs.Val.{Entries};
 ghost use Rattle.merge_box.specs.Held.{KeptDoc, same_value, IsHeld, IsKeptAfter};
 ghost use Rattle.merge_box.specs.Index.{lists_of, is_listed};
-ghost use Rattle.merge_box.specs.Messages.{message_of};
+ghost use Rattle.ejson_value.specs.Messages.{said};
 ghost use Rattle.merge_box.specs.State.{KeepsSame, IsPlannedAt, IsPublished, news_of};
 
 use crate::held::Held;
 use crate::index::{Index, list, unlist};
-use crate::messages::{DataList, DataMsg, told};
-use ejson_value::{Doc, Key, Mem, Publish, Publishes};
+use crate::messages::told;
+use ejson_value::{DataList, DataMsg, Doc, Key, Mem, Publish, Publishes};
 use std::alloc::Global;
 use std::collections::{BTreeMap, BTreeSet};
 
@@ -136,7 +136,7 @@ pub(crate) fn plan_news(
 
 // The message about a document of the plan, if the client sees it otherwise afterwards.
 fn told_at(kept: &KeptMap, alloc: Global, key: &Key, held: &Held) -> Result<Option<DataMsg>, Mem>
-    ensures { IfOk result (λ message. option_map message_of message ≡ option_map (λ step. (key.now, step))
+    ensures { IfOk result (λ message. option_map said message ≡ option_map (λ step. (key.now, step))
         (between text_cmp same_value (merged_doc (kept_at key_cmp kept.now.entries key.now)) (merged_doc held.now))) }
 {
     match kept.get(key) {
@@ -157,7 +157,7 @@ fn push_message(messages: &mut DataList, message: Option<DataMsg>) -> Result<(),
 
 /// The messages of the plan, by key.
 pub(crate) fn messages_of(kept: &KeptMap, alloc: Global, plan: &KeptMap) -> Result<DataList, Mem>
-    ensures { IfOk result (λ messages. map message_of messages ≡ filter_map_entries (λ k held.
+    ensures { IfOk result (λ messages. map said messages ≡ filter_map_entries (λ k held.
         between text_cmp same_value (merged_doc (kept_at key_cmp kept.now.entries k)) (merged_doc held)) plan.now.entries) }
 {
     let mut messages = DataList::new(alloc);

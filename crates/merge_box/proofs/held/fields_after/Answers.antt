@@ -2,7 +2,7 @@ use Rattle.std.proofs.Common.{◌∷◌, [], ◌++◌, ap, sym, subst, ◌∙◌
 use Rattle.map_model.specs.Maps.{IsSorted}
 use Rattle.value_model.specs.Order.{text_cmp}
 use Rattle.merge_model.specs.Kept.{placed}
-use Rattle.merge_box.specs.Held.{said}
+use Rattle.merge_box.specs.Held.{value_in}
 use Rattle.merge_box.specs.Names.{name_order}
 use Rattle.merge_box.proofs.Walks.{walk_unless_empty, walk_on}
 use Rattle.merge_box.proofs.held.fields_after.Goals as goal
@@ -20,6 +20,6 @@ loop-name-preserved c =
       is_finite = tt;
       done = walk.done ++ (name, claims) ∷ [];
       whole = walk_on all walk.done (name, claims) c.loop-name.name-iterator rest walk.whole c.in-Some.ensures.steps;
-      made = c.in_ok-put_claims.ensures ∙ walk_unless_empty name_order (λ f cs. placed c.args.sub (said (option_copied c.args.doc) f) cs) all walk.done name claims rest c.loop-name.made.entries c.in_ok-placed.placed
+      made = c.in_ok-put_claims.ensures ∙ walk_unless_empty name_order (λ f cs. placed c.args.sub (value_in (option_copied c.args.doc) f) cs) all walk.done name claims rest c.loop-name.made.entries c.in_ok-placed.placed
           (walk.whole ∙ ap (λ l. walk.done ++ l) c.in-Some.ensures.steps) walk.made sorted (c.in_ok-placed.ensures ∙ ap (λ w. placed c.args.sub w claims) c.value_in.ensures);
     }
