@@ -1,5 +1,5 @@
 -- A list and a map of values, seen as lists of values and as documents.
-use Rattle.std.specs.Prelude.{◌≡◌, ℕ, zero, suc, List, [], ◌∷◌, Bool, true, false, cond, Option, None, Some, option_map, option_copied, refl}
+use Rattle.std.specs.Prelude.{◌≡◌, ℕ, zero, suc, List, [], ◌∷◌, Bool, true, false, cond, Option, None, Some, option_map, option_copied, slice_set, refl}
 use Rattle.std.specs.Borrow.{Bor}
 use Rattle.std.proofs.Common.{ap}
 use Rattle.std.specs.Map.{keys_of, lookup, remove_entry}
@@ -46,3 +46,9 @@ views-remove [] zero = refl
 views-remove [] (suc place) = refl
 views-remove (v ∷ vs) zero = refl
 views-remove (v ∷ vs) (suc place) = ap (λ rest. view v ∷ rest) (views-remove vs place)
+
+-- a list of values with another at a place
+pub views-set : (vs : List Value) (place : ℕ) (v : Value) → views (slice_set vs place v) ≡ slice_set (views vs) place (view v)
+views-set [] place v = refl
+views-set (w ∷ vs) zero v = refl
+views-set (w ∷ vs) (suc place) v = ap (λ rest. view w ∷ rest) (views-set vs place v)

@@ -212,6 +212,17 @@ fn edits_lists(rt: HostRuntime) -> Result<(), Fail> {
 }
 
 #[test]
+fn replaces_in_lists(rt: HostRuntime) -> Result<(), Fail> {
+    let mut items = Items::new(rt.alloc());
+    push_numbers(&mut items, &[1, 2])?;
+    assert_eq!(rt; items.len(), 2);
+    assert!(rt; same(&items.replace(1, int(3)), &int(2)));
+    assert!(rt; items.get(0).is_some_and(|v| same(v, &int(1))));
+    assert!(rt; items.get(1).is_some_and(|v| same(v, &int(3))));
+    Ok(())
+}
+
+#[test]
 fn edits_documents(rt: HostRuntime) -> Result<(), Fail> {
     let mut fields = Doc::new(rt.alloc());
     assert!(rt; fields.is_empty());
@@ -384,5 +395,15 @@ fn messages(alloc: Global) -> Result<DataList, Mem> {
 #[test]
 fn copies_messages(rt: HostRuntime) -> Result<(), Fail> {
     assert_eq!(rt; messages(rt.alloc())?.copy()?.len(), 3);
+    Ok(())
+}
+
+#[test]
+fn copies_faults(rt: HostRuntime) -> Result<(), Fail> {
+    let fault = Fault {
+        code: Text::from_str(rt.alloc(), "404")?,
+        reason: Text::from_str(rt.alloc(), "no such task")?,
+    };
+    assert!(rt; fault.copy()? == fault);
     Ok(())
 }

@@ -1,5 +1,5 @@
 //! Values, lists of values and documents.
-ghost use Rattle.std.specs.Prelude.{◌≡◌, ◌∷◌, ◌++◌, ◌==◌, ◌<◌, [], length, map, Some, option_map, slice_get, IfOk, OnOk, OnErr};
+ghost use Rattle.std.specs.Prelude.{◌≡◌, ◌∷◌, ◌++◌, ◌==◌, ◌<◌, [], length, map, Some, option_map, slice_get, slice_set, IfOk, OnOk, OnErr};
 ghost use Rattle.std.specs.List.{remove as remove_item};
 ghost use Rattle.std.specs.List.Sorted.{IsStrictlySortedBy};
 ghost use Rattle.std.specs.Map.{keys_of};
@@ -18,6 +18,7 @@ use std::collections::BTreeMap;
 use std::collections::btree_map::Iter;
 use std::default::Emptied;
 use std::marker::Model;
+use std::mem;
 
 /// A value of EJSON (the appendix on EJSON of Meteor's DDP.md). A contract sees it by `view`.
 #[derive(Debug, Drop)]
@@ -154,6 +155,16 @@ impl Items {
         ensures removed { self.new ≡ remove_item self.old place }
     {
         self.items.remove(place)
+    }
+
+    /// Puts the value at this place and hands out the one that was there.
+    pub fn replace(&mut self, place: usize, value: Value) -> Value
+        requires { place < length self.old }
+        ensures value { Some (view result) ≡ slice_get self.old place }
+        ensures replaced { self.new ≡ slice_set self.old place (view value) }
+    {
+        value.known();
+        mem::replace(&mut self.items[place], value)
     }
 
     /// An empty list beside this one, of the same allocator.

@@ -1,6 +1,6 @@
 -- What values keep, kept by the edits of lists and documents.
 use Rattle.std.specs.List.{remove as remove_item}
-use Rattle.std.specs.Prelude.{ℕ, zero, suc, List, [], ◌∷◌, ◌++◌, Bool, true, false, cond, Some, IfSome}
+use Rattle.std.specs.Prelude.{ℕ, zero, suc, List, [], ◌∷◌, ◌++◌, Bool, true, false, cond, Some, IfSome, slice_set}
 use Rattle.std.proofs.Common.{subst, sym}
 use Rattle.std.specs.Map.{lookup, remove_entry}
 use Rattle.std.specs.declared.cmp.Ordering.TheVariants.{Less, Equal, Greater}
@@ -44,3 +44,8 @@ AreValues-remove [] zero all = tt
 AreValues-remove [] (suc place) all = tt
 AreValues-remove (v ∷ vs) zero all = all.1
 AreValues-remove (v ∷ vs) (suc place) all = (all.0, AreValues-remove vs place all.1)
+
+pub AreValues-set : (vs : List Val) (place : ℕ) (v : Val) → AreValues (vals_of vs) → IsValue v → AreValues (vals_of (slice_set vs place v))
+AreValues-set [] place v all one = tt
+AreValues-set (w ∷ vs) zero v all one = (one, all.1)
+AreValues-set (w ∷ vs) (suc place) v all one = (all.0, AreValues-set vs place v all.1 one)
