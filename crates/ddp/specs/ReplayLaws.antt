@@ -36,7 +36,7 @@ same_app w (e ∷ events) = same_app (step w e) events ∙ step_app w e
     step_app w (event.Client name) = refl
     step_app w (event.Sub who id name) = refl
     step_app w (event.Insert key doc) = refl
-    step_app w (event.Do a) = refl
+    step_app w (event.Do who a) = refl
     step_app w event.Settle = settled_app w
     step_app w (event.Show who) = refl
 
@@ -49,7 +49,7 @@ step_history w (event.Insert key doc) = by (can_insert w.app (contents w.history
     by : (b : Bool) → length (cond b (w.history ++ (record { key = key; doc = doc }) ∷ []) w.history) ≤ suc (length w.history)
     by true = omega (arith, length-append w.history ((record { key = key; doc = doc }) ∷ []))
     by false = omega arith
-step_history w (event.Do a) = omega arith
+step_history w (event.Do who a) = omega arith
 step_history w event.Settle = omega (arith, ap (λ (es : List Entry). length es) (same_history w))
 step_history w (event.Show who) = omega arith
 

@@ -1,5 +1,6 @@
 -- Worlds that events lead to, and what the program's world keeps.
 use Rattle.std.proofs.Common.{◌≡◌, ℕ, zero, suc, ◌+◌, ◌<◌, Bool, true, false, List, [], ◌∷◌, ◌++◌, length, Option, Some, None, refl, ap, sym, subst, ◌∙◌, add-one, arith, inl, inr}
+use Rattle.std.proofs.lemmas.Slice.Eq.{bytes_eq-Decides}
 use Rattle.std.specs.Borrow.{Bor}
 use Rattle.std.specs.Bool.{OnFalse}
 use Rattle.world_model.specs.declared.events.Act.TheVariants as act
@@ -13,7 +14,7 @@ use Rattle.world_model.specs.declared.events.Act.{Act}
 use Rattle.world_model.specs.declared.events.Event.{Event}
 use Rattle.world_model.specs.declared.events.Event.TheVariants as event
 use Rattle.world_model.specs.Client.{Client}
-use Rattle.world_model.specs.World.{World, start, done, can}
+use Rattle.world_model.specs.World.{World, start, done, can, after_act}
 use Rattle.world_model.specs.Settle.{many, times, round, rounds, settled, is_stuck}
 use Rattle.world_model.specs.Run.{step, run, IsEvent, AreEvents, Reachable, HoldsOf}
 use Rattle.world_model.specs.Kept.{IsKept}
@@ -30,7 +31,7 @@ app_stays : (w : World) (e : Event) → (step w e).app ≡ w.app
 app_stays w (event.Client name) = refl
 app_stays w (event.Sub who id name) = refl
 app_stays w (event.Insert key doc) = refl
-app_stays w (event.Do a) = refl
+app_stays w (event.Do who a) = refl
 app_stays w event.Settle = settled_keeps (λ v. v.app ≡ w.app) (λ a v p. p) w refl
 app_stays w (event.Show who) = refl
 
@@ -67,6 +68,27 @@ kept_step a connection e after is k stands made same = record {
   stands = stands;
   reachable = subst Reachable (made ∙ ap (λ (o : Option Client). record (world_of a) { client = o }) (sym same)) (reachable_step (world_of a) e is k.reachable);
 }
+
+-- an event that makes this step of whichever client is there
+abbrev step_event : Act → Option Client → Event
+step_event s None = event.Show []
+step_event s (Some c) = event.Do c.name s
+
+is_step_event : (s : Act) (o : Option Client) → IsEvent (step_event s o)
+is_step_event s None = tt
+is_step_event s (Some c) = tt
+
+makes_step : (w : World) (s : Act) (o : Option Client) → step (record w { client = o }) (step_event s o) ≡ record w { client = after_act w.app w.history s o }
+makes_step w s None = refl
+makes_step w s (Some c) =
+    ap (λ b. let o : Option Client = if b then after_act w.app w.history s (Some c) else Some c in let v : World = record w { client = o } in v) ((bytes_eq-Decides c.name c.name).1 refl)
+
+-- a step of the client or its session
+pub kept_act : (a : Inside) (connection : Option Connection) (s : Act) → IsKeptInside a → Stands a.store connection →
+    option_map client_of connection ≡ after_act a.store.app a.store.history s (option_map client_of a.connection) → IsKeptInside (record a { connection = connection })
+kept_act a connection s k stands same =
+    let o = option_map client_of a.connection in
+    kept_step a connection (step_event s o) _ (is_step_event s o) k stands (makes_step (world_of a) s o) same
 
 longer_session : (store : Stored) (more : List Entry) (c : Option Connection) → HoldsOf (option_map client_of c) (IsKept store.app store.history) → Stands store c →
     Stands (record store { history = store.history ++ more }) c

@@ -4,6 +4,8 @@ use Rattle.value_model.specs.Val.{Val, text, list, object, Vals, no_vals, val, e
 use Rattle.value_model.specs.Doc.{get, remove}
 use Rattle.value_model.specs.Size.{is_name}
 use Rattle.session_model.specs.App.{App, publication}
+use Rattle.world_model.specs.declared.events.Act.{Act}
+use Rattle.world_model.specs.declared.events.Act.TheVariants as act
 use Rattle.world_model.specs.declared.events.Event.{Event}
 use Rattle.world_model.specs.declared.events.Event.TheVariants as event
 
@@ -75,6 +77,20 @@ operation_in vs =
 abbrev pub admin_in : Vals → Option Event
 admin_in vs = option_and_then operation_in (list_alone vs)
 
+-- the step that a word names
+abbrev pub act_of : List ℕ → Option Act
+act_of word =
+    if is_name word (codes "up") then Some act.Up
+    else if is_name word (codes "recv") then Some act.Recv
+    else if is_name word (codes "handle") then Some act.Handle
+    else if is_name word (codes "send") then Some act.Send
+    else if is_name word (codes "take") then Some act.Take
+    else None
+
+-- `[word,client]` for a single step
+abbrev pub step_in : List ℕ → Vals → Option Event
+step_in word vs = option_and_then (λ a. option_map (λ who. event.Do who a) (text_alone vs)) (act_of word)
+
 -- the event of this word and what follows it
 abbrev pub row_in : App → List ℕ → Vals → Option Event
 row_in app word vs =
@@ -83,7 +99,7 @@ row_in app word vs =
     else if is_name word (codes "admin") then admin_in vs
     else if is_name word (codes "settle") then (if is_nil vs then Some event.Settle else None)
     else if is_name word (codes "show") then option_map event.Show (text_alone vs)
-    else None
+    else step_in word vs
 
 -- the event of a line
 abbrev pub event_in : App → Val → Option Event

@@ -19,6 +19,6 @@ abbrev pub IsLeft : Event → World → World → Type 0
 IsLeft (event.Client name) old new = new ≡ old
 IsLeft (event.Sub who id name) old new = new ≡ old
 IsLeft (event.Insert key doc) old new = new ≡ old
-IsLeft (event.Do a) old new = new ≡ old
+IsLeft (event.Do who a) old new = new ≡ old
 IsLeft event.Settle old new = StepsLead old new
 IsLeft (event.Show who) old new = new ≡ old

@@ -3,14 +3,15 @@ ghost use Rattle.std.specs.Prelude.{◌≡◌, IfOk, MatchOption, option_copied,
 ghost use Rattle.value_model.specs.Val.{vals_of};
 ghost use Rattle.ejson_value.specs.View.{view, views};
 ghost use Rattle.world_model.specs.declared.events.Event.TheVariants as event;
-ghost use Rattle.replay_core.specs.Events.{text_first, is_nil, text_alone, list_alone, doc_alone, has_no_params, sub_with, sub_in, is_valid_id, insert_in, operation_in, admin_in, row_in, event_in};
+ghost use Rattle.world_model.specs.Run.{IsEvent};
+ghost use Rattle.replay_core.specs.Events.{text_first, is_nil, text_alone, list_alone, doc_alone, has_no_params, sub_with, sub_in, is_valid_id, insert_in, operation_in, admin_in, act_of, step_in, row_in, event_in};
 ghost use Rattle.replay_core.specs.Faults.{GivesEvent};
 
 use crate::app::App;
 use crate::fault::LineFault;
 use ejson_value::{Doc, Key, Mem, Text, Value};
 use std::alloc::Global;
-use world_model::events::Event;
+use world_model::events::{Act, Event};
 
 // The text that stands first, and what follows it.
 fn text_first(values: &[Value]) -> Option<(&Text, &[Value])>
@@ -199,6 +200,35 @@ fn read_show(values: &[Value]) -> Result<Option<Event>, Mem>
     }
 }
 
+// The step that the word names.
+fn act_of(word: &Text) -> Option<Act>
+    ensures { result ≡ act_of word.now }
+{
+    match word.as_str() {
+        "up" => Some(Act::Up),
+        "recv" => Some(Act::Recv),
+        "handle" => Some(Act::Handle),
+        "send" => Some(Act::Send),
+        "take" => Some(Act::Take),
+        _ => None,
+    }
+}
+
+fn read_step(word: &Text, values: &[Value]) -> Result<Option<Event>, Mem>
+    ensures { IfOk result (λ e. e ≡ step_in word.now (vals_of (views values.now))) }
+{
+    let Some(act) = act_of(word) else {
+        return Ok(None);
+    };
+    match text_alone(values) {
+        Some(client) => Ok(Some(Event::Do {
+            client: client.copy()?,
+            act,
+        })),
+        None => Ok(None),
+    }
+}
+
 // The event of this word and what follows it.
 fn read_row(alloc: Global, app: &App, word: &Text, values: &[Value]) -> Result<Option<Event>, Mem>
     ensures { IfOk result (λ e. e ≡ row_in app.now word.now (vals_of (views values.now))) }
@@ -209,7 +239,7 @@ fn read_row(alloc: Global, app: &App, word: &Text, values: &[Value]) -> Result<O
         "admin" => read_admin(alloc, values),
         "settle" if is_nil(values) => Ok(Some(Event::Settle)),
         "show" => read_show(values),
-        _ => Ok(None),
+        _ => read_step(word, values),
     }
 }
 
@@ -225,14 +255,32 @@ fn event_in(alloc: Global, app: &App, line: &Value) -> Result<Option<Event>, Mem
     }
 }
 
+// Tells a proof what the event keeps; it does nothing.
+fn known(event: &Event)
+    ensures { IsEvent event.now }
+{
+    match event {
+        Event::Insert { doc, .. } => doc.known(),
+        Event::Client { .. }
+        | Event::Sub { .. }
+        | Event::Do { .. }
+        | Event::Settle
+        | Event::Show { .. } => {}
+    }
+}
+
 /// The event that the line describes, of an application: `["client",c]`, `["sub",c,id,name]` and
 /// `["sub",c,id,name,[]]` of a publication of the application, `["admin",["insert",collection,doc]]`
-/// with the id as the document's field `_id`, `["settle"]` and `["show",c]`.
+/// with the id as the document's field `_id`, `["settle"]`, `["show",c]`, and for a single step
+/// `["up",c]`, `["recv",c]`, `["handle",c]`, `["send",c]` and `["take",c]`.
 pub fn read_event(alloc: Global, app: &App, line: &Value) -> Result<Event, LineFault>
     ensures { GivesEvent result (event_in app.now (view line.now)) }
 {
     match event_in(alloc, app, line)? {
-        Some(event) => Ok(event),
+        Some(event) => {
+            known(&event);
+            Ok(event)
+        }
         None => Err(LineFault::NotAnEvent),
     }
 }

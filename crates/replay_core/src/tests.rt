@@ -4,6 +4,7 @@ use ejson_codec::parse;
 use ejson_value::{Text, Value};
 use std::alloc::Global;
 use std::test::Fail;
+use world_model::events::Act;
 
 const LINE: &str =
     "{\"collections\":[\"tasks\"],\"methods\":{},\"publications\":{\"all\":[{\"collection\":\"tasks\"}]}}";
@@ -68,6 +69,11 @@ fn events(rt: HostRuntime) -> Result<(), Fail> {
         "[\"admin\",[\"insert\",\"none\",{\"_id\":\"t1\"}]]",
         "[\"settle\"]",
         "[\"show\",\"\"]",
+        "[\"up\",\"a\"]",
+        "[\"recv\",\"a\"]",
+        "[\"handle\",\"a\"]",
+        "[\"send\",\"a\"]",
+        "[\"take\",\"a\"]",
     ] {
         assert!(rt;
             read_event(alloc, &app, &value(alloc, good)?).is_ok(),
@@ -85,7 +91,8 @@ fn events(rt: HostRuntime) -> Result<(), Fail> {
         "[\"admin\",[\"insert\",\"tasks\",{\"_id\":\"\"}]]",
         "[\"admin\",[\"remove\",\"tasks\",{}]]",
         "[\"settle\",1]",
-        "[\"up\",\"a\"]",
+        "[\"up\"]",
+        "[\"load\",\"a\",\"1\"]",
     ] {
         let answer = read_event(alloc, &app, &value(alloc, bad)?).err();
         assert_eq!(rt; answer, Some(LineFault::NotAnEvent), "{bad}");
@@ -93,57 +100,105 @@ fn events(rt: HostRuntime) -> Result<(), Fail> {
     Ok(())
 }
 
-#[test]
-fn worlds(rt: HostRuntime) -> Result<(), Fail> {
-    let alloc = rt.alloc();
+// The first of these lines, run in a new world, that doesn't print what stands beside it.
+fn first_wrong(alloc: Global, rows: &[(&'static str, &str)]) -> Result<Option<&'static str>, Fail> {
     let app = app(alloc)?;
     let mut world = World::new(alloc, &app)?;
-    for (line, lines) in [
-        (
-            "[\"admin\",[\"insert\",\"tasks\",{\"_id\":\"t1\",\"n\":1}]]",
-            "",
-        ),
-        (
-            "[\"admin\",[\"insert\",\"tasks\",{\"_id\":\"t1\",\"n\":1}]]",
-            "[\"refused\",409]\n",
-        ),
-        (
-            "[\"admin\",[\"insert\",\"notes\",{\"_id\":\"t1\"}]]",
-            "[\"refused\",404]\n",
-        ),
-        ("[\"sub\",\"a\",\"1\",\"all\"]", "[\"idle\"]\n"),
-        ("[\"show\",\"a\"]", "[\"idle\"]\n"),
-        ("[\"client\",\"a\"]", ""),
-        ("[\"client\",\"b\"]", "[\"idle\"]\n"),
-        ("[\"sub\",\"a\",\"1\",\"all\"]", "[\"idle\"]\n"),
-        ("[\"settle\"]", ""),
-        ("[\"show\",\"a\"]", "[\"show\",\"a\"]\n"),
-        ("[\"sub\",\"b\",\"1\",\"all\"]", "[\"idle\"]\n"),
-        ("[\"sub\",\"a\",\"1\",\"all\",[]]", ""),
-        ("[\"sub\",\"a\",\"2\",\"all\"]", "[\"idle\"]\n"),
-        (
-            "[\"show\",\"a\"]",
-            "[\"show\",\"a\"]\n[\"sub\",\"1\",\"waiting\"]\n",
-        ),
-        ("[\"settle\"]", ""),
-        (
-            "[\"show\",\"a\"]",
-            "[\"show\",\"a\"]\n[\"doc\",\"tasks\",\"t1\",{\"n\":1}]\n[\"sub\",\"1\",\"ready\"]\n",
-        ),
-        ("[\"admin\",[\"insert\",\"tasks\",{\"_id\":\"t0\"}]]", ""),
-        ("[\"settle\"]", ""),
-        (
-            "[\"show\",\"a\"]",
-            "[\"show\",\"a\"]\n[\"doc\",\"tasks\",\"t0\",{}]\n[\"doc\",\"tasks\",\"t1\",{\"n\":1}]\n[\"sub\",\"1\",\"ready\"]\n",
-        ),
-        ("[\"show\",\"b\"]", "[\"idle\"]\n"),
-    ] {
-        assert_eq!(rt;
-            printed(alloc, &app, &mut world, line)?.as_str(),
-            lines,
-            "{line}"
-        );
+    for (line, lines) in rows {
+        if printed(alloc, &app, &mut world, line)?.as_str() != *lines {
+            return Ok(Some(*line));
+        }
     }
+    Ok(None)
+}
+
+const INSERTS: [(&str, &str); 4] = [
+    (
+        "[\"admin\",[\"insert\",\"tasks\",{\"_id\":\"t1\",\"n\":1}]]",
+        "",
+    ),
+    (
+        "[\"admin\",[\"insert\",\"tasks\",{\"_id\":\"t1\",\"n\":1}]]",
+        "[\"refused\",409]\n",
+    ),
+    (
+        "[\"admin\",[\"insert\",\"notes\",{\"_id\":\"t1\"}]]",
+        "[\"refused\",404]\n",
+    ),
+    ("[\"show\",\"a\"]", "[\"idle\"]\n"),
+];
+
+const CLIENTS: [(&str, &str); 9] = [
+    ("[\"sub\",\"a\",\"1\",\"all\"]", "[\"idle\"]\n"),
+    ("[\"client\",\"a\"]", ""),
+    ("[\"client\",\"b\"]", "[\"idle\"]\n"),
+    ("[\"sub\",\"a\",\"1\",\"all\"]", "[\"idle\"]\n"),
+    ("[\"settle\"]", ""),
+    ("[\"show\",\"a\"]", "[\"show\",\"a\"]\n"),
+    ("[\"sub\",\"b\",\"1\",\"all\"]", "[\"idle\"]\n"),
+    ("[\"sub\",\"a\",\"1\",\"all\",[]]", ""),
+    ("[\"sub\",\"a\",\"2\",\"all\"]", "[\"idle\"]\n"),
+];
+
+const DOCUMENTS: [(&str, &str); 10] = [
+    (
+        "[\"admin\",[\"insert\",\"tasks\",{\"_id\":\"t1\",\"n\":1}]]",
+        "",
+    ),
+    ("[\"client\",\"a\"]", ""),
+    ("[\"settle\"]", ""),
+    ("[\"sub\",\"a\",\"1\",\"all\"]", ""),
+    (
+        "[\"show\",\"a\"]",
+        "[\"show\",\"a\"]\n[\"sub\",\"1\",\"waiting\"]\n",
+    ),
+    ("[\"settle\"]", ""),
+    (
+        "[\"show\",\"a\"]",
+        "[\"show\",\"a\"]\n[\"doc\",\"tasks\",\"t1\",{\"n\":1}]\n[\"sub\",\"1\",\"ready\"]\n",
+    ),
+    ("[\"admin\",[\"insert\",\"tasks\",{\"_id\":\"t0\"}]]", ""),
+    ("[\"settle\"]", ""),
+    (
+        "[\"show\",\"a\"]",
+        "[\"show\",\"a\"]\n[\"doc\",\"tasks\",\"t0\",{}]\n[\"doc\",\"tasks\",\"t1\",{\"n\":1}]\n[\"sub\",\"1\",\"ready\"]\n",
+    ),
+];
+
+const STEPS: [(&str, &str); 10] = [
+    ("[\"up\",\"a\"]", "[\"idle\"]\n"),
+    ("[\"client\",\"a\"]", ""),
+    ("[\"recv\",\"a\"]", "[\"idle\"]\n"),
+    ("[\"up\",\"b\"]", "[\"idle\"]\n"),
+    ("[\"up\",\"a\"]", ""),
+    ("[\"recv\",\"a\"]", ""),
+    ("[\"handle\",\"a\"]", "[\"idle\"]\n"),
+    ("[\"send\",\"a\"]", ""),
+    ("[\"take\",\"a\"]", ""),
+    ("[\"sub\",\"a\",\"1\",\"all\"]", ""),
+];
+
+#[test]
+fn inserts(rt: HostRuntime) -> Result<(), Fail> {
+    assert_eq!(rt; first_wrong(rt.alloc(), &INSERTS)?, None);
+    Ok(())
+}
+
+#[test]
+fn clients(rt: HostRuntime) -> Result<(), Fail> {
+    assert_eq!(rt; first_wrong(rt.alloc(), &CLIENTS)?, None);
+    Ok(())
+}
+
+#[test]
+fn documents(rt: HostRuntime) -> Result<(), Fail> {
+    assert_eq!(rt; first_wrong(rt.alloc(), &DOCUMENTS)?, None);
+    Ok(())
+}
+
+#[test]
+fn steps(rt: HostRuntime) -> Result<(), Fail> {
+    assert_eq!(rt; first_wrong(rt.alloc(), &STEPS)?, None);
     Ok(())
 }
 
@@ -156,7 +211,10 @@ fn settled_worlds(rt: HostRuntime) -> Result<(), Fail> {
     })?;
     world.settle()?;
     world.known();
-    let lines = world.event(&Event::Do(world_model::events::Act::Take))?;
+    let lines = world.event(&Event::Do {
+        client: Text::from_str(alloc, "a")?,
+        act: Act::Take,
+    })?;
     assert_eq!(rt; lines.len(), 1);
     assert_eq!(rt; lines.get(0).map(|line| line.as_str()), Some("[\"idle\"]"));
     Ok(())

@@ -5,7 +5,7 @@ ghost use Rattle.session_model.specs.History.{contents};
 ghost use Rattle.world_model.specs.Acts.{acts, journal_limit};
 ghost use Rattle.world_model.specs.World.{start, done, can, after_act, can_by};
 ghost use Rattle.world_model.specs.Settle.{times_of, times, many, round, is_stuck, settled};
-ghost use Rattle.world_model.specs.Run.{after_client, after_sub, can_subscribe, subscribes, inserted, step, Reachable, HoldsOf, IsAtRest, IsQuiescent, IsTrueWorld};
+ghost use Rattle.world_model.specs.Run.{after_client, after_sub, can_subscribe, subscribes, after_named, can_named, is_called, inserted, step, Reachable, HoldsOf, IsAtRest, IsQuiescent, IsTrueWorld};
 ghost use Rattle.world_model.specs.Lines.{subscribed, refusal, shown_to, lines_of};
 ghost use Rattle.replay_core.specs.Store.{Stored};
 ghost use Rattle.replay_core.specs.Sessions.{IsTrueTo, Does};
@@ -237,6 +237,29 @@ impl World {
         Ok(made)
     }
 
+    // Whether there is a client of this name.
+    fn has_client(&self, who: &Text) -> bool
+        ensures { result ≡ is_called who.now self.now.client }
+    {
+        match &self.connection {
+            Some(connection) => connection.client.name.as_str() == who.as_str(),
+            None => false,
+        }
+    }
+
+    // A single step of the client of this name, or of its session. Whether it is enabled.
+    fn make_for(&mut self, who: &Text, step: Act) -> Result<bool, Mem>
+        ensures can { IfOk result (λ made. made ≡ can_named self.old.app self.old.history who.now step self.old.client) }
+        ensures ok { OnOk result (self.new ≡ record self.old { client = after_named self.old.app self.old.history who.now step self.old.client }) }
+        ensures err { OnErr result (self.new ≡ self.old) }
+    {
+        if self.has_client(who) {
+            self.make(step)
+        } else {
+            Ok(false)
+        }
+    }
+
     // How often a round makes the step at most.
     fn times(&self, step: Act) -> usize
         ensures { result ≡ times self.now step }
@@ -334,8 +357,8 @@ impl World {
                 idle_unless(alloc, done)
             }
             Event::Insert { key, doc } => self.insert(key, doc),
-            Event::Do(step) => {
-                let done = self.make(*step)?;
+            Event::Do { client, act } => {
+                let done = self.make_for(client, *act)?;
                 idle_unless(alloc, done)
             }
             Event::Settle => {

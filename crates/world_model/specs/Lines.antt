@@ -11,8 +11,8 @@ use Rattle.session_model.specs.History.{Entry, contents}
 use Rattle.world_model.specs.declared.events.Event.{Event}
 use Rattle.world_model.specs.declared.events.Event.TheVariants as event
 use Rattle.world_model.specs.Client.{Client, Sub}
-use Rattle.world_model.specs.World.{World, can}
-use Rattle.world_model.specs.Run.{can_subscribe}
+use Rattle.world_model.specs.World.{World}
+use Rattle.world_model.specs.Run.{can_subscribe, can_named}
 
 -- a line: its first element is the word that says what it is
 abbrev pub line : List ℕ → List Val → Val
@@ -61,6 +61,6 @@ abbrev pub lines_of : World → Event → List Val
 lines_of w (event.Client name) = idle_unless (is_none w.client)
 lines_of w (event.Sub who id name) = idle_unless (subscribed w.app w.client who name)
 lines_of w (event.Insert key doc) = refusal w.app (contents w.history) key
-lines_of w (event.Do a) = idle_unless (can w a)
+lines_of w (event.Do who a) = idle_unless (can_named w.app w.history who a w.client)
 lines_of w event.Settle = []
 lines_of w (event.Show who) = shown_to who w.client

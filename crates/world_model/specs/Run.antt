@@ -15,7 +15,8 @@ use Rattle.world_model.specs.declared.events.Event.{Event}
 use Rattle.world_model.specs.declared.events.Event.TheVariants as event
 use Rattle.world_model.specs.Client.{Client, Sub, new_client}
 use Rattle.world_model.specs.Acts.{guarded, journal_limit}
-use Rattle.world_model.specs.World.{World, start, done}
+use Rattle.world_model.specs.declared.events.Act.{Act}
+use Rattle.world_model.specs.World.{World, start, after_act, can_by}
 use Rattle.world_model.specs.Settle.{settled}
 
 -- a world has one client, which stays
@@ -35,6 +36,19 @@ abbrev pub after_sub : App → List ℕ → List ℕ → List ℕ → Option Cli
 after_sub app who id name None = None
 after_sub app who id name (Some c) = Some (unwrap_or (subscribes app c who id name) c)
 
+-- whether the client has this name
+abbrev pub is_called : List ℕ → Option Client → Bool
+is_called who None = false
+is_called who (Some c) = is_name c.name who
+
+-- a step of the client of this name, or of its session
+abbrev pub after_named : App → List Entry → List ℕ → Act → Option Client → Option Client
+after_named app history who a o = if is_called who o then after_act app history a o else o
+
+-- whether it is enabled
+abbrev pub can_named : App → List Entry → List ℕ → Act → Option Client → Bool
+can_named app history who a o = is_called who o && can_by app history a o
+
 -- an insert that is not refused is an entry of the history
 abbrev pub inserted : App → List Entry → Entry → List Entry
 inserted app history entry = if can_insert app (contents history) entry then history ++ entry ∷ [] else history
@@ -43,7 +57,7 @@ abbrev pub step : World → Event → World
 step w (event.Client name) = record w { client = after_client name w.client }
 step w (event.Sub who id name) = record w { client = after_sub w.app who id name w.client }
 step w (event.Insert key doc) = record w { history = inserted w.app w.history (record { key = key; doc = doc }) }
-step w (event.Do a) = done a w
+step w (event.Do who a) = record w { client = after_named w.app w.history who a w.client }
 step w event.Settle = settled w
 step w (event.Show who) = w
 
@@ -57,7 +71,7 @@ abbrev pub IsEvent : Event → Type 0
 IsEvent (event.Client name) = Unit {0}
 IsEvent (event.Sub who id name) = Unit {0}
 IsEvent (event.Insert key doc) = HasRisingNames doc
-IsEvent (event.Do a) = Unit {0}
+IsEvent (event.Do who a) = Unit {0}
 IsEvent event.Settle = Unit {0}
 IsEvent (event.Show who) = Unit {0}
 

@@ -21,7 +21,7 @@ use Rattle.world_model.specs.Client.{Client, Sub, new_client}
 use Rattle.world_model.specs.Acts.{guarded, acts}
 use Rattle.world_model.specs.World.{World, start, after_act, done}
 use Rattle.world_model.specs.Settle.{many, times, each, order, round, rounds, block, blocks, settled, texts, work}
-use Rattle.world_model.specs.Run.{after_client, can_subscribe, subscribes, after_sub, inserted, step, run, IsEvent, AreEvents, Reachable, HoldsOf, opened_ids}
+use Rattle.world_model.specs.Run.{after_client, can_subscribe, subscribes, after_sub, is_called, after_named, inserted, step, run, IsEvent, AreEvents, Reachable, HoldsOf, opened_ids}
 use Rattle.world_model.specs.Kept.{IsKept, asked, requested, sub_ids, connects, sub_after, unready}
 use Rattle.world_model.specs.KeptLaws.{acts_keep, asked-append, connects-append, none_opened, nil_before, sub_after-none}
 
@@ -134,6 +134,10 @@ client_subscribed app h who id name (Some c) k =
     (subscribe_keeps app h c who id name (can_subscribe app c who name)
     (λ e. no_sub c.sub (second_true (is_name c.name who && is_some c.session) (is_none c.sub) (first_true (is_name c.name who && is_some c.session && is_none c.sub) (is_some (publication app name)) e))) k)
 
+client_stepped : (app : App) (h : List Entry) (who : List ℕ) (a : Act) (o : Option Client) → HoldsOf (after_act app h a o) (IsKept app h) → HoldsOf o (IsKept app h) →
+    HoldsOf (after_named app h who a o) (IsKept app h)
+client_stepped app h who a o made k = elim (is_called who o) as (λ b. HoldsOf (cond b (after_act app h a o) o) (IsKept app h)) [ true ↦ made | false ↦ k ]
+
 -- a longer history keeps what is kept
 client_longer : (app : App) (h : List Entry) (e : Entry) (o : Option Client) → HoldsOf o (IsKept app h) → HoldsOf o (IsKept app (h ++ e ∷ []))
 client_longer app h e None k = tt
@@ -166,7 +170,7 @@ step_keeps w (event.Client name) p k = record { legal = k.legal; entries = k.ent
 step_keeps w (event.Sub who id name) p k = record { legal = k.legal; entries = k.entries; client = client_subscribed w.app w.history who id name w.client k.client }
 step_keeps w (event.Insert key doc) p k =
     let e : Entry = record { key = key; doc = doc } in insert_keeps w e (can_insert w.app (contents w.history) e) (λ h. h) p k
-step_keeps w (event.Do a) p k = done_keeps a w k
+step_keeps w (event.Do who a) p k = record { legal = k.legal; entries = k.entries; client = client_stepped w.app w.history who a w.client (done_keeps a w k).client k.client }
 step_keeps w event.Settle p k = settled_keeps IsKeptWorld done_keeps w k
 step_keeps w (event.Show who) p k = k
 

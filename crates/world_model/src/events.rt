@@ -29,8 +29,8 @@ pub enum Event {
     Sub { client: Text, id: Text, name: Text },
     /// A document is inserted into the store from outside.
     Insert { key: Key, doc: Doc },
-    /// A single step.
-    Do(Act),
+    /// A single step of the client of this name, or of its session.
+    Do { client: Text, act: Act },
     /// Steps are made until none is left.
     Settle,
     /// What the client has is printed.
