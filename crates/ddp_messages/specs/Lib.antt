@@ -1,0 +1,17 @@
+pub mod Wire
+pub mod WireLaws
+pub mod Faults
+pub mod Forms
+pub mod Fields
+pub mod FieldLaws
+pub mod ClientMessage
+pub mod ClientLaws
+pub mod ServerMessage
+pub mod ServerLaws
+pub mod Answers
+pub mod AnswerLaws
+pub mod Written
+pub mod Limits
+pub mod Built
+pub mod TextLaws
+pub mod RisingLaws

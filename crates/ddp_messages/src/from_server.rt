@@ -1,0 +1,175 @@
+//! The messages from a server.
+ghost use Rattle.std.specs.Prelude.{◌≡◌, Ok, IfOk};
+ghost use Rattle.serde_json.specs.View.{members_view};
+ghost use Rattle.serde_json.specs.Written.{compact_text};
+ghost use Rattle.ejson_codec.specs.Trees.{HasRisingKeys};
+ghost use Rattle.ddp_messages.specs.ServerMessage.{ServerMessage, server_view};
+ghost use Rattle.ddp_messages.specs.Answers.{IsServerText, server_answer, GivesMessage};
+ghost use Rattle.ddp_messages.specs.Written.{data_members as document_members, server_members, server_written};
+ghost use Rattle.ddp_messages.specs.Limits.{DataHasValues, ServerKeepsLimits, ServerHasValues};
+
+use crate::fault::{FieldFault, MsgFault};
+use crate::members::Members;
+use crate::parsing::{parsed, refusal};
+use crate::reading_server::message;
+use crate::writing::{
+    added, changed, error, heartbeat, known_if_any, nosub, of_text, of_texts, removed, result_of,
+    text_of,
+};
+use ejson_value::{DataMsg, Fault, Mem, Names, Text, Value};
+use serde_json::Map;
+use std::alloc::Global;
+
+/// A message from a server to a client.
+#[derive(Debug, Drop)]
+pub enum FromServer {
+    /// The session is open.
+    Connected {
+        session: Text,
+    },
+    /// The session isn't open; this version of DDP would do.
+    Failed {
+        version: Text,
+    },
+    /// Asks for a `pong` of the same id.
+    Ping {
+        id: Option<Text>,
+    },
+    Pong {
+        id: Option<Text>,
+    },
+    /// The subscription of this id is over, by the error if there is one.
+    Nosub {
+        id: Text,
+        error: Option<Fault>,
+    },
+    /// These subscriptions have sent their first documents.
+    Ready {
+        subs: Names,
+    },
+    /// What became of a document.
+    Data(DataMsg),
+    /// The method of this id has returned.
+    Result {
+        id: Text,
+        error: Option<Fault>,
+        result: Option<Value>,
+    },
+    /// What these methods wrote has been sent.
+    Updated {
+        methods: Names,
+    },
+    /// A text of the client was no message.
+    Error {
+        reason: Text,
+        offending: Option<Value>,
+    },
+    /// An object without a text `msg`, or with one that no message has.
+    Unknown,
+}
+
+impl FromServer {
+    /// Reads a text as a message.
+    pub fn read(alloc: Global, text: &Text) -> Result<FromServer, MsgFault>
+        ensures found { IfOk result (λ message. IsServerText text.now (server_view message)) }
+        ensures only { (message : ServerMessage) → IsServerText text.now message → GivesMessage server_view result (Ok message) }
+        ensures exact { GivesMessage server_view result (server_answer text.now) }
+    {
+        Self::answer(alloc, text)
+    }
+
+    // Reads a text, with the exact answer alone.
+    fn answer(alloc: Global, text: &Text) -> Result<FromServer, MsgFault>
+        ensures { GivesMessage server_view result (server_answer text.now) }
+    {
+        let tree = parsed(alloc, text)?;
+        if !tree.is_object() {
+            return Err(MsgFault::Parse);
+        }
+        match message(alloc, &tree) {
+            Ok(message) => Ok(message),
+            Err(FieldFault::Malformed) => Err(refusal(alloc, &tree)?),
+            Err(FieldFault::Memory) => Err(MsgFault::Memory),
+        }
+    }
+
+    // Tells a proof what the values in the message keep; it does nothing.
+    fn known(&self)
+        ensures { ServerHasValues (server_view self.now) }
+    {
+        match self {
+            FromServer::Data(message) => known_document(message),
+            FromServer::Result { result: value, .. }
+            | FromServer::Error {
+                offending: value,
+                ..
+            } => known_if_any(value),
+            FromServer::Connected { .. }
+            | FromServer::Failed { .. }
+            | FromServer::Ping { .. }
+            | FromServer::Pong { .. }
+            | FromServer::Nosub { .. }
+            | FromServer::Ready { .. }
+            | FromServer::Updated { .. }
+            | FromServer::Unknown => {}
+        }
+    }
+
+    // The members of the message's object.
+    fn members(&self, alloc: Global) -> Result<Members, Mem>
+        ensures { IfOk result (λ ms. members_view ms.entries ≡ server_members (server_view self.now)) }
+    {
+        match self {
+            FromServer::Connected { session } => of_text(alloc, "connected", "session", session),
+            FromServer::Failed { version } => of_text(alloc, "failed", "version", version),
+            FromServer::Ping { id } => heartbeat(alloc, "ping", id),
+            FromServer::Pong { id } => heartbeat(alloc, "pong", id),
+            FromServer::Nosub { id, error } => nosub(alloc, id, error),
+            FromServer::Ready { subs } => of_texts(alloc, "ready", "subs", subs),
+            FromServer::Data(message) => data_members(alloc, message),
+            FromServer::Result {
+                id,
+                error,
+                result: value,
+            } => result_of(alloc, id, error, value),
+            FromServer::Updated { methods } => of_texts(alloc, "updated", "methods", methods),
+            FromServer::Error { reason, offending } => error(alloc, reason, offending),
+            FromServer::Unknown => Ok(Map::new(alloc)),
+        }
+    }
+
+    /// Writes the message as compact JSON, its keys in byte order; `Unknown` as `{}`. The names in
+    /// `cleared` stand in the order of the message.
+    pub fn text(&self, alloc: Global) -> Result<Text, Mem>
+        ensures exact { IfOk result (λ text. text ≡ compact_text (server_written (server_view self.now))) }
+        ensures keys { HasRisingKeys (server_written (server_view self.now)) }
+        ensures reads_back { IfOk result (λ text. ServerKeepsLimits (server_view self.now) → IsServerText text (server_view self.now)) }
+    {
+        self.known();
+        text_of(alloc, self.members(alloc)?)
+    }
+}
+
+fn known_document(message: &DataMsg)
+    ensures { DataHasValues message.now }
+{
+    match message {
+        DataMsg::Added { fields, .. } | DataMsg::Changed { fields, .. } => fields.known(),
+        DataMsg::Removed { .. } => {}
+    }
+}
+
+// The members of a message about a document.
+fn data_members(alloc: Global, message: &DataMsg) -> Result<Members, Mem>
+    ensures { IfOk result (λ ms. members_view ms.entries ≡ document_members message.now) }
+{
+    match message {
+        DataMsg::Added { key, fields } => added(alloc, key, fields),
+        DataMsg::Changed {
+            key,
+            fields,
+            cleared,
+        } => changed(alloc, key, fields, cleared),
+        DataMsg::Removed { key } => removed(alloc, key),
+    }
+}
