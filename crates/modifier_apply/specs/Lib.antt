@@ -1,0 +1,5 @@
+pub mod Change
+pub mod Coding
+pub mod Modified
+pub mod Reading
+pub mod View

@@ -1,0 +1,17 @@
+//! Modifiers of documents (update operators, in MongoDB's documentation).
+#![tactic(auto)]
+
+mod applying;
+mod copying;
+mod edits;
+mod fault;
+mod modifier;
+mod names;
+mod reading;
+
+pub use applying::apply;
+pub use fault::{ApplyFault, ModifierFault};
+pub use modifier::Modifier;
+
+#[cfg(test)]
+mod tests;
