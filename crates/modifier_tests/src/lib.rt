@@ -1,4 +1,4 @@
-//! Tables of modifiers and documents, with what MongoDB's rules and the differences told in docs/QUERIES.md answer.
+//! Tables of modifiers and documents, with what MongoDB's update operators and the differences told in docs/DECISIONS.md answer.
 #![tactic(auto)]
 
 #[cfg(test)]
