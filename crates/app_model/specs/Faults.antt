@@ -1,0 +1,46 @@
+-- What is wrong with an application, and where.
+use Rattle.std.specs.Prelude.{◌≡◌, ℕ, List, [], ◌∷◌, ◌++◌, decimal, Result, Ok, Err}
+use Rattle.app_model.specs.declared.fault.Flaw.{Flaw}
+use Rattle.app_model.specs.declared.fault.Flaw.TheVariants as flaw
+use Rattle.app_model.specs.declared.fault.AppFault.{AppFault}
+use Rattle.app_model.specs.declared.fault.AppFault.TheVariants as fault
+
+abbrev pub flaw_number : Flaw → ℕ
+flaw_number flaw.BadShape = 1
+flaw_number flaw.BadName = 2
+flaw_number flaw.UnknownCollection = 3
+flaw_number flaw.DoubleName = 4
+flaw_number flaw.TooMany = 5
+
+-- The place of a part is the keys and places that lead to it from the top, joined by `/`; the top itself has the empty text.
+abbrev pub Place : Type 0
+Place = List ℕ
+
+-- the part with this key of the part at a place
+abbrev pub below : Place → List ℕ → Place
+below place key = place ++ 47 ∷ key
+
+-- the n-th element, from 0, of the list at a place
+abbrev pub element : Place → ℕ → Place
+element place n = below place (decimal n)
+
+abbrev pub Reading : Type 0 → Type 0
+Reading X = Result X AppFault
+
+abbrev pub bad : {X : Type 0} → Flaw → Place → Reading X
+bad f place = Err (fault.Bad f place)
+
+abbrev pub made : {A B : Type 0} → (A → B) → Reading A → Reading B
+made f (Ok a) = Ok (f a)
+made f (Err e) = Err e
+
+-- what is read on from a part that could be read
+abbrev pub and_then : {A B : Type 0} → Reading A → (A → Reading B) → Reading B
+and_then (Ok a) f = f a
+and_then (Err e) f = Err e
+
+-- The call answers as the reading says, or want of memory.
+abbrev pub Gives : {T X : Type 0} → (T → X) → Result T AppFault → Reading X → Type 0
+Gives f (Ok t) r = r ≡ Ok (f t)
+Gives f (Err fault.Memory) r = Unit {0}
+Gives f (Err e) r = r ≡ Err e

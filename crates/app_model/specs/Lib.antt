@@ -1,0 +1,8 @@
+pub mod Faults
+pub mod Template
+pub mod Rules
+pub mod App
+pub mod Coding
+pub mod Fields
+pub mod Reading
+pub mod Distinct

@@ -1,0 +1,274 @@
+//! Reading the cursors of a publication.
+ghost use Rattle.std.specs.Prelude.{◌≡◌, [], length, codes, IfOk, option_map, unwrap_or};
+ghost use Rattle.value_model.specs.Val.{fields_of, vals_of};
+ghost use Rattle.value_model.specs.Branches.{field_of};
+ghost use Rattle.ejson_value.specs.View.{view};
+ghost use Rattle.app_model.specs.Rules.{publishes};
+ghost use Rattle.app_model.specs.Faults.{element, Gives};
+ghost use Rattle.app_model.specs.Reading.{is_cursor, is_published, published_as, alias_reading, known_reading, selector_of, parts_reading, rule_reading, rules_behind, cursors_reading, named_reading, publication_reading};
+
+use crate::fault::{AppFault, Flaw};
+use crate::fields::read_projection;
+use crate::names::{
+    has_more_items, has_name, has_only_cursor_keys, is_valid_name, member, read_name,
+};
+use crate::place::{below, element};
+use crate::publication::{CursorRule, CursorRules, Publication};
+use crate::template::Template;
+use ejson_value::{Doc, Items, Mem, Names, Text, Value, copy};
+use std::alloc::Global;
+
+const MAX_CURSORS: usize = 8;
+
+// Whether the object has the keys of a cursor: no other ones, and its collection's.
+fn is_cursor(alloc: Global, fields: &Doc) -> Result<bool, Mem>
+    ensures { IfOk result (λ b. b ≡ is_cursor (fields_of fields.now)) }
+{
+    let collection = member(alloc, fields, "collection")?;
+    Ok(has_only_cursor_keys(fields) && collection.is_some())
+}
+
+fn has_published_name(rules: &CursorRules, name: &Text) -> bool
+    ensures { result ≡ publishes rules.now name.now }
+{
+    for rule in rules.as_slice() {
+        if rule.name.as_str() == name.as_str() {
+            return true;
+        }
+    }
+    false
+}
+
+fn is_published(rules: &CursorRules, name: Option<&Value>) -> bool
+    ensures { result ≡ is_published rules.now (option_map (λ v. view v.now) name.entry) }
+{
+    let Some(value) = name else {
+        return false;
+    };
+    match value {
+        Value::Text(name) => has_published_name(rules, name),
+        Value::Null
+        | Value::Bool(_)
+        | Value::Int(_)
+        | Value::Date(_)
+        | Value::Bytes(_)
+        | Value::List(_)
+        | Value::Object(_) => false,
+    }
+}
+
+// Whether one of the cursors publishes under the name of the cursor that the object describes.
+fn is_double(alloc: Global, rules: &CursorRules, fields: &Doc) -> Result<bool, Mem>
+    ensures { IfOk result (λ b. b ≡ is_published rules.now (published_as (field_of (fields_of fields.now) (codes "as")) (field_of (fields_of fields.now) (codes "collection")))) }
+{
+    let alias = member(alloc, fields, "as")?;
+    let collection = member(alloc, fields, "collection")?;
+    Ok(match alias {
+        Some(name) => is_published(rules, Some(name)),
+        None => is_published(rules, collection),
+    })
+}
+
+fn read_alias(place: &Text, alias: Option<&Value>) -> Result<Option<Text>, AppFault>
+    ensures { Gives (λ name. name) result (alias_reading place.now (option_map (λ v. view v.now) alias.entry)) }
+{
+    match alias {
+        None => Ok(None),
+        Some(value) => Ok(Some(read_name(place, value)?)),
+    }
+}
+
+fn read_known(
+    collections: &Names,
+    place: &Text,
+    collection: Option<&Value>,
+) -> Result<Text, AppFault>
+    ensures { Gives (λ name. name) result (known_reading collections.now place.now (option_map (λ v. view v.now) collection.entry)) }
+{
+    let Some(value) = collection else {
+        return Err(AppFault::Bad {
+            flaw: Flaw::BadShape,
+            place: place.copy()?,
+        });
+    };
+    let name = read_name(place, value)?;
+    if has_name(collections, &name) {
+        Ok(name)
+    } else {
+        Err(AppFault::Bad {
+            flaw: Flaw::UnknownCollection,
+            place: place.copy()?,
+        })
+    }
+}
+
+fn read_selector(alloc: Global, selector: Option<&Value>) -> Result<Template, Mem>
+    ensures { IfOk result (λ t. t ≡ selector_of (option_map (λ v. view v.now) selector.entry)) }
+{
+    Ok(Template {
+        value: match selector {
+            Some(value) => copy(value)?,
+            None => Value::Object(Doc::new(alloc)),
+        },
+    })
+}
+
+fn named(alias: Option<Text>, collection: &Text) -> Result<Text, Mem>
+    ensures { IfOk result (λ name. name ≡ unwrap_or alias collection.now) }
+{
+    match alias {
+        Some(name) => Ok(name),
+        None => collection.copy(),
+    }
+}
+
+fn read_parts(
+    alloc: Global,
+    collections: &Names,
+    place: &Text,
+    fields: &Doc,
+) -> Result<CursorRule, AppFault>
+    ensures { Gives (λ rule. rule) result (parts_reading collections.now place.now (fields_of fields.now)) }
+{
+    let at_alias = below(alloc, place.as_str(), "as")?;
+    let alias = read_alias(&at_alias, member(alloc, fields, "as")?)?;
+    let at_collection = below(alloc, place.as_str(), "collection")?;
+    let collection = read_known(
+        collections,
+        &at_collection,
+        member(alloc, fields, "collection")?,
+    )?;
+    let at_fields = below(alloc, place.as_str(), "fields")?;
+    let projection = read_projection(alloc, &at_fields, member(alloc, fields, "fields")?)?;
+    let selector = read_selector(alloc, member(alloc, fields, "selector")?)?;
+    let name = named(alias, &collection)?;
+    Ok(CursorRule {
+        collection,
+        name,
+        selector,
+        fields: projection,
+    })
+}
+
+// A cursor behind others, whose published names it may not have.
+fn read_rule(
+    alloc: Global,
+    collections: &Names,
+    place: &Text,
+    rules: &CursorRules,
+    value: &Value,
+) -> Result<CursorRule, AppFault>
+    ensures { Gives (λ rule. rule) result (rule_reading collections.now place.now rules.now (view value.now)) }
+{
+    let Value::Object(fields) = value else {
+        return Err(AppFault::Bad {
+            flaw: Flaw::BadShape,
+            place: place.copy()?,
+        });
+    };
+    if !is_cursor(alloc, fields)? {
+        return Err(AppFault::Bad {
+            flaw: Flaw::BadShape,
+            place: place.copy()?,
+        });
+    }
+    if is_double(alloc, rules, fields)? {
+        return Err(AppFault::Bad {
+            flaw: Flaw::DoubleName,
+            place: place.copy()?,
+        });
+    }
+    read_parts(alloc, collections, place, fields)
+}
+
+fn read_next_rule(
+    alloc: Global,
+    collections: &Names,
+    place: &Text,
+    rules: &CursorRules,
+    value: &Value,
+) -> Result<CursorRule, AppFault>
+    ensures { Gives (λ rule. rule) result (rule_reading collections.now (element place.now (length rules.now)) rules.now (view value.now)) }
+{
+    let place = element(alloc, place.as_str(), rules.len())?;
+    read_rule(alloc, collections, &place, rules, value)
+}
+
+fn read_rules(
+    alloc: Global,
+    collections: &Names,
+    place: &Text,
+    items: &Items,
+) -> Result<CursorRules, AppFault>
+    ensures { Gives (λ rules. rules) result (rules_behind collections.now place.now [] (vals_of items.now)) }
+{
+    let mut rules = CursorRules::new(alloc);
+    for item in items.as_slice() {
+        let rule = read_next_rule(alloc, collections, place, &rules, item)?;
+        rules.push(rule)?;
+    }
+    Ok(rules)
+}
+
+fn read_cursors(
+    alloc: Global,
+    collections: &Names,
+    place: Text,
+    items: &Items,
+) -> Result<Publication, AppFault>
+    ensures { Gives (λ p. p) result (cursors_reading collections.now place (vals_of items.now)) }
+{
+    if has_more_items(items, MAX_CURSORS) {
+        return Err(AppFault::Bad {
+            flaw: Flaw::TooMany,
+            place,
+        });
+    }
+    Ok(Publication {
+        cursors: read_rules(alloc, collections, &place, items)?,
+    })
+}
+
+fn read_named(
+    alloc: Global,
+    collections: &Names,
+    place: Text,
+    name: &Text,
+    items: &Items,
+) -> Result<Publication, AppFault>
+    ensures { Gives (λ p. p) result (named_reading collections.now place name.now (vals_of items.now)) }
+{
+    if is_valid_name(name) {
+        read_cursors(alloc, collections, place, items)
+    } else {
+        Err(AppFault::Bad {
+            flaw: Flaw::BadName,
+            place,
+        })
+    }
+}
+
+// The publication of this name.
+pub(crate) fn read_publication(
+    alloc: Global,
+    collections: &Names,
+    name: &Text,
+    value: &Value,
+) -> Result<Publication, AppFault>
+    ensures { Gives (λ p. p) result (publication_reading collections.now name.now (view value.now)) }
+{
+    let place = below(alloc, "publications", name.as_str())?;
+    match value {
+        Value::List(items) => read_named(alloc, collections, place, name, items),
+        Value::Null
+        | Value::Bool(_)
+        | Value::Int(_)
+        | Value::Text(_)
+        | Value::Date(_)
+        | Value::Bytes(_)
+        | Value::Object(_) => Err(AppFault::Bad {
+            flaw: Flaw::BadShape,
+            place,
+        }),
+    }
+}

@@ -1,0 +1,21 @@
+//! Applications as data: collections, publications, templates of selectors (Meteor's guide,
+//! "Publications and data loading").
+#![tactic(auto)]
+
+mod app;
+mod cursors;
+mod fault;
+mod fields;
+mod names;
+mod place;
+mod publication;
+mod template;
+
+pub use app::App;
+pub use ejson_value::Fault;
+pub use fault::{AppFault, FillFault, Flaw};
+pub use publication::{CursorRule, CursorRules, Paths, Projection, Publication};
+pub use template::Template;
+
+#[cfg(test)]
+mod tests;
