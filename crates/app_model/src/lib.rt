@@ -3,6 +3,7 @@
 #![tactic(auto)]
 
 mod app;
+mod copying;
 mod cursors;
 mod fault;
 mod fields;

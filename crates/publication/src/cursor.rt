@@ -1,0 +1,87 @@
+//! Cursors in memory.
+ghost use Rattle.std.specs.Prelude.{◌≡◌, ◌==◌, length, slice_get, IfOk};
+ghost use Rattle.std.specs.Option.{option_copied};
+
+use app_model::Projection;
+use ejson_value::{Mem, Text};
+use selector_match::Selector;
+use std::alloc::Global;
+use std::marker::Model;
+
+/// One cursor: the documents of a collection that a selector holds of.
+#[derive(Debug, Drop)]
+pub struct Cursor {
+    pub collection: Text,
+    /// The name under which a client gets the documents.
+    pub name: Text,
+    pub selector: Selector,
+    pub fields: Projection,
+}
+
+/// Cursors with different published names. A contract sees the list of them.
+#[derive(Debug, Drop)]
+pub struct Cursors {
+    pub(crate) cursors: Vec<Cursor>,
+}
+
+impl Model for Cursors {
+    ghost use Rattle.publication.specs.Cursors.{ACursors, HaveDistinctNames};
+    ghost use Rattle.publication.specs.Coding.{cursors_code};
+
+    ghost Value = { ACursors };
+
+    ghost coded = { cursors_code };
+
+    ghost view = { λ a. a.cursors.items };
+
+    ghost invariant = { λ a. HaveDistinctNames a.cursors.items };
+}
+
+impl Cursor {
+    /// A cursor equal to this one.
+    pub fn copy(&self, alloc: Global) -> Result<Cursor, Mem>
+        ensures { IfOk result (λ cursor. cursor ≡ self.now) }
+    {
+        Ok(Cursor {
+            collection: self.collection.copy()?,
+            name: self.name.copy()?,
+            selector: self.selector.copy()?,
+            fields: self.fields.copy(alloc)?,
+        })
+    }
+}
+
+impl Cursors {
+    /// How many cursors there are.
+    pub fn len(&self) -> usize
+        ensures { result ≡ length self.now }
+    {
+        self.cursors.len()
+    }
+
+    /// Whether there are none.
+    pub fn is_empty(&self) -> bool
+        ensures { result ≡ (length self.now == 0) }
+    {
+        self.cursors.is_empty()
+    }
+
+    /// The cursor at this place.
+    pub fn get(&self, place: usize) -> Option<&Cursor>
+        ensures { option_copied result ≡ slice_get self.now place }
+    {
+        self.cursors.get(place)
+    }
+
+    /// Cursors equal to these.
+    pub fn copy(&self) -> Result<Cursors, Mem>
+        ensures { IfOk result (λ cursors. cursors ≡ self.now) }
+    {
+        let alloc = *self.cursors.allocator();
+        let mut cursors = Vec::new(alloc);
+        for cursor in &self.cursors {
+            cursors.push(cursor.copy(alloc)?)?;
+        }
+        Ok(Cursors { cursors })
+    }
+}
