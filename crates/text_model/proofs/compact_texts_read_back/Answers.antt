@@ -1,0 +1,5 @@
+use Rattle.text_model.specs.TextLaws.{read-compact_text}
+use Rattle.text_model.proofs.compact_texts_read_back.Goals as goal
+
+pub returns : goal.returns
+returns c = read-compact_text
