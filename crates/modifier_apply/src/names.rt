@@ -1,10 +1,8 @@
 //! The names of operators.
 ghost use Rattle.std.specs.Prelude.{◌≡◌};
-ghost use Rattle.value_model.specs.Val.{fields_of};
-ghost use Rattle.selector_match.specs.Reading.{begins_with_dollar, has_operator, has_plain_name};
 ghost use Rattle.modifier_apply.specs.Reading.{operator_named};
 
-use ejson_value::{Doc, Text};
+use ejson_value::Text;
 
 #[derive(Clone, Copy)]
 pub(crate) enum OperatorName {
@@ -34,34 +32,4 @@ pub(crate) fn operator_named(name: &Text) -> Option<OperatorName>
         "$pop" => Some(OperatorName::Pop),
         _ => None,
     }
-}
-
-pub(crate) fn begins_with_dollar(name: &Text) -> bool
-    ensures { result ≡ begins_with_dollar name.now }
-{
-    name.as_bytes().first() == Some(&b'$')
-}
-
-// Whether some name of the object begins with `$`.
-pub(crate) fn has_operator(fields: &Doc) -> bool
-    ensures { result ≡ has_operator (fields_of fields.now) }
-{
-    for (name, _value) in fields.iter() {
-        if begins_with_dollar(name) {
-            return true;
-        }
-    }
-    false
-}
-
-// Whether some name of the object begins otherwise.
-pub(crate) fn has_plain_name(fields: &Doc) -> bool
-    ensures { result ≡ has_plain_name (fields_of fields.now) }
-{
-    for (name, _value) in fields.iter() {
-        if !begins_with_dollar(name) {
-            return true;
-        }
-    }
-    false
 }

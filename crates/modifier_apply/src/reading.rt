@@ -10,11 +10,9 @@ ghost use Rattle.modifier_apply.specs.Reading.{Gives, plain_path, list_reading, 
 
 use crate::fault::ModifierFault;
 use crate::modifier::{Modifier, ModifierKind, Operator, Update};
-use crate::names::{
-    OperatorName, begins_with_dollar, has_operator, has_plain_name, operator_named,
-};
+use crate::names::{OperatorName, operator_named};
 use ejson_value::{Doc, Items, Path, PathFault, Text, Value, copy};
-use selector_match::{SelectorFault, Test};
+use selector_match::{SelectorFault, Test, begins_with_dollar, has_operator, has_plain_name};
 use std::alloc::Global;
 
 fn has_dollar_part(path: &Path) -> bool

@@ -12,5 +12,6 @@ mod steps;
 
 pub use fault::SelectorFault;
 pub use matching::{fits, matches};
+pub use names::{begins_with_dollar, has_operator, has_plain_name};
 pub use selector::{Selector, Test};
 pub use steps::Steps;

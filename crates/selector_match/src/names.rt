@@ -62,14 +62,15 @@ pub(crate) fn operator_named(name: &Text) -> Option<OperatorName>
     }
 }
 
-pub(crate) fn begins_with_dollar(name: &Text) -> bool
+/// Whether the name begins with `$`, as the names of operators do.
+pub fn begins_with_dollar(name: &Text) -> bool
     ensures { result ≡ begins_with_dollar name.now }
 {
     name.as_bytes().first() == Some(&b'$')
 }
 
-// Whether some name of the object begins with `$`.
-pub(crate) fn has_operator(fields: &Doc) -> bool
+/// Whether some name of the object begins with `$`.
+pub fn has_operator(fields: &Doc) -> bool
     ensures { result ≡ has_operator (fields_of fields.now) }
 {
     for (name, _value) in fields.iter() {
@@ -80,7 +81,8 @@ pub(crate) fn has_operator(fields: &Doc) -> bool
     false
 }
 
-fn has_plain_name(fields: &Doc) -> bool
+/// Whether some name of the object doesn't begin with `$`.
+pub fn has_plain_name(fields: &Doc) -> bool
     ensures { result ≡ has_plain_name (fields_of fields.now) }
 {
     for (name, _value) in fields.iter() {
