@@ -11,3 +11,4 @@ pub mod Faults
 pub mod Trees
 pub mod TreeLaws
 pub mod SizeLaws
+pub mod ValueLaws
