@@ -1,5 +1,5 @@
 -- The causes of the statuses of a run that read its input.
-use Rattle.std.proofs.Common.{◌≡◌, ◌≤◌, ℕ, List, [], Bool, Option, Some, length, take, ap}
+use Rattle.std.proofs.Common.{◌≡◌, ◌≤◌, ℕ, List, [], Bool, Option, Some, length, take}
 use Rattle.std.specs.Prelude.{IfSome, is_some}
 use Rattle.io_edge.specs.Outside.{Grows}
 use Rattle.ddp.specs.Replay.{input_limit, replay_text, first_bad, AreReplayed, IsTrueReplay}

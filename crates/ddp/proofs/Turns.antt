@@ -1,6 +1,6 @@
 -- One line of a replay, and those that follow.
-use Rattle.std.proofs.Common.{◌≡◌, ℕ, suc, ◌+◌, List, [], ◌∷◌, ◌++◌, Bool, true, false, cond, Option, Some, None, map, ap, sym, subst, ◌∙◌, refl, arith, inl, inr}
-use Rattle.std.specs.Prelude.{flat_map, is_some}
+use Rattle.std.proofs.Common.{◌≡◌, ℕ, suc, ◌+◌, List, [], ◌∷◌, ◌++◌, true, false, cond, Some, None, map, ap, sym, subst, ◌∙◌, refl, arith, inl, inr}
+use Rattle.std.specs.Prelude.{flat_map}
 use Rattle.std.proofs.lemmas.Grind.{flat_map-append}
 use Rattle.std.proofs.lemmas.List.{append_assoc}
 use Rattle.value_model.specs.Val.{Val}
@@ -8,7 +8,7 @@ use Rattle.session_model.specs.App.{App}
 use Rattle.world_model.specs.declared.events.Event.{Event}
 use Rattle.world_model.specs.World.{World}
 use Rattle.world_model.specs.Lines.{lines_of}
-use Rattle.world_model.specs.Run.{step, IsEvent, AreEvents}
+use Rattle.world_model.specs.Run.{step, AreEvents}
 use Rattle.replay_core.specs.Text.{line_text}
 use Rattle.ddp.specs.Input.{line_feed, is_blank}
 use Rattle.ddp.specs.Replay.{RunsLine, event_of, before_bad, events_of, bad_unless, bad_line, printed, bad_value, bad_lines, line_bytes, all_bytes}

@@ -1,12 +1,12 @@
 -- What the command `replay` writes for an input: the first line is the application, and each further line that isn't blank is an event. The events before the
 -- first line that isn't of the grammar are run, and what they print is written, a line each; then that line is named.
-use Rattle.std.specs.Prelude.{◌≡◌, ◌⊎◌, ℕ, suc, pos, true, false, map, List, [], ◌∷◌, ◌++◌, length, take, flat_map, Bool, Option, Some, None, is_some, option_and_then, option_to_list, if◌then◌else◌, codes}
+use Rattle.std.specs.Prelude.{◌≡◌, ◌⊎◌, ℕ, suc, pos, true, false, map, List, [], ◌∷◌, ◌++◌, take, flat_map, Bool, Option, Some, None, option_and_then, if◌then◌else◌, codes}
 use Rattle.value_model.specs.Val.{Val, int}
 use Rattle.session_model.specs.App.{App}
 use Rattle.world_model.specs.declared.events.Event.{Event}
 use Rattle.world_model.specs.World.{World, start}
 use Rattle.world_model.specs.declared.events.Event.TheVariants as event
-use Rattle.world_model.specs.Run.{step, run, IsEvent, AreEvents, HoldsOf, IsQuiescent, IsTrueWorld}
+use Rattle.world_model.specs.Run.{step, run, IsEvent, AreEvents, HoldsOf, IsSettled, IsLongAlone, IsTrueWorld}
 use Rattle.world_model.specs.Lines.{line, lines_of}
 use Rattle.replay_core.specs.App.{app_in}
 use Rattle.replay_core.specs.Events.{event_in}
@@ -83,10 +83,12 @@ all_bytes vs = flat_map line_bytes vs
 abbrev pub replay_text : List ℕ → List ℕ
 replay_text input = all_bytes (printed_by (app_of (lines_in input)) (rest_of (lines_in input)) ++ bad_lines (first_bad input))
 
--- Of a run of these events: after each number of them the headline holds, and after each `settle` the session is quiescent.
+-- Of a run of these events: after each number of them the headline holds, and the client has refused no text but one that is too long; and after each `settle` the session
+-- is quiescent, or its client refused a text.
 pub record IsTrueRun (app : App) (events : List Event) : Type 0 where
   pub each : (n : ℕ) → IsTrueWorld (run (start app) (take n events))
-  pub settled : (before later : List Event) → events ≡ before ++ (event.Settle ∷ later) → HoldsOf (run (start app) (before ++ event.Settle ∷ [])).client (IsQuiescent (run (start app) (before ++ event.Settle ∷ [])).history)
+  pub long : (n : ℕ) → HoldsOf (run (start app) (take n events)).client IsLongAlone
+  pub settled : (before later : List Event) → events ≡ before ++ (event.Settle ∷ later) → HoldsOf (run (start app) (before ++ event.Settle ∷ [])).client (IsSettled (run (start app) (before ++ event.Settle ∷ [])).history)
 
 -- the same of the events of an input, if it has an application
 abbrev pub IsTrueReplay : List ℕ → Type 0

@@ -3,15 +3,16 @@ use Rattle.std.specs.Prelude.{◌≡◌, ◌==◌, ℕ, zero, suc, ◌+◌, ◌<
 use Rattle.std.proofs.Common.{ap, sym, subst, ◌∙◌, arith}
 use Rattle.std.proofs.lemmas.List.{length-append}
 use Rattle.session_model.specs.App.{App}
-use Rattle.session_model.specs.History.{Entry, contents, can_insert}
 use Rattle.world_model.specs.declared.events.Event.{Event}
 use Rattle.world_model.specs.declared.events.Event.TheVariants as event
 use Rattle.world_model.specs.Acts.{journal_limit}
 use Rattle.world_model.specs.World.{World, start}
-use Rattle.world_model.specs.Settle.{settled}
-use Rattle.world_model.specs.Run.{step, run, IsEvent, AreEvents, Reachable, HoldsOf, IsQuiescent, IsTrueWorld}
+use Rattle.world_model.specs.Run.{step, run, AreEvents, Reachable, HoldsOf, IsSettled, made}
 use Rattle.world_model.specs.HeadlineLaws.{run_is_true}
-use Rattle.world_model.specs.RestLaws.{short_history_settles, same_app as settled_app, same_history}
+use Rattle.world_model.specs.RunLaws.{start_kept}
+use Rattle.world_model.specs.CountLaws.{run_more}
+use Rattle.world_model.specs.BrokenLaws.{reachable_is_long}
+use Rattle.world_model.specs.RestLaws.{short_world_settles, same_app as settled_app}
 use Rattle.ddp.specs.Input.{line_feed, with_byte, lines_in, is_blank}
 use Rattle.ddp.specs.Replay.{input_limit, app_of, event_of, before_bad, events_of, rest_of, IsTrueRun, IsTrueReplay}
 
@@ -35,27 +36,15 @@ same_app w (e ∷ events) = same_app (step w e) events ∙ step_app w e
     step_app : (w : World) (e : Event) → (step w e).app ≡ w.app
     step_app w (event.Client name) = refl
     step_app w (event.Sub who id name) = refl
+    step_app w (event.Raw who t) = refl
     step_app w (event.Insert key doc) = refl
     step_app w (event.Do who a) = refl
     step_app w event.Settle = settled_app w
     step_app w (event.Show who) = refl
 
--- an event adds an entry to the history at most
-step_history : (w : World) (e : Event) → length (step w e).history ≤ suc (length w.history)
-step_history w (event.Client name) = omega arith
-step_history w (event.Sub who id name) = omega arith
-step_history w (event.Insert key doc) = by (can_insert w.app (contents w.history) (record { key = key; doc = doc }))
-  where
-    by : (b : Bool) → length (cond b (w.history ++ (record { key = key; doc = doc }) ∷ []) w.history) ≤ suc (length w.history)
-    by true = omega (arith, length-append w.history ((record { key = key; doc = doc }) ∷ []))
-    by false = omega arith
-step_history w (event.Do who a) = omega arith
-step_history w event.Settle = omega (arith, ap (λ (es : List Entry). length es) (same_history w))
-step_history w (event.Show who) = omega arith
-
-run_history : (w : World) (events : List Event) → length (run w events).history ≤ length w.history + length events
-run_history w [] = omega arith
-run_history w (e ∷ events) = omega (arith, run_history (step w e) events, step_history w e)
+-- the events send and store one thing each at most
+run_made : (app : App) (events : List Event) → AreEvents events → made (run (start app) events) ≤ length events
+run_made app events p = omega (arith, (run_more (start app) events p (start_kept app) tt).0)
 
 shorter : (o : Option Event) (events : List Event) (n : ℕ) → length events ≤ n → length (before_bad o events) ≤ suc n
 shorter None events n h = omega arith
@@ -87,14 +76,18 @@ length-rest (l ∷ ls) = omega arith
 pub run_is_true_throughout : (app : App) (events : List Event) → AreEvents events → length events ≤ input_limit → IsTrueRun app events
 run_is_true_throughout app events p few = record {
   each = λ n. run_is_true app (take n events) (AreEvents-take n events p);
+  long = λ n.
+      let all : AreEvents (take n events) = AreEvents-take n events p in
+      let same : (run (start app) (take n events)).app ≡ app = same_app (start app) (take n events) in
+      reachable_is_long (run (start app) (take n events)) (take n events, all, ap (λ a. run (start a) (take n events)) same);
   settled = λ before later is.
       let front : AreEvents before = AreEvents-front before (event.Settle ∷ later) (subst AreEvents is p) in
       let w = run (start app) before in
       let same : (run (start app) before).app ≡ app = same_app (start app) before in
       let reached : Reachable w = (before, front, ap (λ a. run (start a) before) same) in
-      let short : 3 + length w.history < journal_limit =
-      omega (arith, run_history (start app) before, few, ap (λ (es : List Event). length es) is, length-append before (event.Settle ∷ later)) in
-      subst (λ v. HoldsOf v.client (IsQuiescent v.history)) (sym (run-append (start app) before (event.Settle ∷ []))) (short_history_settles w reached short);
+      let short : 1 + made w < journal_limit =
+      omega (arith, run_made app before front, few, ap (λ (es : List Event). length es) is, length-append before (event.Settle ∷ later)) in
+      subst (λ v. HoldsOf v.client (IsSettled v.history)) (sym (run-append (start app) before (event.Settle ∷ []))) (short_world_settles w reached short);
 }
 
 pub replay_is_true : (input : List ℕ) → length input ≤ input_limit → ((app : App) → app_of (lines_in input) ≡ Some app → AreEvents (events_of app (rest_of (lines_in input)))) → IsTrueReplay input

@@ -11,7 +11,7 @@ ghost use Rattle.ddp.specs.Replay.{AreReplayed, GivesEventOf, RunsLine};
 use crate::input::{first_line, is_blank, value_in};
 use ejson_codec::{Lines, text};
 use ejson_value::{Items, Mem, Text, Value, Whole};
-use replay_core::{App, AppFault, Event, LineFault, World, read_event};
+use replay_core::{App, AppFault, Event, LineFault, World};
 use std::alloc::Global;
 
 /// What a replay writes, and whether a line was bad.
@@ -42,8 +42,11 @@ fn event_in(alloc: Global, app: &App, line: &[u8]) -> Result<Option<Event>, Mem>
     let Some(value) = value_in(alloc, line)? else {
         return Ok(None);
     };
-    match read_event(alloc, app, &value) {
-        Ok(event) => Ok(Some(event)),
+    match Event::read(alloc, app, &value) {
+        Ok(event) => {
+            event.known();
+            Ok(Some(event))
+        }
         Err(LineFault::NotAnEvent) => Ok(None),
         Err(LineFault::Memory) => Err(Mem),
     }

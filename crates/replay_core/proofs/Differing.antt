@@ -27,12 +27,11 @@ use Rattle.ejson_value.specs.Entries.{keys_of-entries}
 use Rattle.replay_core.proofs.Forms.{keys_of-append}
 use Rattle.ejson_value.specs.Rows.{Rows}
 use Rattle.ejson_value.specs.declared.message.DataMsg.{DataMsg}
-use Rattle.session_model.specs.declared.messages.FromServer.{FromServer}
-use Rattle.session_model.specs.declared.messages.FromServer.TheVariants as server
-use Rattle.session_model.specs.Out.{message_of, difference}
+use Rattle.session_model.specs.Texts.{server_text}
+use Rattle.session_model.specs.Out.{about, difference}
 use Rattle.session_model.specs.Publication.{collection_of}
 use Rattle.value_model.specs.Size.{is_name}
-use Rattle.replay_core.specs.Difference.{message_at}
+use Rattle.replay_core.specs.Difference.{message_at, data_text}
 
 abbrev pub same_value : Val → Val → Bool
 same_value = eq_by_cmp compare
@@ -91,18 +90,23 @@ collect-append f (j ∷ ks) k =
     let rest = collect-append f ks k in
     elim (f j) as (λ o. keyed j o (collect f (ks ++ k ∷ [])) ≡ keyed j o (collect f ks) ++ keyed k (f k) []) [ None ↦ rest | Some x ↦ ap (λ es. (j, x) ∷ es) rest ]
 
-one_said : (key : Key) (o : Option (Step (List ℕ) Val)) → map message_of (keyed key o []) ≡ option_to_list (message_at key o)
+-- the texts of what is said of these keys
+abbrev pub texts_of_keys : Rows → Rows → List Key → List (List ℕ)
+texts_of_keys old new keys = map server_text (map about (collect (differing old new) keys))
+
+one_said : (key : Key) (o : Option (Step (List ℕ) Val)) → map server_text (map about (keyed key o [])) ≡ map data_text (option_to_list (message_at key o))
 one_said key None = refl
 one_said key (Some s) = refl
 
 pub next_said : (old new : Rows) (done : List Key) (key : Key) →
-    map server.Data (map message_of (collect (differing old new) done)) ++ map server.Data (option_to_list (message_at key (differing old new key)))
-    ≡ map server.Data (map message_of (collect (differing old new) (done ++ key ∷ [])))
+    texts_of_keys old new done ++ map data_text (option_to_list (message_at key (differing old new key))) ≡ texts_of_keys old new (done ++ key ∷ [])
 next_said old new done key =
-    sym (ap (λ es. map server.Data (map message_of es)) (collect-append (differing old new) done key)
-    ∙ (ap (map server.Data) (map-append message_of (collect (differing old new) done) (keyed key (differing old new key) []))
-    ∙ (map-append server.Data (map message_of (collect (differing old new) done)) (map message_of (keyed key (differing old new key) []))
-    ∙ ap (λ ms. map server.Data (map message_of (collect (differing old new) done)) ++ map server.Data ms) (one_said key (differing old new key)))))
+    let before = collect (differing old new) done in
+    let one = keyed key (differing old new key) [] in
+    sym (ap (λ es. map server_text (map about es)) (collect-append (differing old new) done key)
+    ∙ (ap (map server_text) (map-append about before one)
+    ∙ (map-append server_text (map about before) (map about one)
+    ∙ ap (λ ts. map server_text (map about before) ++ ts) (one_said key (differing old new key)))))
 
 nothing_elsewhere : (x y : Option Entries) → cond (is_some x || is_some y) (between text_cmp same_value x y) None ≡ between text_cmp same_value x y
 nothing_elsewhere None None = refl
@@ -113,7 +117,7 @@ nothing_elsewhere (Some a) (Some b) = refl
 -- what is said of the keys of both is the difference
 pub all_said : (old new : Rows) (keys : List Key) → IsSorted key_cmp new → IsStrictlySortedBy key_cmp keys →
     ((q : Key) → list_any (eq_by_cmp key_cmp q) keys ≡ (is_some (at key_cmp old q) || is_some (at key_cmp new q))) →
-    map message_of (collect (differing old new) keys) ≡ difference old new
+    texts_of_keys old new keys ≡ map server_text (map about (difference old new))
 all_said old new keys sorted rising members =
     let is : IsDiff text_cmp same_value key_cmp old new (collect (differing old new) keys) = record {
       by_key = sorted-collect key_order (differing old new) keys rising;
@@ -121,7 +125,7 @@ all_said old new keys sorted rising members =
           λ q. at-collect key_order (differing old new) keys q
           ∙ (ap (λ b. cond b (differing old new q) None) (members q) ∙ nothing_elsewhere (at key_cmp old q) (at key_cmp new q));
     } in
-    ap (map message_of) (one_diff key_order text_cmp same_value old new (collect (differing old new) keys) (diff text_cmp same_value key_cmp old new) is (diff_is key_order text_cmp same_value old new sorted))
+    ap (λ ds. map server_text (map about ds)) (one_diff key_order text_cmp same_value old new (collect (differing old new) keys) (diff text_cmp same_value key_cmp old new) is (diff_is key_order text_cmp same_value old new sorted))
 
 pub above_all : {X : Type 0} (all done : List (List ℕ × X)) (name : List ℕ) (v : X) (rest : List (List ℕ × X)) → all ≡ done ++ (name, v) ∷ rest → IsStrictlySortedBy text_cmp (keys_of all) → IsAbove text_cmp name (keys_of done)
 above_all all done name v rest is sorted =
@@ -197,13 +201,13 @@ both_members none one both old new empty first second q =
     second q ∙ ap (λ b. b || is_some (at key_cmp new q)) (first q ∙ ap (λ ks. list_any (eq_by_cmp key_cmp q) ks || is_some (at key_cmp old q)) empty)
 
 -- one more step of the walk over the keys of both
-pub said_step : (old new : Rows) (done : List Key) (key : Key) (message : Option DataMsg) (from to : Option Entries) (messages messages' : List FromServer) →
+pub said_step : (old new : Rows) (done : List Key) (key : Key) (message : Option DataMsg) (from to : Option Entries) (texts texts' : List (List ℕ)) →
     from ≡ at key_cmp old key → to ≡ at key_cmp new key → message ≡ message_at key (between text_cmp same_value from to) →
-    messages ≡ map server.Data (map message_of (collect (differing old new) done)) → messages' ≡ messages ++ map server.Data (option_to_list message) →
-    messages' ≡ map server.Data (map message_of (collect (differing old new) (done ++ key ∷ [])))
-said_step old new done key message from to messages messages' from_is to_is says so_far made =
+    texts ≡ texts_of_keys old new done → texts' ≡ texts ++ map data_text (option_to_list message) →
+    texts' ≡ texts_of_keys old new (done ++ key ∷ [])
+said_step old new done key message from to texts texts' from_is to_is says so_far made =
     made
-    ∙ (ap₂ (λ ms m. ms ++ map server.Data (option_to_list m)) so_far (says ∙ ap₂ (λ x y. message_at key (between text_cmp same_value x y)) from_is to_is)
+    ∙ (ap₂ (λ ts m. ts ++ map data_text (option_to_list m)) so_far (says ∙ ap₂ (λ x y. message_at key (between text_cmp same_value x y)) from_is to_is)
     ∙ next_said old new done key)
 
 row_keys-append : (front : Rows) (key : Key) (doc : Entries) (more : Rows) → keys_of (front ++ (key, doc) ∷ more) ≡ keys_of front ++ key ∷ keys_of more

@@ -5,3 +5,7 @@ pub mod Fields
 pub mod Stored
 pub mod Worlds
 pub mod Printed
+pub mod Answered
+pub mod Items
+pub mod Told
+pub mod Levels

@@ -5,9 +5,8 @@ use Rattle.std.specs.Borrow.{Bor}
 use Rattle.std.specs.Bool.{OnFalse}
 use Rattle.world_model.specs.declared.events.Act.TheVariants as act
 use Rattle.std.specs.Prelude.{◌||◌, option_copied, option_map, is_some, is_none, if◌then◌else◌}
-use Rattle.value_model.specs.Valid.{HasRisingNames}
 use Rattle.session_model.specs.App.{App}
-use Rattle.session_model.specs.History.{Entry, contents, can_insert}
+use Rattle.session_model.specs.History.{Entry, contents, can_insert, IsStored}
 use Rattle.session_model.specs.Journal.{live_of}
 use Rattle.session_model.specs.OutLaws.{shown-longer, within_from}
 use Rattle.world_model.specs.declared.events.Act.{Act}
@@ -18,7 +17,7 @@ use Rattle.world_model.specs.World.{World, start, done, can, after_act}
 use Rattle.world_model.specs.Settle.{many, times, round, rounds, settled, is_stuck}
 use Rattle.world_model.specs.Run.{step, run, IsEvent, AreEvents, Reachable, HoldsOf}
 use Rattle.world_model.specs.Kept.{IsKept}
-use Rattle.world_model.specs.RunLaws.{settled_keeps, reachable_is_kept}
+use Rattle.world_model.specs.RunLaws.{IsKeptWorld, done_keeps, rounds_keep, settled_keeps, reachable_is_kept}
 use Rattle.world_model.specs.SettleLaws.{round_lowers, rounds_settle, Lowers}
 use Rattle.replay_core.specs.Store.{Stored}
 use Rattle.replay_core.specs.Connections.{client_of}
@@ -30,6 +29,7 @@ use Rattle.replay_core.specs.declared.world.World.TheInside.{Inside}
 app_stays : (w : World) (e : Event) → (step w e).app ≡ w.app
 app_stays w (event.Client name) = refl
 app_stays w (event.Sub who id name) = refl
+app_stays w (event.Raw who t) = refl
 app_stays w (event.Insert key doc) = refl
 app_stays w (event.Do who a) = refl
 app_stays w event.Settle = settled_keeps (λ v. v.app ≡ w.app) (λ a v p. p) w refl
@@ -96,21 +96,23 @@ longer_session store more None k s = tt
 longer_session store more (Some c) k s =
     let live = live_of c.session.journal.items in
     record {
+      connected = s.connected;
+      failed = s.failed;
       live = s.live;
-      shown = s.shown ∙ sym (shown-longer store.app store.history more live (within_from (length store.history) None c.session.journal.items tt k.fits));
+      shown = s.shown ∙ sym (shown-longer store.app store.history more live (within_from (length store.history) false None c.session.journal.items tt k.fits));
     }
 
 -- an insert that nothing refuses
-pub kept_insert : (a : Inside) (store : Stored) (entry : Entry) → HasRisingNames entry.doc → IsKeptInside a → can_insert a.store.app (contents a.store.history) entry ≡ true →
+pub kept_insert : (a : Inside) (store : Stored) (entry : Entry) → IsStored entry.key entry.doc → IsKeptInside a → can_insert a.store.app (contents a.store.history) entry ≡ true →
     store ≡ record a.store { history = a.store.history ++ entry ∷ [] } → IsKeptInside (record a { store = store })
-kept_insert a store entry rising k can made =
+kept_insert a store entry is k can made =
     let longer : Stored = record a.store { history = a.store.history ++ entry ∷ [] } in
     let kept : IsKeptInside (record a { store = longer }) = record {
       stands = longer_session a.store (entry ∷ []) a.connection (reachable_is_kept (world_of a) k.reachable).client k.stands;
       reachable =
           subst Reachable
           (ap (λ b. let h : List Entry = if b then a.store.history ++ entry ∷ [] else a.store.history in let w : World = record (world_of a) { history = h } in w) can)
-          (reachable_step (world_of a) (event.Insert entry.key entry.doc) rising k.reachable);
+          (reachable_step (world_of a) (event.Insert entry.key entry.doc) is k.reachable);
     } in
     subst (λ s. IsKeptInside (record a { store = s })) (sym made) kept
 
@@ -121,14 +123,15 @@ not_lower : (w : World) → Lowers w w → ⊥
 not_lower w h = elim h [ inl less ↦ not_below _ less | inr both ↦ not_below _ both.1 ]
 
 -- a round that leaves the world finds it stuck
-pub stays_is_stuck : (w : World) → round w ≡ w → is_stuck w ≡ true
-stays_is_stuck w same =
-    elim (round_lowers w) [ inl stuck ↦ stuck.0 | inr lower ↦ absurd (not_lower w (subst (Lowers w) same lower.1)) ]
+pub stays_is_stuck : (w : World) → IsKeptWorld w → round w ≡ w → is_stuck w ≡ true
+stays_is_stuck w k same =
+    elim (round_lowers w k) [ inl stuck ↦ stuck.0 | inr lower ↦ absurd (not_lower w (subst (Lowers w) same lower.1)) ]
 
 -- however many rounds it took
-pub settles : (n : ℕ) (w v : World) → v ≡ rounds n w → round v ≡ v → v ≡ settled w
-settles n w v is same =
-    is ∙ rounds_settle n w (ap is_stuck (sym is) ∙ stays_is_stuck v same)
+pub settles : (n : ℕ) (w v : World) → IsKeptWorld w → v ≡ rounds n w → round v ≡ v → v ≡ settled w
+settles n w v k is same =
+    let kept : IsKeptWorld v = subst IsKeptWorld (sym is) (rounds_keep IsKeptWorld done_keeps n w k) in
+    is ∙ rounds_settle n w k (ap is_stuck (sym is) ∙ stays_is_stuck v kept same)
 
 pub none_there : {A : Type 0} (r : Option (Bor A)) (o : Option A) → option_copied r ≡ o → is_some r ≡ false → is_none o ≡ true
 none_there None o e f = ap is_none (sym e)
@@ -169,8 +172,8 @@ round_is w0 w1 w2 w3 w4 w5 w6 w7 e1 e2 e3 e4 e5 e6 e7 =
     e7 ∙ ap (made act.Take) (e6 ∙ ap (made act.Send) (e5 ∙ ap (made act.Advance) (e4 ∙ ap (made act.Load) (e3 ∙ ap (made act.Handle) (e2 ∙ ap (made act.Recv) e1)))))
 
 -- a round that leaves the world, after some rounds
-pub settles_after : (n : ℕ) (w v u : World) → v ≡ rounds n w → u ≡ round v → u ≡ v → u ≡ settled w
-settles_after n w v u is made same = same ∙ settles n w v is (sym made ∙ same)
+pub settles_after : (n : ℕ) (w v u : World) → Reachable w → v ≡ rounds n w → u ≡ round v → u ≡ v → u ≡ settled w
+settles_after n w v u r is made same = same ∙ settles n w v (reachable_is_kept w r) is (sym made ∙ same)
 
 after_steps-append : (xs ys : List Act) (w : World) → after_steps (xs ++ ys) w ≡ after_steps ys (after_steps xs w)
 after_steps-append [] ys w = refl

@@ -1,9 +1,13 @@
 -- The event that a line describes.
-use Rattle.std.specs.Prelude.{ℕ, List, length, Bool, true, false, Option, Some, None, option_and_then, option_map, is_some, nat_lt, ◌&&◌, if◌then◌else◌, codes}
-use Rattle.value_model.specs.Val.{Val, text, list, object, Vals, no_vals, val, entries_of, Entries}
+use Rattle.std.specs.Prelude.{ℕ, List, length, Bool, true, false, Option, Some, None, option_and_then, option_map, is_some, nat_lt, nat_le, ◌&&◌, if◌then◌else◌, codes}
+use Rattle.value_model.specs.Val.{Val, text, list, object, Vals, no_vals, val, entries_of, fields_of, Entries}
+use Rattle.value_model.specs.Depth.{depth}
 use Rattle.value_model.specs.Doc.{get, remove}
 use Rattle.value_model.specs.Size.{is_name}
+use Rattle.ejson_codec.specs.Reading.{max_levels}
+use Rattle.ddp_messages.specs.Answers.{client_answer}
 use Rattle.session_model.specs.App.{App, publication}
+use Rattle.world_model.specs.Run.{asks_in}
 use Rattle.world_model.specs.declared.events.Act.{Act}
 use Rattle.world_model.specs.declared.events.Act.TheVariants as act
 use Rattle.world_model.specs.declared.events.Event.{Event}
@@ -52,12 +56,24 @@ sub_in app vs =
     (text_first who.1))
     (text_first vs)
 
+-- a text that asks for nothing. Subscriptions are asked for by `sub`
+abbrev pub raw_with : List ℕ → List ℕ → Option Event
+raw_with who t = if asks_in (client_answer t) then None else Some (event.Raw who t)
+
+-- `["raw",client,text]`, after the word
+abbrev pub raw_in : Vals → Option Event
+raw_in vs = option_and_then (λ who. option_and_then (raw_with who.0) (text_alone who.1)) (text_first vs)
+
 -- an id of a document has 1 to 256 bytes
 abbrev pub is_valid_id : List ℕ → Bool
 is_valid_id id = nat_lt 0 (length id) && nat_lt (length id) 257
 
+-- a document has at most 32 levels
+abbrev pub is_shallow : Entries → Bool
+is_shallow doc = nat_le (depth (object (fields_of doc))) max_levels
+
 abbrev pub insert_with : List ℕ → Option Val → Entries → Option Event
-insert_with collection (Some (text id)) doc = if is_valid_id id then Some (event.Insert (record { collection = collection; id = id }) doc) else None
+insert_with collection (Some (text id)) doc = if is_valid_id id && is_shallow doc then Some (event.Insert (record { collection = collection; id = id }) doc) else None
 insert_with collection _ doc = None
 
 -- the insert of a document: its id is the field `_id`, and the other fields are the document
@@ -96,6 +112,7 @@ abbrev pub row_in : App → List ℕ → Vals → Option Event
 row_in app word vs =
     if is_name word (codes "client") then option_map event.Client (text_alone vs)
     else if is_name word (codes "sub") then sub_in app vs
+    else if is_name word (codes "raw") then raw_in vs
     else if is_name word (codes "admin") then admin_in vs
     else if is_name word (codes "settle") then (if is_nil vs then Some event.Settle else None)
     else if is_name word (codes "show") then option_map event.Show (text_alone vs)

@@ -1,7 +1,6 @@
 -- What reading a line answers, by what the definition says.
 use Rattle.std.specs.Prelude.{◌≡◌, Option, Some, None, Result, Ok, Err}
 use Rattle.world_model.specs.declared.events.Event.{Event}
-use Rattle.world_model.specs.Run.{IsEvent}
 use Rattle.replay_core.specs.declared.fault.LineFault.{LineFault}
 use Rattle.replay_core.specs.declared.fault.LineFault.TheVariants as line_fault
 use Rattle.replay_core.specs.declared.fault.AppFault.{AppFault}
@@ -14,6 +13,6 @@ GivesApp (Err app_fault.Bad) answer = answer ≡ None
 GivesApp (Err app_fault.Memory) answer = Unit {0}
 
 abbrev pub GivesEvent : Result Event LineFault → Option Event → Type 0
-GivesEvent (Ok e) answer = (answer ≡ Some e) × IsEvent e
+GivesEvent (Ok e) answer = answer ≡ Some e
 GivesEvent (Err line_fault.NotAnEvent) answer = answer ≡ None
 GivesEvent (Err line_fault.Memory) answer = Unit {0}

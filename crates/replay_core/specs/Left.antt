@@ -18,6 +18,7 @@ StepsLead old new = (steps : List Act) × (after_steps steps old ≡ new)
 abbrev pub IsLeft : Event → World → World → Type 0
 IsLeft (event.Client name) old new = new ≡ old
 IsLeft (event.Sub who id name) old new = new ≡ old
+IsLeft (event.Raw who t) old new = new ≡ old
 IsLeft (event.Insert key doc) old new = new ≡ old
 IsLeft (event.Do who a) old new = new ≡ old
 IsLeft event.Settle old new = StepsLead old new

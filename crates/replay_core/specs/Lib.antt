@@ -5,6 +5,7 @@ pub mod Events
 pub mod Store
 pub mod Stands
 pub mod Queue
+pub mod Taking
 pub mod Sessions
 pub mod Connections
 pub mod Worlds

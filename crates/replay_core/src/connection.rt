@@ -1,39 +1,53 @@
 //! A client with its session and the links between them.
 ghost use Rattle.std.specs.Prelude.{◌≡◌, ◌++◌, ◌∷◌, [], ℕ, List, length, IfOk, OnOk, OnErr, Some, None, option_map};
-ghost use Rattle.map_model.specs.Differences.{with_fields, without, changed as changes};
+ghost use Rattle.map_model.specs.Differences.{with_fields, without, all_taken, changed as changes};
 ghost use Rattle.value_model.specs.Order.{text_cmp};
+ghost use Rattle.ejson_value.specs.Key.{key_cmp};
 ghost use Rattle.ejson_value.specs.Messages.{said};
+ghost use Rattle.ddp_messages.specs.ClientMessage.{client_view};
+ghost use Rattle.ddp_messages.specs.ServerMessage.{server_view};
 ghost use Rattle.session_model.specs.Journal.{live_of};
-ghost use Rattle.world_model.specs.Client.{Client as AClient, new_client};
-ghost use Rattle.world_model.specs.Acts.{moves_up, receives, handles, loads, advances, sends, takes, taken_by, readied, told};
+ghost use Rattle.session_model.specs.Texts.{client_text};
+ghost use Rattle.world_model.specs.Client.{Client as AClient, connect_text, new_client};
+ghost use Rattle.world_model.specs.Acts.{moves_up, receives, handles, loads, advances, sends, takes};
+ghost use Rattle.world_model.specs.Taking.{ended_by, turned, readied, told, told_unless, told_text, message_refusal};
 ghost use Rattle.replay_core.specs.Store.{Stored};
 ghost use Rattle.replay_core.specs.Sessions.{IsTrueTo, Does};
-ghost use Rattle.replay_core.specs.Connections.{as_sub, client_of, with_client};
+ghost use Rattle.replay_core.specs.Connections.{as_sub, client_of, with_client, pong_text, begun};
 
+use crate::hearing::{MALFORMED, NO_OBJECT, refusal};
 use crate::queue::Queue;
 use crate::session::Session;
 use crate::store::Store;
-use ejson_value::{Contents, DataMsg, Doc, Key, Mem, Text, copy};
-use session_model::messages::{FromClient, FromServer};
+use ddp_messages::{FromClient, FromServer, MsgFault};
+use ejson_value::{Contents, DataMsg, Doc, Fault, Key, Mem, Names, Text, copy};
 use std::alloc::Global;
+use world_model::subs::SubState;
 
-/// How many messages a link holds.
+/// How many texts a link holds.
 const LINK_LIMIT: usize = 256;
+
+/// How many bytes a text may have that a client reads.
+const MAX_SERVER_TEXT: usize = 4_194_304;
 
 /// A subscription as its client knows it.
 #[derive(Debug, Drop)]
 pub(crate) struct Sub {
     pub(crate) id: Text,
-    pub(crate) is_ready: bool,
+    pub(crate) state: SubState,
 }
 
-/// A client: the messages that wait in it, the name of its session, its documents and its
+/// A client: the texts that wait in it, the name of its session, its documents and its
 /// subscription.
 #[derive(Debug, Drop)]
 pub(crate) struct Client {
     pub(crate) name: Text,
-    pub(crate) waiting: Queue<FromClient>,
+    pub(crate) waiting: Queue<Text>,
     pub(crate) session: Option<Text>,
+    /// Whether the version was refused.
+    pub(crate) is_failed: bool,
+    /// The number of the refusal of the text that broke the client.
+    pub(crate) broken: Option<u64>,
     pub(crate) rows: Contents,
     pub(crate) sub: Option<Sub>,
 }
@@ -42,9 +56,11 @@ pub(crate) struct Client {
 #[derive(Debug, Drop)]
 pub(crate) struct Connection {
     pub(crate) client: Client,
-    pub(crate) upward: Queue<FromClient>,
+    pub(crate) upward: Queue<Text>,
+    /// The texts that the session took, the first one first.
+    pub(crate) received: Vec<Text>,
     pub(crate) session: Session,
-    pub(crate) downward: Queue<FromServer>,
+    pub(crate) downward: Queue<Text>,
 }
 
 // Takes the named fields out of the document.
@@ -81,7 +97,7 @@ fn changed(doc: &Doc, fields: &Doc, cleared: &[Text]) -> Result<Doc, Mem>
 
 // Takes a message about a document in (Meteor's DDP.md, "Managing data").
 fn take_data(rows: &mut Contents, message: &DataMsg) -> Result<(), Mem>
-    ensures ok { OnOk result (rows.new ≡ taken_by rows.old (said message.now)) }
+    ensures ok { OnOk result (rows.new ≡ all_taken text_cmp key_cmp rows.old (said message.now ∷ [])) }
     ensures err { OnErr result (rows.new ≡ rows.old) }
 {
     match message {
@@ -100,7 +116,7 @@ fn take_data(rows: &mut Contents, message: &DataMsg) -> Result<(), Mem>
 
 // Changes the document at the key, if there is one.
 fn change(rows: &mut Contents, key: &Key, fields: &Doc, cleared: &[Text]) -> Result<(), Mem>
-    ensures ok { OnOk result (rows.new ≡ taken_by rows.old (key.now, changes fields.now cleared.now)) }
+    ensures ok { OnOk result (rows.new ≡ all_taken text_cmp key_cmp rows.old ((key.now, changes fields.now cleared.now) ∷ [])) }
     ensures err { OnErr result (rows.new ≡ rows.old) }
 {
     rows.known();
@@ -113,24 +129,87 @@ fn change(rows: &mut Contents, key: &Key, fields: &Doc, cleared: &[Text]) -> Res
     }
 }
 
-// The subscription of this id is ready.
-fn set_ready(sub: &mut Option<Sub>, id: &Text)
-    ensures { option_map as_sub sub.new ≡ readied id.now (option_map as_sub sub.old) }
+// The subscription, where it has this id, is in this state now.
+fn turn(sub: &mut Option<Sub>, id: &Text, state: SubState)
+    ensures { option_map as_sub sub.new ≡ turned state id.now (option_map as_sub sub.old) }
 {
     match sub {
         Some(sub) => {
             if sub.id.as_str() == id.as_str() {
-                sub.is_ready = true;
+                sub.state = state;
             }
         }
         None => {}
     }
 }
 
+// The subscriptions of these ids are ready.
+fn turn_ready(sub: &mut Option<Sub>, ids: &Names)
+    ensures { option_map as_sub sub.new ≡ readied ids.now (option_map as_sub sub.old) }
+{
+    for id in ids.as_slice() {
+        turn(sub, id, SubState::Ready);
+    }
+}
+
+// How a subscription is over.
+fn ended_by(error: &Option<Fault>) -> Result<SubState, Mem>
+    ensures { IfOk result (λ state. state ≡ ended_by error.now) }
+{
+    match error {
+        Some(error) => {
+            let code = error.code.copy()?;
+            Ok(SubState::Refused { code })
+        }
+        None => Ok(SubState::Ended),
+    }
+}
+
+// The text of a `pong` with this id.
+fn pong(alloc: Global, id: &Option<Text>) -> Result<Text, Mem>
+    ensures { IfOk result (λ text. text ≡ pong_text id.now) }
+{
+    let id = match id {
+        Some(id) => Some(id.copy()?),
+        None => None,
+    };
+    FromClient::Pong { id }.text(alloc)
+}
+
+// A client's first text.
+fn connect(alloc: Global) -> Result<Text, Mem>
+    ensures { IfOk result (λ text. text ≡ connect_text) }
+{
+    let mut support = Names::new(alloc);
+    support.push(Text::from_str(alloc, "1")?)?;
+    let connect = FromClient::Connect {
+        version: Text::from_str(alloc, "1")?,
+        support: Some(support),
+    };
+    connect.text(alloc)
+}
+
 impl Client {
-    /// Takes a message in.
-    fn tell(&mut self, message: &FromServer) -> Result<(), Mem>
-        ensures ok { OnOk result ((c : AClient) → with_client c self.new ≡ told (with_client c self.old) message.now) }
+    /// A client at its beginning: its `connect` waits.
+    fn new(alloc: Global, name: &Text) -> Result<Client, Mem>
+        ensures { IfOk result (λ k. (c : AClient) → with_client c k ≡ begun name.now c) }
+    {
+        let mut waiting = Queue::new(alloc);
+        waiting.push(connect(alloc)?)?;
+        Ok(Client {
+            name: name.copy()?,
+            waiting,
+            session: None,
+            is_failed: false,
+            broken: None,
+            rows: Contents::new(alloc),
+            sub: None,
+        })
+    }
+
+    // Takes a message in that isn't refused.
+    fn tell(&mut self, alloc: Global, message: &FromServer) -> Result<(), Mem>
+        ensures ok { OnOk result ((c : AClient) → with_client c self.new ≡ told (with_client c self.old) (server_view message.now)) }
         ensures err { OnErr result ((c : AClient) → with_client c self.new ≡ with_client c self.old) }
     {
         match message {
@@ -138,11 +217,66 @@ impl Client {
                 self.session = Some(session.copy()?);
                 Ok(())
             }
-            FromServer::Ready { id } => {
-                set_ready(&mut self.sub, id);
+            FromServer::Failed { .. } => {
+                self.is_failed = true;
+                Ok(())
+            }
+            FromServer::Ping { id } => {
+                let answer = pong(alloc, id)?;
+                self.waiting.push(answer)
+            }
+            FromServer::Nosub { id, error } => {
+                let state = ended_by(error)?;
+                turn(&mut self.sub, id, state);
+                Ok(())
+            }
+            FromServer::Ready { subs } => {
+                turn_ready(&mut self.sub, subs);
                 Ok(())
             }
             FromServer::Data(message) => take_data(&mut self.rows, message),
+            FromServer::Pong { .. }
+            | FromServer::Result { .. }
+            | FromServer::Updated { .. }
+            | FromServer::Error { .. }
+            | FromServer::Unknown => Ok(()),
+        }
+    }
+
+    // Takes a message in, or refuses it.
+    fn tell_unless(&mut self, alloc: Global, message: &FromServer) -> Result<(), Mem>
+        ensures ok { OnOk result ((c : AClient) → with_client c self.new ≡ told_unless (with_client c self.old) (server_view message.now) (message_refusal self.old.session self.old.rows (server_view message.now))) }
+        ensures err { OnErr result ((c : AClient) → with_client c self.new ≡ with_client c self.old) }
+    {
+        match refusal(self.session.as_ref(), &self.rows, message) {
+            Some(number) => {
+                self.broken = Some(number);
+                Ok(())
+            }
+            None => self.tell(alloc, message),
+        }
+    }
+
+    /// Takes a text in, or refuses it and is broken.
+    pub(crate) fn hear(&mut self, alloc: Global, text: &Text) -> Result<(), Mem>
+        ensures ok { OnOk result ((c : AClient) → with_client c self.new ≡ told_text (with_client c self.old) text.now) }
+        ensures err { OnErr result ((c : AClient) → with_client c self.new ≡ with_client c self.old) }
+    {
+        if text.len() > MAX_SERVER_TEXT {
+            self.broken = Some(NO_OBJECT);
+            return Ok(());
+        }
+        match FromServer::read(alloc, text) {
+            Ok(message) => self.tell_unless(alloc, &message),
+            Err(MsgFault::Parse) => {
+                self.broken = Some(NO_OBJECT);
+                Ok(())
+            }
+            Err(MsgFault::BadRequest { .. }) => {
+                self.broken = Some(MALFORMED);
+                Ok(())
+            }
+            Err(MsgFault::Memory) => Err(Mem),
         }
     }
 }
@@ -153,23 +287,16 @@ impl Connection {
         ensures client { IfOk result (λ c. client_of c ≡ new_client name.now) }
         ensures stands { IfOk result (λ c. (store : Stored) → IsTrueTo store c.session) }
     {
-        let mut waiting = Queue::new(alloc);
-        waiting.push(FromClient::Connect)?;
         Ok(Connection {
-            client: Client {
-                name: name.copy()?,
-                waiting,
-                session: None,
-                rows: Contents::new(alloc),
-                sub: None,
-            },
+            client: Client::new(alloc, name)?,
             upward: Queue::new(alloc),
+            received: Vec::new(alloc),
             session: Session::new(alloc, 1),
             downward: Queue::new(alloc),
         })
     }
 
-    /// Moves a message that waits in the client onto the link to the server.
+    /// Moves a text that waits in the client onto the link to the server.
     pub(crate) fn move_up(&mut self) -> Result<bool, Mem>
         ensures ok { IfOk result (λ done. Does done (client_of self.old) (client_of self.new) (moves_up (client_of self.old) self.old.client.waiting)) }
         ensures err { OnErr result (client_of self.new ≡ client_of self.old) }
@@ -182,25 +309,27 @@ impl Connection {
         Ok(done)
     }
 
-    /// The session takes a message from the link.
+    /// The session takes a text from the link.
     pub(crate) fn receive(&mut self, store: &Store) -> Result<bool, Mem>
         requires { IsTrueTo store.now self.old.session }
         ensures ok { IfOk result (λ done. Does done (client_of self.old) (client_of self.new) (receives store.now.app store.now.history (client_of self.old) self.old.upward)) }
         ensures err { OnErr result (client_of self.new ≡ client_of self.old) }
         ensures stands { IsTrueTo store.now self.new.session }
     {
-        if !self.session.has_room() {
+        if self.session.has_failed || !self.session.has_room() {
             return Ok(false);
         }
-        let Some(message) = self.upward.first() else {
+        let Some(text) = self.upward.first() else {
             return Ok(false);
         };
-        self.session.take_in(store, message)?;
-        self.upward.drop_first();
+        self.received.reserve(1)?;
+        self.session.take_in(store, text)?;
+        let text = self.upward.take_first().unwrap();
+        self.received.push(text).unwrap();
         Ok(true)
     }
 
-    /// The session handles a message that waits in its queue.
+    /// The session handles a request that waits in its queue.
     pub(crate) fn handle(&mut self, store: &Store) -> Result<bool, Mem>
         requires { IsTrueTo store.now self.old.session }
         ensures ok { IfOk result (λ done. Does done (client_of self.old) (client_of self.new) (handles store.now.app store.now.history (client_of self.old) self.old.session.queue)) }
@@ -242,7 +371,7 @@ impl Connection {
         Ok(done)
     }
 
-    /// Moves a message of the session's outbox onto the link to the client.
+    /// Moves a text of the session's outbox onto the link to the client.
     pub(crate) fn send(&mut self) -> Result<bool, Mem>
         ensures ok { IfOk result (λ done. Does done (client_of self.old) (client_of self.new) (sends (client_of self.old) self.old.session.outbox)) }
         ensures err { OnErr result (client_of self.new ≡ client_of self.old) }
@@ -255,16 +384,19 @@ impl Connection {
         Ok(done)
     }
 
-    /// The client takes a message from the link.
-    pub(crate) fn take(&mut self) -> Result<bool, Mem>
+    /// The client takes a text from the link.
+    pub(crate) fn take(&mut self, alloc: Global) -> Result<bool, Mem>
         ensures ok { IfOk result (λ done. Does done (client_of self.old) (client_of self.new) (takes (client_of self.old) self.old.downward)) }
         ensures err { OnErr result (client_of self.new ≡ client_of self.old) }
         ensures stands { (store : Stored) → IsTrueTo store self.old.session → IsTrueTo store self.new.session }
     {
-        let Some(message) = self.downward.first() else {
+        if self.client.is_failed || self.client.broken.is_some() {
+            return Ok(false);
+        }
+        let Some(text) = self.downward.first() else {
             return Ok(false);
         };
-        self.client.tell(message)?;
+        self.client.hear(alloc, text)?;
         self.downward.drop_first();
         Ok(true)
     }

@@ -1,4 +1,4 @@
-//! The messages that lead from some documents to others (Meteor's DDP.md, "Managing data").
+//! The texts of the messages that lead from some documents to others (Meteor's DDP.md, "Managing Data").
 ghost use Rattle.std.specs.Prelude.{◌≡◌, ◌||◌, ◌++◌, ℕ, map, IfOk, OnOk, Some, is_some, option_map, if◌then◌else◌, ◌∷◌, [], option_to_list};
 ghost use Rattle.std.specs.Ordering.{eq_by_cmp};
 ghost use Rattle.std.specs.List.{list_any};
@@ -10,13 +10,13 @@ ghost use Rattle.value_model.specs.Doc.{put};
 ghost use Rattle.ejson_value.specs.View.{view};
 ghost use Rattle.ejson_value.specs.declared.key.Key.{Key as AKey};
 ghost use Rattle.ejson_value.specs.Key.{key_cmp};
-ghost use Rattle.session_model.specs.declared.messages.FromServer.TheVariants as server;
-ghost use Rattle.session_model.specs.Out.{difference};
-ghost use Rattle.replay_core.specs.Difference.{message_at};
+ghost use Rattle.session_model.specs.Texts.{server_text};
+ghost use Rattle.session_model.specs.Out.{about, difference};
+ghost use Rattle.replay_core.specs.Difference.{message_at, data_text};
 
 use crate::queue::Queue;
+use ddp_messages::FromServer;
 use ejson_value::{Contents, DataMsg, Doc, Key, ListOf, Mem, Text, Value, compare, copy};
-use session_model::messages::FromServer;
 use std::alloc::Global;
 use std::collections::BTreeSet;
 
@@ -125,34 +125,28 @@ fn put_keys(keys: &mut BTreeSet<Key>, rows: &Contents) -> Result<(), Mem>
     Ok(())
 }
 
-/// The messages that lead from the old documents to the new ones, by key.
-pub(crate) fn data_messages(
-    alloc: Global,
-    old: &Contents,
-    new: &Contents,
-) -> Result<Queue<FromServer>, Mem>
-    ensures { IfOk result (λ messages. messages ≡ map server.Data (difference old.now new.now)) }
+/// The texts of the messages that lead from the old documents to the new ones, by key.
+pub(crate) fn data_texts(alloc: Global, old: &Contents, new: &Contents) -> Result<Queue<Text>, Mem>
+    ensures { IfOk result (λ texts. texts ≡ map server_text (map about (difference old.now new.now))) }
 {
     let mut keys = BTreeSet::new(alloc);
     put_keys(&mut keys, old)?;
     put_keys(&mut keys, new)?;
-    let mut messages = Queue::new(alloc);
+    let mut texts = Queue::new(alloc);
     new.known();
     for key in keys.iter() {
-        push_data(
-            &mut messages,
-            message_between(alloc, key, old.get(key), new.get(key))?,
-        )?;
+        let message = message_between(alloc, key, old.get(key), new.get(key))?;
+        push_text(alloc, &mut texts, message)?;
     }
-    Ok(messages)
+    Ok(texts)
 }
 
-// Adds the message, if there is one.
-fn push_data(messages: &mut Queue<FromServer>, message: Option<DataMsg>) -> Result<(), Mem>
-    ensures { OnOk result (messages.new ≡ messages.old ++ map server.Data (option_to_list message)) }
+// Adds the message's text, if there is a message.
+fn push_text(alloc: Global, texts: &mut Queue<Text>, message: Option<DataMsg>) -> Result<(), Mem>
+    ensures { OnOk result (texts.new ≡ texts.old ++ map data_text (option_to_list message)) }
 {
     match message {
-        Some(message) => messages.push(FromServer::Data(message)),
+        Some(message) => texts.push(FromServer::Data(message).text(alloc)?),
         None => Ok(()),
     }
 }

@@ -1,286 +1,69 @@
-//! The event that a line describes.
-ghost use Rattle.std.specs.Prelude.{◌≡◌, IfOk, MatchOption, option_copied, option_map};
-ghost use Rattle.value_model.specs.Val.{vals_of};
-ghost use Rattle.ejson_value.specs.View.{view, views};
-ghost use Rattle.world_model.specs.declared.events.Event.TheVariants as event;
+//! Events of the program.
+ghost use Rattle.std.specs.Prelude.{◌≡◌};
+ghost use Rattle.ejson_value.specs.View.{view};
 ghost use Rattle.world_model.specs.Run.{IsEvent};
-ghost use Rattle.replay_core.specs.Events.{text_first, is_nil, text_alone, list_alone, doc_alone, has_no_params, sub_with, sub_in, is_valid_id, insert_in, operation_in, admin_in, act_of, step_in, row_in, event_in};
+ghost use Rattle.replay_core.specs.Events.{event_in};
 ghost use Rattle.replay_core.specs.Faults.{GivesEvent};
 
 use crate::app::App;
 use crate::fault::LineFault;
-use ejson_value::{Doc, Key, Mem, Text, Value};
+use crate::grammar::event_in;
+use ejson_value::Value;
 use std::alloc::Global;
-use world_model::events::{Act, Event};
+use std::marker::Model;
+use world_model::events::Event as Happening;
 
-// The text that stands first, and what follows it.
-fn text_first(values: &[Value]) -> Option<(&Text, &[Value])>
-    ensures { MatchOption result (text_first (vals_of (views values.now)) ≡ None) (λ p. text_first (vals_of (views values.now)) ≡ Some (p.0.now, vals_of (views p.1.now))) }
-{
-    let Some((first, rest)) = values.split_first() else {
-        return None;
-    };
-    match first {
-        Value::Text(text) => Some((text, rest)),
-        _ => None,
-    }
+/// An event of the program, as a line describes it. A contract sees it as what happens: an id of a
+/// subscription has at most 256 bytes, a document is one that a store keeps, and a text that is
+/// sent as it stands asks for nothing.
+#[derive(Debug, Drop)]
+pub struct Event {
+    happening: Happening,
 }
 
-fn is_nil(values: &[Value]) -> bool
-    ensures { result ≡ is_nil (vals_of (views values.now)) }
-{
-    match values.split_first() {
-        None => true,
-        Some(_) => false,
-    }
+impl Model for Event {
+    ghost use Rattle.world_model.specs.declared.events.Event.{Event as AnEvent};
+
+    ghost Value = { AnEvent };
+
+    ghost use Rattle.std.specs.Coded.{codes};
+    ghost use Rattle.value_model.specs.Coding.{val_code};
+
+    ghost coded = { Prim.hlevel (codes, val_code) };
+
+    ghost use Rattle.world_model.specs.Run.{IsEvent};
+
+    ghost view = { λ a. a.happening };
+
+    ghost invariant = { λ a. IsEvent a.happening };
 }
 
-// The text that stands alone.
-fn text_alone(values: &[Value]) -> Option<&Text>
-    ensures { option_copied result ≡ text_alone (vals_of (views values.now)) }
-{
-    let Some((text, rest)) = text_first(values) else {
-        return None;
-    };
-    if is_nil(rest) { Some(text) } else { None }
-}
-
-// The list that stands alone.
-fn list_alone(values: &[Value]) -> Option<&[Value]>
-    ensures { option_map (λ vs. vals_of (views vs.now)) result ≡ list_alone (vals_of (views values.now)) }
-{
-    let Some((first, rest)) = values.split_first() else {
-        return None;
-    };
-    let Value::List(items) = first else {
-        return None;
-    };
-    if is_nil(rest) {
-        Some(items.as_slice())
-    } else {
-        None
-    }
-}
-
-// The document that stands alone.
-fn doc_alone(values: &[Value]) -> Option<&Doc>
-    ensures { option_copied result ≡ doc_alone (vals_of (views values.now)) }
-{
-    let Some((first, rest)) = values.split_first() else {
-        return None;
-    };
-    let Value::Object(doc) = first else {
-        return None;
-    };
-    if is_nil(rest) { Some(doc) } else { None }
-}
-
-// Whether there are no parameters, or an empty list of them.
-fn has_no_params(values: &[Value]) -> bool
-    ensures { result ≡ has_no_params (vals_of (views values.now)) }
-{
-    let Some((first, rest)) = values.split_first() else {
-        return true;
-    };
-    match first {
-        Value::List(items) => is_nil(rest) && is_nil(items.as_slice()),
-        _ => false,
-    }
-}
-
-// The subscription of these parts.
-fn sub_with(
-    app: &App,
-    client: &Text,
-    id: &Text,
-    name: &Text,
-    params: &[Value],
-) -> Result<Option<Event>, Mem>
-    ensures { IfOk result (λ e. e ≡ sub_with app.now client.now id.now name.now (vals_of (views params.now))) }
-{
-    if has_no_params(params) && id.len() < 257 && app.publication(name).is_some() {
-        Ok(Some(Event::Sub {
-            client: client.copy()?,
-            id: id.copy()?,
-            name: name.copy()?,
-        }))
-    } else {
-        Ok(None)
-    }
-}
-
-fn read_sub(app: &App, values: &[Value]) -> Result<Option<Event>, Mem>
-    ensures { IfOk result (λ e. e ≡ sub_in app.now (vals_of (views values.now))) }
-{
-    let Some((client, rest)) = text_first(values) else {
-        return Ok(None);
-    };
-    let Some((id, rest)) = text_first(rest) else {
-        return Ok(None);
-    };
-    let Some((name, params)) = text_first(rest) else {
-        return Ok(None);
-    };
-    sub_with(app, client, id, name, params)
-}
-
-// An id of a document has 1 to 256 bytes.
-fn is_valid_id(id: &Text) -> bool
-    ensures { result ≡ is_valid_id id.now }
-{
-    0 < id.len() && id.len() < 257
-}
-
-// The insert of the document, whose id is the field `_id`.
-fn read_insert(alloc: Global, collection: &Text, doc: &Doc) -> Result<Option<Event>, Mem>
-    ensures { IfOk result (λ e. e ≡ insert_in collection.now doc.now) }
-{
-    let name = Text::from_str(alloc, "_id")?;
-    let mut doc = doc.copy()?;
-    let Some(value) = doc.remove(&name) else {
-        return Ok(None);
-    };
-    let Value::Text(id) = value else {
-        return Ok(None);
-    };
-    if !is_valid_id(&id) {
-        return Ok(None);
-    }
-    let collection = collection.copy()?;
-    Ok(Some(Event::Insert {
-        key: Key { collection, id },
-        doc,
-    }))
-}
-
-fn read_operation(alloc: Global, values: &[Value]) -> Result<Option<Event>, Mem>
-    ensures { IfOk result (λ e. e ≡ operation_in (vals_of (views values.now))) }
-{
-    let Some((word, rest)) = text_first(values) else {
-        return Ok(None);
-    };
-    if word.as_str() != "insert" {
-        return Ok(None);
-    }
-    let Some((collection, rest)) = text_first(rest) else {
-        return Ok(None);
-    };
-    let Some(doc) = doc_alone(rest) else {
-        return Ok(None);
-    };
-    read_insert(alloc, collection, doc)
-}
-
-fn read_admin(alloc: Global, values: &[Value]) -> Result<Option<Event>, Mem>
-    ensures { IfOk result (λ e. e ≡ admin_in (vals_of (views values.now))) }
-{
-    match list_alone(values) {
-        Some(operation) => read_operation(alloc, operation),
-        None => Ok(None),
-    }
-}
-
-fn read_client(values: &[Value]) -> Result<Option<Event>, Mem>
-    ensures { IfOk result (λ e. e ≡ option_map event.Client (text_alone (vals_of (views values.now)))) }
-{
-    match text_alone(values) {
-        Some(name) => Ok(Some(Event::Client { name: name.copy()? })),
-        None => Ok(None),
-    }
-}
-
-fn read_show(values: &[Value]) -> Result<Option<Event>, Mem>
-    ensures { IfOk result (λ e. e ≡ option_map event.Show (text_alone (vals_of (views values.now)))) }
-{
-    match text_alone(values) {
-        Some(client) => Ok(Some(Event::Show {
-            client: client.copy()?,
-        })),
-        None => Ok(None),
-    }
-}
-
-// The step that the word names.
-fn act_of(word: &Text) -> Option<Act>
-    ensures { result ≡ act_of word.now }
-{
-    match word.as_str() {
-        "up" => Some(Act::Up),
-        "recv" => Some(Act::Recv),
-        "handle" => Some(Act::Handle),
-        "send" => Some(Act::Send),
-        "take" => Some(Act::Take),
-        _ => None,
-    }
-}
-
-fn read_step(word: &Text, values: &[Value]) -> Result<Option<Event>, Mem>
-    ensures { IfOk result (λ e. e ≡ step_in word.now (vals_of (views values.now))) }
-{
-    let Some(act) = act_of(word) else {
-        return Ok(None);
-    };
-    match text_alone(values) {
-        Some(client) => Ok(Some(Event::Do {
-            client: client.copy()?,
-            act,
-        })),
-        None => Ok(None),
-    }
-}
-
-// The event of this word and what follows it.
-fn read_row(alloc: Global, app: &App, word: &Text, values: &[Value]) -> Result<Option<Event>, Mem>
-    ensures { IfOk result (λ e. e ≡ row_in app.now word.now (vals_of (views values.now))) }
-{
-    match word.as_str() {
-        "client" => read_client(values),
-        "sub" => read_sub(app, values),
-        "admin" => read_admin(alloc, values),
-        "settle" if is_nil(values) => Ok(Some(Event::Settle)),
-        "show" => read_show(values),
-        _ => read_step(word, values),
-    }
-}
-
-fn event_in(alloc: Global, app: &App, line: &Value) -> Result<Option<Event>, Mem>
-    ensures { IfOk result (λ e. e ≡ event_in app.now (view line.now)) }
-{
-    let Value::List(items) = line else {
-        return Ok(None);
-    };
-    match text_first(items.as_slice()) {
-        Some((word, rest)) => read_row(alloc, app, word, rest),
-        None => Ok(None),
-    }
-}
-
-// Tells a proof what the event keeps; it does nothing.
-fn known(event: &Event)
-    ensures { IsEvent event.now }
-{
-    match event {
-        Event::Insert { doc, .. } => doc.known(),
-        Event::Client { .. }
-        | Event::Sub { .. }
-        | Event::Do { .. }
-        | Event::Settle
-        | Event::Show { .. } => {}
-    }
-}
-
-/// The event that the line describes, of an application: `["client",c]`, `["sub",c,id,name]` and
-/// `["sub",c,id,name,[]]` of a publication of the application, `["admin",["insert",collection,doc]]`
-/// with the id as the document's field `_id`, `["settle"]`, `["show",c]`, and for a single step
-/// `["up",c]`, `["recv",c]`, `["handle",c]`, `["send",c]` and `["take",c]`.
-pub fn read_event(alloc: Global, app: &App, line: &Value) -> Result<Event, LineFault>
-    ensures { GivesEvent result (event_in app.now (view line.now)) }
-{
-    match event_in(alloc, app, line)? {
-        Some(event) => {
-            known(&event);
-            Ok(event)
+impl Event {
+    /// The event that the line describes, of an application: `["client",c]`, `["sub",c,id,name]` and
+    /// `["sub",c,id,name,[]]` of a publication of the application, `["raw",c,text]` of a text that
+    /// asks for nothing, `["admin",["insert",collection,doc]]` with the id as the document's field
+    /// `_id`, `["settle"]`, `["show",c]`, and for a single step `["up",c]`, `["recv",c]`,
+    /// `["handle",c]`, `["send",c]` and `["take",c]`.
+    pub fn read(alloc: Global, app: &App, line: &Value) -> Result<Event, LineFault>
+        ensures { GivesEvent result (event_in app.now (view line.now)) }
+    {
+        match event_in(alloc, app, line)? {
+            Some(happening) => Ok(Event { happening }),
+            None => Err(LineFault::NotAnEvent),
         }
-        None => Err(LineFault::NotAnEvent),
+    }
+
+    /// What happens.
+    pub(crate) fn happening(&self) -> &Happening
+        ensures { result.now ≡ self.now }
+    {
+        &self.happening
+    }
+
+    /// Tells a proof what every event keeps; it does nothing.
+    pub fn known(&self)
+        ensures { IsEvent self.now }
+    {
+        let _ = &self.happening;
     }
 }

@@ -6,17 +6,19 @@ mod connection;
 mod difference;
 mod event;
 mod fault;
+mod grammar;
+mod hearing;
 mod lines;
 mod queue;
 mod session;
 mod store;
+mod taking;
 mod world;
 
 pub use app::App;
-pub use event::read_event;
+pub use event::Event;
 pub use fault::{AppFault, LineFault};
 pub use world::World;
-pub use world_model::events::Event;
 
 #[cfg(test)]
 mod tests;

@@ -2,7 +2,7 @@
 ghost use Rattle.std.specs.Prelude.{◌≡◌, ◌++◌, ◌∷◌, [], ℕ, pos, length, map, codes, false, IfOk, OnOk, OnErr, option_map};
 ghost use Rattle.value_model.specs.Val.{text, int, list, vals_of};
 ghost use Rattle.ejson_value.specs.View.{view};
-ghost use Rattle.world_model.specs.Lines.{line, idle, idle_unless, refused, doc_line, state_word, sub_lines, show_lines, shown_to};
+ghost use Rattle.world_model.specs.Lines.{line, idle, idle_unless, refused, doc_line, state_words, sub_lines, show_lines, shown_to};
 ghost use Rattle.replay_core.specs.Text.{line_text};
 ghost use Rattle.replay_core.specs.Connections.{as_sub, client_of};
 
@@ -10,6 +10,7 @@ use crate::connection::{Connection, Sub};
 use ejson_codec::{Lines, text};
 use ejson_value::{Contents, Doc, Items, Key, Mem, Text, Value, Whole};
 use std::alloc::Global;
+use world_model::subs::SubState;
 
 // The word that says what a line is.
 fn worded(alloc: Global, word: &str) -> Result<Items, Mem>
@@ -71,14 +72,29 @@ fn push_sub(alloc: Global, lines: &mut Lines, sub: Option<&Sub>) -> Result<(), M
     };
     let mut items = worded(alloc, "sub")?;
     items.push(Value::Text(sub.id.copy()?))?;
-    items.push(Value::Text(state_word(alloc, sub.is_ready)?))?;
+    push_state(alloc, &mut items, &sub.state)?;
     push_line(alloc, lines, items)
 }
 
-fn state_word(alloc: Global, is_ready: bool) -> Result<Text, Mem>
-    ensures { IfOk result (λ word. word ≡ state_word is_ready) }
+fn push_word(alloc: Global, items: &mut Items, word: &str) -> Result<(), Mem>
+    ensures { OnOk result (items.new ≡ items.old ++ text word.now ∷ []) }
 {
-    Text::from_str(alloc, if is_ready { "ready" } else { "waiting" })
+    items.push(Value::Text(Text::from_str(alloc, word)?))
+}
+
+// The words for what became of a subscription.
+fn push_state(alloc: Global, items: &mut Items, state: &SubState) -> Result<(), Mem>
+    ensures { OnOk result (items.new ≡ items.old ++ state_words state.now) }
+{
+    match state {
+        SubState::Waiting => push_word(alloc, items, "waiting"),
+        SubState::Ready => push_word(alloc, items, "ready"),
+        SubState::Ended => push_word(alloc, items, "ended"),
+        SubState::Refused { code } => {
+            push_word(alloc, items, "refused")?;
+            items.push(Value::Text(code.copy()?))
+        }
+    }
 }
 
 /// What the client has: its documents by collection and id, then its subscription.

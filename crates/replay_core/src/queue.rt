@@ -59,6 +59,14 @@ impl<T: Drop> Queue<T> {
         drop(self.items.pop_front());
     }
 
+    /// Takes the first element out, if there is one.
+    pub(crate) fn take_first(&mut self) -> Option<T>
+        ensures first { result ≡ first_of self.old }
+        ensures rest { self.new ≡ rest_of self.old }
+    {
+        self.items.pop_front()
+    }
+
     /// Puts all of the other queue behind this one, or nothing.
     pub(crate) fn append(&mut self, mut other: Queue<T>) -> Result<(), Mem>
         ensures ok { OnOk result (self.new ≡ self.old ++ other) }

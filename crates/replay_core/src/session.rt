@@ -1,23 +1,30 @@
-//! A session: its journal, and the messages that it makes.
-ghost use Rattle.std.specs.Prelude.{◌≡◌, ◌&&◌, ◌++◌, ◌∷◌, [], ℕ, length, map, codes, decimal, nat_lt, IfOk, OnOk, OnErr, Option, Some, None, option_map, option_to_list};
+//! A session: its journal, and the texts that it makes.
+ghost use Rattle.std.specs.Prelude.{◌≡◌, ◌&&◌, ◌||◌, ◌++◌, ◌∷◌, [], ℕ, length, map, codes, decimal, false, nat_lt, IfOk, OnOk, OnErr, Option, Some, None, option_map, option_to_list};
+ghost use Rattle.ddp_messages.specs.ServerMessage as server;
 ghost use Rattle.session_model.specs.App.{App};
 ghost use Rattle.session_model.specs.History.{Entry};
-ghost use Rattle.session_model.specs.Journal.{live_of, live_after, shown};
-ghost use Rattle.session_model.specs.Out.{session_name, own_message};
+ghost use Rattle.session_model.specs.Texts.{server_text};
+ghost use Rattle.session_model.specs.Journal.{live_of, live_after, connected_after, is_connected, shown};
+ghost use Rattle.session_model.specs.Out.{session_name, ready_of};
 ghost use Rattle.world_model.specs.Client.{Client as AClient};
-ghost use Rattle.world_model.specs.Acts.{outbox_limit, journal_limit, with_item, loads, advances};
-ghost use Rattle.replay_core.specs.Sessions.{as_live, IsTrueTo, with_session, taken_in, Does};
+ghost use Rattle.world_model.specs.Acts.{outbox_limit, journal_limit, is_fail, has_failed, with_item, after_taking, loads, advances};
+ghost use Rattle.world_model.specs.TakenLaws.{IsQuietTaken};
+ghost use Rattle.session_model.specs.Answers.{taken_text};
+ghost use Rattle.replay_core.specs.Taking.{as_taken};
+ghost use Rattle.replay_core.specs.Sessions.{as_live, text_of_item, IsTrueTo, with_session, Does};
 ghost use Rattle.session_model.specs.declared.items.Item.TheVariants as item;
 
-use crate::difference::data_messages;
+use crate::difference::data_texts;
 use crate::queue::Queue;
 use crate::store::Store;
-use ejson_value::{Contents, Mem, Text};
+use crate::taking::{Taken, taken_from};
+use ddp_messages::FromServer;
+use ejson_value::{Contents, Mem, Names, Text};
 use session_model::items::Item;
-use session_model::messages::{FromClient, FromServer, Request};
+use session_model::requests::Request;
 use std::alloc::Global;
 
-/// How many messages an outbox holds.
+/// How many texts an outbox holds.
 const OUTBOX_LIMIT: usize = 4096;
 
 /// How many items a journal holds.
@@ -39,10 +46,13 @@ pub(crate) struct Session {
     pub(crate) number: u64,
     pub(crate) queue: Queue<Request>,
     pub(crate) journal: Vec<Item>,
+    /// Whether a `connect` was taken, and whether one of another version was.
+    pub(crate) is_connected: bool,
+    pub(crate) has_failed: bool,
     pub(crate) live: Option<Live>,
     /// What the live subscription shows.
     pub(crate) shown: Contents,
-    pub(crate) outbox: Queue<FromServer>,
+    pub(crate) outbox: Queue<Text>,
 }
 
 impl Live {
@@ -81,35 +91,127 @@ fn session_name(alloc: Global, number: u64) -> Result<Text, Mem>
     Ok(Text::from_string(format!(in alloc; "S{number}")?))
 }
 
-// The item's own message.
-fn own_message(
+fn copy_id(id: &Option<Text>) -> Result<Option<Text>, Mem>
+    ensures { IfOk result (λ copy. copy ≡ id.now) }
+{
+    match id {
+        Some(id) => Ok(Some(id.copy()?)),
+        None => Ok(None),
+    }
+}
+
+// The names of the one id.
+fn only(alloc: Global, id: &Text) -> Result<Names, Mem>
+    ensures { IfOk result (λ ids. ids ≡ id.now ∷ []) }
+{
+    let mut ids = Names::new(alloc);
+    ids.push(id.copy()?)?;
+    Ok(ids)
+}
+
+// The text of a `connected` of the session with this number.
+fn connected_text(alloc: Global, number: u64) -> Result<Text, Mem>
+    ensures { IfOk result (λ text. text ≡ server_text (server.connected (session_name number))) }
+{
+    let session = session_name(alloc, number)?;
+    FromServer::Connected { session }.text(alloc)
+}
+
+fn failed_text(alloc: Global, version: Text) -> Result<Text, Mem>
+    ensures { IfOk result (λ text. text ≡ server_text (server.failed version)) }
+{
+    FromServer::Failed { version }.text(alloc)
+}
+
+fn pong_text(alloc: Global, id: &Option<Text>) -> Result<Text, Mem>
+    ensures { IfOk result (λ text. text ≡ server_text (server.pong id.now)) }
+{
+    let id = copy_id(id)?;
+    FromServer::Pong { id }.text(alloc)
+}
+
+fn ready_text(alloc: Global, id: &Text) -> Result<Text, Mem>
+    ensures { IfOk result (λ text. text ≡ server_text (server.ready (id.now ∷ []))) }
+{
+    let subs = only(alloc, id)?;
+    FromServer::Ready { subs }.text(alloc)
+}
+
+// The text of the `ready` of the live subscription.
+fn live_text(alloc: Global, live: Option<&Live>) -> Result<Option<Text>, Mem>
+    ensures { IfOk result (λ t. option_to_list t ≡ map server_text (ready_of (option_map (λ l. as_live l.now) live.entry))) }
+{
+    match live {
+        Some(live) => Ok(Some(ready_text(alloc, &live.id)?)),
+        None => Ok(None),
+    }
+}
+
+// The text that refuses a version.
+fn fail_text(alloc: Global) -> Result<Text, Mem>
+    ensures { IfOk result (λ text. text ≡ server_text (server.failed (codes "1"))) }
+{
+    failed_text(alloc, Text::from_str(alloc, "1")?)
+}
+
+// The item's own text.
+#[tactic(auto, using(crate::proofs::Items::of_connect, crate::proofs::Items::of_fail, crate::proofs::Items::of_ping, crate::proofs::Items::of_bad, crate::proofs::Items::of_load, crate::proofs::Items::of_pong, crate::proofs::Items::of_open, crate::proofs::Items::of_advance))]
+fn own_text(
     alloc: Global,
     number: u64,
     live: Option<&Live>,
     item: &Item,
-) -> Result<Option<FromServer>, Mem>
-    ensures { IfOk result (λ m. option_to_list m ≡ own_message number (option_map (λ l. as_live l.now) live.entry) item.now) }
+) -> Result<Option<Text>, Mem>
+    ensures { IfOk result (λ t. option_to_list t ≡ text_of_item number (option_map (λ l. as_live l.now) live.entry) item.now) }
 {
     match item {
-        Item::Connect => Ok(Some(FromServer::Connected {
-            session: session_name(alloc, number)?,
-        })),
-        Item::Load { .. } => match live {
-            Some(live) => Ok(Some(FromServer::Ready {
-                id: live.id.copy()?,
-            })),
-            None => Ok(None),
-        },
-        Item::Open { .. } | Item::Advance { .. } => Ok(None),
+        Item::Connect => Ok(Some(connected_text(alloc, number)?)),
+        Item::Fail => Ok(Some(fail_text(alloc)?)),
+        Item::Ping { id } => Ok(Some(pong_text(alloc, id)?)),
+        Item::Bad { answer } => Ok(Some(answer.copy()?)),
+        Item::Load { .. } => live_text(alloc, live),
+        Item::Pong | Item::Open { .. } | Item::Advance { .. } => Ok(None),
     }
 }
 
-fn push_own(messages: &mut Queue<FromServer>, own: Option<FromServer>) -> Result<(), Mem>
-    ensures { OnOk result (messages.new ≡ messages.old ++ option_to_list own) }
+fn push_own(texts: &mut Queue<Text>, own: Option<Text>) -> Result<(), Mem>
+    ensures { OnOk result (texts.new ≡ texts.old ++ option_to_list own) }
 {
     match own {
-        Some(own) => messages.push(own),
+        Some(own) => texts.push(own),
         None => Ok(()),
+    }
+}
+
+// Whether the session is connected after the item.
+fn connected_after(connected: bool, item: &Item) -> bool
+    ensures { result ≡ connected_after connected item.now }
+{
+    match item {
+        Item::Connect => true,
+        Item::Fail
+        | Item::Ping { .. }
+        | Item::Pong
+        | Item::Bad { .. }
+        | Item::Open { .. }
+        | Item::Load { .. }
+        | Item::Advance { .. } => connected,
+    }
+}
+
+// Whether a version was refused, after the item.
+fn failed_after(failed: bool, item: &Item) -> bool
+    ensures { result ≡ (failed || is_fail item.now) }
+{
+    match item {
+        Item::Fail => true,
+        Item::Connect
+        | Item::Ping { .. }
+        | Item::Pong
+        | Item::Bad { .. }
+        | Item::Open { .. }
+        | Item::Load { .. }
+        | Item::Advance { .. } => failed,
     }
 }
 
@@ -118,6 +220,8 @@ impl Session {
         ensures number { result.number ≡ number }
         ensures queue { result.queue ≡ [] }
         ensures journal { result.journal.items ≡ [] }
+        ensures is_connected { result.is_connected ≡ false }
+        ensures has_failed { result.has_failed ≡ false }
         ensures live { result.live ≡ None }
         ensures shown { result.shown ≡ [] }
         ensures outbox { result.outbox ≡ [] }
@@ -126,6 +230,8 @@ impl Session {
             number,
             queue: Queue::new(alloc),
             journal: Vec::new(alloc),
+            is_connected: false,
+            has_failed: false,
             live: None,
             shown: Contents::new(alloc),
             outbox: Queue::new(alloc),
@@ -139,7 +245,7 @@ impl Session {
         self.outbox.len() < OUTBOX_LIMIT && self.journal.len() < JOURNAL_LIMIT
     }
 
-    // Adds the item to the journal, and its messages to the outbox. The live subscription and what
+    // Adds the item to the journal, and its texts to the outbox. The live subscription and what
     // it shows are those after the item.
     fn add(
         &mut self,
@@ -156,38 +262,48 @@ impl Session {
         ensures stands { IsTrueTo store.now self.new }
     {
         let alloc = store.allocator();
-        let mut messages = data_messages(alloc, &self.shown, &rows)?;
-        let own = own_message(alloc, self.number, self.live.as_ref(), &item)?;
-        push_own(&mut messages, own)?;
+        let mut texts = data_texts(alloc, &self.shown, &rows)?;
+        let own = own_text(alloc, self.number, self.live.as_ref(), &item)?;
+        push_own(&mut texts, own)?;
+        let is_connected = connected_after(self.is_connected, &item);
+        let has_failed = failed_after(self.has_failed, &item);
         self.journal.reserve(1)?;
-        self.outbox.append(messages)?;
+        self.outbox.append(texts)?;
         self.journal.push(item).unwrap();
+        self.is_connected = is_connected;
+        self.has_failed = has_failed;
         self.live = live;
         self.shown = rows;
         Ok(())
     }
 
-    /// Takes a message in: a `connect` is answered at once, and a `sub` waits in the queue.
-    pub(crate) fn take_in(&mut self, store: &Store, message: &FromClient) -> Result<(), Mem>
-        requires { IsTrueTo store.now self.old }
-        ensures taken { OnOk result ((c : AClient) → with_session c self.new ≡ taken_in store.now.app store.now.history (with_session c self.old) message.now) }
+    // Adds what comes of a text, which leaves the live subscription.
+    fn put_in(&mut self, store: &Store, taken: Taken) -> Result<(), Mem>
+        requires stands { IsTrueTo store.now self.old }
+        requires quiet { IsQuietTaken (as_taken taken) }
+        ensures taken { OnOk result ((c : AClient) → with_session c self.new ≡ after_taking store.now.app store.now.history (with_session c self.old) (as_taken taken)) }
         ensures same { OnErr result ((c : AClient) → with_session c self.new ≡ with_session c self.old) }
         ensures stands { IsTrueTo store.now self.new }
     {
-        match message {
-            FromClient::Connect => {
+        match taken {
+            Taken::AtOnce(item) => {
                 let live = copy_live(self.live.as_ref())?;
                 let rows = self.shown.copy()?;
-                self.add(store, Item::Connect, live, rows)
+                self.add(store, item, live, rows)
             }
-            FromClient::Sub { id, name } => {
-                let request = Request {
-                    id: id.copy()?,
-                    name: name.copy()?,
-                };
-                self.queue.push(request)
-            }
+            Taken::ToQueue(request) => self.queue.push(request),
         }
+    }
+
+    /// Takes a text in: most are answered at once, and a `sub` waits in the queue.
+    pub(crate) fn take_in(&mut self, store: &Store, text: &Text) -> Result<(), Mem>
+        requires { IsTrueTo store.now self.old }
+        ensures taken { OnOk result ((c : AClient) → with_session c self.new ≡ after_taking store.now.app store.now.history (with_session c self.old) (taken_text (is_connected self.old.journal.items) text.now)) }
+        ensures same { OnErr result ((c : AClient) → with_session c self.new ≡ with_session c self.old) }
+        ensures stands { IsTrueTo store.now self.new }
+    {
+        let taken = taken_from(store.allocator(), self.is_connected, text)?;
+        self.put_in(store, taken)
     }
 
     /// Opens the subscription that is asked for.

@@ -1,221 +1,270 @@
-//! One table for each public call. The expected lines follow from the rules of events, not from the program.
-use crate::{App, AppFault, Event, LineFault, World, read_event};
+//! Texts that a session takes, and what it sends for each. What is sent follows from the rules of sessions, not from the program.
+ghost use Rattle.std.specs.Prelude.{IfOk};
+ghost use Rattle.replay_core.specs.Store.{Stored};
+ghost use Rattle.replay_core.specs.Sessions.{IsTrueTo};
+
+use crate::app::App;
+use crate::connection::Connection;
+use crate::store::Store;
 use ejson_codec::parse;
-use ejson_value::{Text, Value};
+use ejson_value::Text;
 use std::alloc::Global;
 use std::test::Fail;
-use world_model::events::Act;
 
-const LINE: &str =
-    "{\"collections\":[\"tasks\"],\"methods\":{},\"publications\":{\"all\":[{\"collection\":\"tasks\"}]}}";
+const APP: &str = r#"{"collections":[],"methods":{},"publications":{}}"#;
 
-fn value(alloc: Global, text: &str) -> Result<Value, Fail> {
-    Ok(parse(alloc, &Text::from_str(alloc, text)?)?)
+const CONNECT: &str = r#"{"msg":"connect","version":"1","support":["1","pre2","pre1"]}"#;
+
+const PING: &str = r#"{"msg":"ping"}"#;
+
+const BAD: &str = r#"{"msg":"error","reason":"Bad request"}"#;
+
+const NOT_TAKEN: &str = "not taken";
+
+// A store with no documents.
+fn empty_store(alloc: Global) -> Result<Store, Fail> {
+    let app = App::read(alloc, &parse(alloc, &Text::from_str(alloc, APP)?)?)?;
+    Ok(Store::new(alloc, &app)?)
 }
 
-fn app(alloc: Global) -> Result<App, Fail> {
-    Ok(App::read(alloc, &value(alloc, LINE)?)?)
+// A client whose session is new.
+fn new_connection(alloc: Global) -> Result<Connection, Fail>
+    ensures { IfOk result (λ c. (store : Stored) → IsTrueTo store c.session) }
+{
+    let name = Text::from_str(alloc, "a")?;
+    Ok(Connection::new(alloc, &name)?)
 }
 
-// The lines that the event of this line prints, each with a line feed.
-fn printed(alloc: Global, app: &App, world: &mut World, line: &str) -> Result<String, Fail> {
-    let event = read_event(alloc, app, &value(alloc, line)?)?;
-    let lines = world.event(&event)?;
-    let mut text = String::new(alloc);
-    for line in lines.as_slice() {
-        text.push_str(line.as_str())?;
-        text.push('\n')?;
+// What the session sends for the text; an empty text stands for nothing.
+fn answer(connection: &mut Connection, store: &Store, text: &str) -> Result<Text, Fail>
+    requires { IsTrueTo store.now connection.old.session }
+    ensures { IsTrueTo store.now connection.new.session }
+{
+    let alloc = store.allocator();
+    connection.upward.push(Text::from_str(alloc, text)?)?;
+    if !connection.receive(store)? {
+        return Ok(Text::from_str(alloc, NOT_TAKEN)?);
     }
-    Ok(text)
+    match connection.session.outbox.take_first() {
+        Some(sent) => Ok(sent),
+        None => Ok(Text::new(alloc)),
+    }
 }
 
-#[test]
-fn applications(rt: HostRuntime) -> Result<(), Fail> {
-    let alloc = rt.alloc();
-    let app = app(alloc)?;
-    let name = Text::from_str(alloc, "all")?;
-    let tasks = Text::from_str(alloc, "tasks")?;
-    let copy = app.copy()?;
-    assert!(rt; copy.has_collection(&tasks));
-    assert!(rt; !copy.has_collection(&name));
-    assert_eq!(rt; copy.publication(&name).map(|c| c.as_str()), Some("tasks"));
-    for bad in [
-        "{}",
-        "[]",
-        "{\"collections\":[\"a\",\"a\"],\"methods\":{},\"publications\":{}}",
-        "{\"collections\":[\"\"],\"methods\":{},\"publications\":{}}",
-        "{\"collections\":[\"a\"],\"methods\":{\"m\":{}},\"publications\":{}}",
-        "{\"collections\":[\"a\"],\"methods\":{},\"publications\":{\"p\":[{\"collection\":\"b\"}]}}",
-        "{\"collections\":[\"a\"],\"methods\":{},\"publications\":{\"p\":[]}}",
-        "{\"collections\":[\"a\"],\"methods\":{},\"publications\":{},\"more\":0}",
-    ] {
-        assert_eq!(rt;
-            App::read(alloc, &value(alloc, bad)?).err(),
-            Some(AppFault::Bad),
-            "{bad}"
-        );
-    }
-    Ok(())
-}
-
-#[test]
-fn events(rt: HostRuntime) -> Result<(), Fail> {
-    let alloc = rt.alloc();
-    let app = app(alloc)?;
-    for good in [
-        "[\"client\",\"a\"]",
-        "[\"sub\",\"a\",\"1\",\"all\"]",
-        "[\"sub\",\"a\",\"1\",\"all\",[]]",
-        "[\"admin\",[\"insert\",\"none\",{\"_id\":\"t1\"}]]",
-        "[\"settle\"]",
-        "[\"show\",\"\"]",
-        "[\"up\",\"a\"]",
-        "[\"recv\",\"a\"]",
-        "[\"handle\",\"a\"]",
-        "[\"send\",\"a\"]",
-        "[\"take\",\"a\"]",
-    ] {
-        assert!(rt;
-            read_event(alloc, &app, &value(alloc, good)?).is_ok(),
-            "{good}"
-        );
-    }
-    for bad in [
-        "{}",
-        "[]",
-        "[\"client\"]",
-        "[\"client\",1]",
-        "[\"sub\",\"a\",\"1\",\"none\"]",
-        "[\"sub\",\"a\",\"1\",\"all\",[1]]",
-        "[\"admin\",[\"insert\",\"tasks\",{\"n\":1}]]",
-        "[\"admin\",[\"insert\",\"tasks\",{\"_id\":\"\"}]]",
-        "[\"admin\",[\"remove\",\"tasks\",{}]]",
-        "[\"settle\",1]",
-        "[\"up\"]",
-        "[\"load\",\"a\",\"1\"]",
-    ] {
-        let answer = read_event(alloc, &app, &value(alloc, bad)?).err();
-        assert_eq!(rt; answer, Some(LineFault::NotAnEvent), "{bad}");
-    }
-    Ok(())
-}
-
-// The first of these lines, run in a new world, that doesn't print what stands beside it.
-fn first_wrong(alloc: Global, rows: &[(&'static str, &str)]) -> Result<Option<&'static str>, Fail> {
-    let app = app(alloc)?;
-    let mut world = World::new(alloc, &app)?;
-    for (line, lines) in rows {
-        if printed(alloc, &app, &mut world, line)?.as_str() != *lines {
-            return Ok(Some(*line));
+// The first of these texts that the session doesn't answer by what stands beside it.
+fn first_wrong(
+    connection: &mut Connection,
+    store: &Store,
+    rows: &[(&'static str, &str)],
+) -> Result<Option<&'static str>, Fail>
+    requires { IsTrueTo store.now connection.old.session }
+    ensures { IsTrueTo store.now connection.new.session }
+{
+    for (text, sent) in rows {
+        if answer(connection, store, text)?.as_str() != *sent {
+            return Ok(Some(*text));
         }
     }
     Ok(None)
 }
 
-const INSERTS: [(&str, &str); 4] = [
-    (
-        "[\"admin\",[\"insert\",\"tasks\",{\"_id\":\"t1\",\"n\":1}]]",
-        "",
-    ),
-    (
-        "[\"admin\",[\"insert\",\"tasks\",{\"_id\":\"t1\",\"n\":1}]]",
-        "[\"refused\",409]\n",
-    ),
-    (
-        "[\"admin\",[\"insert\",\"notes\",{\"_id\":\"t1\"}]]",
-        "[\"refused\",404]\n",
-    ),
-    ("[\"show\",\"a\"]", "[\"idle\"]\n"),
-];
+// The part so often, between two other texts.
+fn repeated(
+    alloc: Global,
+    before: &str,
+    part: &str,
+    times: u32,
+    after: &str,
+) -> Result<String, Fail> {
+    let mut text = String::from_str(alloc, before)?;
+    for _ in 0..times {
+        text.push_str(part)?;
+    }
+    text.push_str(after)?;
+    Ok(text)
+}
 
-const CLIENTS: [(&str, &str); 9] = [
-    ("[\"sub\",\"a\",\"1\",\"all\"]", "[\"idle\"]\n"),
-    ("[\"client\",\"a\"]", ""),
-    ("[\"client\",\"b\"]", "[\"idle\"]\n"),
-    ("[\"sub\",\"a\",\"1\",\"all\"]", "[\"idle\"]\n"),
-    ("[\"settle\"]", ""),
-    ("[\"show\",\"a\"]", "[\"show\",\"a\"]\n"),
-    ("[\"sub\",\"b\",\"1\",\"all\"]", "[\"idle\"]\n"),
-    ("[\"sub\",\"a\",\"1\",\"all\",[]]", ""),
-    ("[\"sub\",\"a\",\"2\",\"all\"]", "[\"idle\"]\n"),
-];
-
-const DOCUMENTS: [(&str, &str); 10] = [
+const TEXTS: [(&str, &str); 13] = [
+    ("nope", r#"{"msg":"error","reason":"Parse error"}"#),
     (
-        "[\"admin\",[\"insert\",\"tasks\",{\"_id\":\"t1\",\"n\":1}]]",
-        "",
+        r#"{"x":1}"#,
+        r#"{"msg":"error","offendingMessage":{"x":1},"reason":"Bad request"}"#,
     ),
-    ("[\"client\",\"a\"]", ""),
-    ("[\"settle\"]", ""),
-    ("[\"sub\",\"a\",\"1\",\"all\"]", ""),
     (
-        "[\"show\",\"a\"]",
-        "[\"show\",\"a\"]\n[\"sub\",\"1\",\"waiting\"]\n",
+        PING,
+        r#"{"msg":"error","offendingMessage":{"msg":"ping"},"reason":"Must connect first"}"#,
     ),
-    ("[\"settle\"]", ""),
+    (CONNECT, r#"{"msg":"connected","session":"S1"}"#),
     (
-        "[\"show\",\"a\"]",
-        "[\"show\",\"a\"]\n[\"doc\",\"tasks\",\"t1\",{\"n\":1}]\n[\"sub\",\"1\",\"ready\"]\n",
+        r#"{"msg":"connect","version":"1"}"#,
+        r#"{"msg":"error","offendingMessage":{"msg":"connect","version":"1"},"reason":"Already connected"}"#,
     ),
-    ("[\"admin\",[\"insert\",\"tasks\",{\"_id\":\"t0\"}]]", ""),
-    ("[\"settle\"]", ""),
+    (PING, r#"{"msg":"pong"}"#),
+    (r#"{"msg":"ping","id":"7"}"#, r#"{"id":"7","msg":"pong"}"#),
+    (r#"{"msg":"pong"}"#, ""),
     (
-        "[\"show\",\"a\"]",
-        "[\"show\",\"a\"]\n[\"doc\",\"tasks\",\"t0\",{}]\n[\"doc\",\"tasks\",\"t1\",{\"n\":1}]\n[\"sub\",\"1\",\"ready\"]\n",
+        r#"{"msg":"method","method":"m"}"#,
+        r#"{"msg":"error","offendingMessage":{"method":"m","msg":"method"},"reason":"Bad request"}"#,
     ),
-];
-
-const STEPS: [(&str, &str); 10] = [
-    ("[\"up\",\"a\"]", "[\"idle\"]\n"),
-    ("[\"client\",\"a\"]", ""),
-    ("[\"recv\",\"a\"]", "[\"idle\"]\n"),
-    ("[\"up\",\"b\"]", "[\"idle\"]\n"),
-    ("[\"up\",\"a\"]", ""),
-    ("[\"recv\",\"a\"]", ""),
-    ("[\"handle\",\"a\"]", "[\"idle\"]\n"),
-    ("[\"send\",\"a\"]", ""),
-    ("[\"take\",\"a\"]", ""),
-    ("[\"sub\",\"a\",\"1\",\"all\"]", ""),
+    (
+        r#"{"msg":"nothing"}"#,
+        r#"{"msg":"error","offendingMessage":{"msg":"nothing"},"reason":"Bad request"}"#,
+    ),
+    ("[1]", BAD),
+    // A value that isn't EJSON isn't shown.
+    (r#"{"msg":"ping","id":{"$date":"x"}}"#, BAD),
+    (PING, r#"{"msg":"pong"}"#),
 ];
 
 #[test]
-fn inserts(rt: HostRuntime) -> Result<(), Fail> {
-    assert_eq!(rt; first_wrong(rt.alloc(), &INSERTS)?, None);
-    Ok(())
-}
-
-#[test]
-fn clients(rt: HostRuntime) -> Result<(), Fail> {
-    assert_eq!(rt; first_wrong(rt.alloc(), &CLIENTS)?, None);
-    Ok(())
-}
-
-#[test]
-fn documents(rt: HostRuntime) -> Result<(), Fail> {
-    assert_eq!(rt; first_wrong(rt.alloc(), &DOCUMENTS)?, None);
-    Ok(())
-}
-
-#[test]
-fn steps(rt: HostRuntime) -> Result<(), Fail> {
-    assert_eq!(rt; first_wrong(rt.alloc(), &STEPS)?, None);
-    Ok(())
-}
-
-#[test]
-fn settled_worlds(rt: HostRuntime) -> Result<(), Fail> {
+fn texts_are_answered(rt: HostRuntime) -> Result<(), Fail> {
     let alloc = rt.alloc();
-    let mut world = World::new(alloc, &app(alloc)?)?;
-    world.event(&Event::Client {
-        name: Text::from_str(alloc, "a")?,
-    })?;
-    world.settle()?;
-    world.known();
-    let lines = world.event(&Event::Do {
-        client: Text::from_str(alloc, "a")?,
-        act: Act::Take,
-    })?;
-    assert_eq!(rt; lines.len(), 1);
-    assert_eq!(rt; lines.get(0).map(|line| line.as_str()), Some("[\"idle\"]"));
+    let store = empty_store(alloc)?;
+    let mut connection = new_connection(alloc)?;
+    assert_eq!(rt; first_wrong(&mut connection, &store, &TEXTS)?, None);
+    Ok(())
+}
+
+const ANOTHER_VERSION: [(&str, &str); 2] = [
+    (
+        r#"{"msg":"connect","version":"2"}"#,
+        r#"{"msg":"failed","version":"1"}"#,
+    ),
+    (PING, NOT_TAKEN),
+];
+
+#[test]
+fn another_version_is_refused(rt: HostRuntime) -> Result<(), Fail> {
+    let alloc = rt.alloc();
+    let store = empty_store(alloc)?;
+    let mut connection = new_connection(alloc)?;
+    assert_eq!(rt;
+        first_wrong(&mut connection, &store, &ANOTHER_VERSION)?,
+        None
+    );
+    Ok(())
+}
+
+// What a session that is connected sends for the text.
+fn answer_connected(alloc: Global, text: &str) -> Result<Text, Fail> {
+    let store = empty_store(alloc)?;
+    let mut connection = new_connection(alloc)?;
+    drop(answer(&mut connection, &store, CONNECT)?);
+    answer(&mut connection, &store, text)
+}
+
+#[test]
+fn ids_are_limited(rt: HostRuntime) -> Result<(), Fail> {
+    let alloc = rt.alloc();
+    let before = r#"{"msg":"sub","id":""#;
+    let text = repeated(alloc, before, "x", 256, r#"","name":"p"}"#)?;
+    assert_eq!(rt; answer_connected(alloc, text.as_str())?.as_str(), "");
+    let text = repeated(alloc, before, "x", 257, r#"","name":"p"}"#)?;
+    let sent = repeated(
+        alloc,
+        r#"{"msg":"error","offendingMessage":{"id":""#,
+        "x",
+        257,
+        r#"","msg":"sub","name":"p"},"reason":"Bad request"}"#,
+    )?;
+    assert_eq!(rt;
+        answer_connected(alloc, text.as_str())?.as_str(),
+        sent.as_str()
+    );
+    Ok(())
+}
+
+#[test]
+fn lengths_are_limited(rt: HostRuntime) -> Result<(), Fail> {
+    let alloc = rt.alloc();
+    let text = repeated(alloc, "", " ", 2_097_138, PING)?;
+    assert_eq!(rt; text.len(), 2_097_152);
+    assert_eq!(rt;
+        answer_connected(alloc, text.as_str())?.as_str(),
+        r#"{"msg":"pong"}"#
+    );
+    let text = repeated(alloc, "", " ", 2_097_139, PING)?;
+    assert_eq!(rt; answer_connected(alloc, text.as_str())?.as_str(), BAD);
+    Ok(())
+}
+
+#[test]
+fn levels_are_limited(rt: HostRuntime) -> Result<(), Fail> {
+    let alloc = rt.alloc();
+    let begun = repeated(alloc, "", "[", 128, "")?;
+    let text = repeated(alloc, begun.as_str(), "]", 128, "")?;
+    assert_eq!(rt;
+        answer_connected(alloc, text.as_str())?.as_str(),
+        r#"{"msg":"error","reason":"Parse error"}"#
+    );
+    Ok(())
+}
+
+// The number of the refusal that breaks a new client which takes these texts, one after another.
+fn broken_by(alloc: Global, texts: &[&str]) -> Result<Option<u64>, Fail> {
+    let name = Text::from_str(alloc, "a")?;
+    let mut connection = Connection::new(alloc, &name)?;
+    for text in texts {
+        connection
+            .client
+            .hear(alloc, &Text::from_str(alloc, text)?)?;
+    }
+    Ok(connection.client.broken)
+}
+
+const CONNECTED: &str = r#"{"msg":"connected","session":"S1"}"#;
+
+const ADDED: &str = r#"{"collection":"tasks","fields":{"n":1},"id":"t1","msg":"added"}"#;
+
+const REMOVED: &str = r#"{"collection":"tasks","id":"t1","msg":"removed"}"#;
+
+const CHANGED: &str =
+    r#"{"cleared":["n"],"collection":"tasks","fields":{"n":2},"id":"t1","msg":"changed"}"#;
+
+const RESULT: &str = r#"{"id":"1","msg":"result","result":null}"#;
+
+const READY: &str = r#"{"msg":"ready","subs":["1"]}"#;
+
+const REFUSALS: [(Option<u64>, &[&str]); 20] = [
+    (Some(1), &["nope"]),
+    (Some(1), &["[1]"]),
+    (Some(2), &[r#"{"msg":"connected"}"#]),
+    (Some(2), &[CONNECTED, r#"{"msg":"ready","subs":"1"}"#]),
+    (Some(3), &[READY]),
+    (Some(3), &[ADDED]),
+    (Some(3), &[RESULT]),
+    (Some(3), &[r#"{"id":"1","msg":"nosub"}"#]),
+    (
+        None,
+        &[
+            r#"{"msg":"ping"}"#,
+            r#"{"msg":"pong"}"#,
+            r#"{"msg":"error","reason":"x"}"#,
+        ],
+    ),
+    (None, &[r#"{"server_id":"0"}"#, r#"{"msg":"movedBefore"}"#]),
+    (Some(4), &[CONNECTED, CONNECTED]),
+    (Some(4), &[CONNECTED, r#"{"msg":"failed","version":"1"}"#]),
+    (Some(5), &[CONNECTED, ADDED, ADDED]),
+    (Some(6), &[CONNECTED, CHANGED]),
+    (Some(7), &[CONNECTED, REMOVED]),
+    (None, &[CONNECTED, ADDED, CHANGED, REMOVED, ADDED]),
+    (Some(7), &[CONNECTED, ADDED, REMOVED, REMOVED]),
+    (Some(8), &[CONNECTED, RESULT]),
+    (
+        Some(9),
+        &[CONNECTED, r#"{"methods":["1"],"msg":"updated"}"#],
+    ),
+    (
+        None,
+        &[CONNECTED, READY, r#"{"methods":[],"msg":"updated"}"#],
+    ),
+];
+
+#[test]
+fn texts_are_refused(rt: HostRuntime) -> Result<(), Fail> {
+    for (number, texts) in REFUSALS {
+        assert_eq!(rt; broken_by(rt.alloc(), texts)?, number);
+    }
     Ok(())
 }

@@ -1,11 +1,13 @@
 //! A world: one store, one server and its client.
-ghost use Rattle.std.specs.Prelude.{◌≡◌, ◌+◌, ◌<◌, [], true, length, map, IfOk, OnOk, OnErr, is_none, option_map};
+ghost use Rattle.std.specs.Prelude.{◌≡◌, ◌+◌, ◌<◌, [], false, true, length, map, IfOk, OnOk, OnErr, is_none, option_map};
 ghost use Rattle.std.specs.Bool.{OnFalse};
-ghost use Rattle.session_model.specs.History.{contents};
+ghost use Rattle.ddp_messages.specs.Answers.{client_answer};
+ghost use Rattle.ddp_messages.specs.Limits.{IsShort};
+ghost use Rattle.session_model.specs.History.{contents, IsStored};
 ghost use Rattle.world_model.specs.Acts.{acts, journal_limit};
 ghost use Rattle.world_model.specs.World.{start, done, can, after_act, can_by};
 ghost use Rattle.world_model.specs.Settle.{times_of, times, many, round, is_stuck, settled};
-ghost use Rattle.world_model.specs.Run.{after_client, after_sub, can_subscribe, subscribes, after_named, can_named, is_called, inserted, step, Reachable, HoldsOf, IsAtRest, IsQuiescent, IsTrueWorld};
+ghost use Rattle.world_model.specs.Run.{after_client, after_sub, sub_text, can_subscribe, subscribes, can_send, after_raw, asks_in, after_named, can_named, is_called, inserted, step, made, IsEvent, Reachable, HoldsOf, IsAtRest, IsSettled, IsTrueWorld};
 ghost use Rattle.world_model.specs.Lines.{subscribed, refusal, shown_to, lines_of};
 ghost use Rattle.replay_core.specs.Store.{Stored};
 ghost use Rattle.replay_core.specs.Sessions.{IsTrueTo, Does};
@@ -16,14 +18,16 @@ ghost use Rattle.replay_core.specs.Text.{line_text};
 
 use crate::app::App;
 use crate::connection::{Connection, Sub};
+use crate::event::Event;
 use crate::lines::{idle_unless, refused, show};
 use crate::store::Store;
+use ddp_messages::FromClient;
 use ejson_codec::Lines;
-use ejson_value::{Doc, Key, Mem, Text};
-use session_model::messages::FromClient;
+use ejson_value::{Doc, Items, Key, Mem, Text};
 use std::alloc::Global;
 use std::marker::Model;
-use world_model::events::{Act, Event};
+use world_model::events::{Act, Event as Happening};
+use world_model::subs::SubState;
 
 /// A world. A contract sees its application, the history of its store and its client.
 #[derive(Debug, Drop)]
@@ -71,11 +75,25 @@ fn can_subscribe(connection: &Connection, app: &App, who: &Text, name: &Text) ->
 {
     connection.client.name.as_str() == who.as_str()
         && connection.client.session.is_some()
+        && connection.client.broken.is_none()
         && connection.client.sub.is_none()
         && app.publication(name).is_some()
 }
 
+// The text of a `sub` without parameters.
+fn sub_text(alloc: Global, id: &Text, name: &Text) -> Result<Text, Mem>
+    ensures { IfOk result (λ text. text ≡ sub_text id.now name.now) }
+{
+    let sub = FromClient::Sub {
+        id: id.copy()?,
+        name: name.copy()?,
+        params: Items::new(alloc),
+    };
+    sub.text(alloc)
+}
+
 fn subscribe_one(
+    alloc: Global,
     connection: &mut Connection,
     app: &App,
     who: &Text,
@@ -89,22 +107,19 @@ fn subscribe_one(
     if !can_subscribe(connection, app, who, name) {
         return Ok(false);
     }
+    let text = sub_text(alloc, id, name)?;
     let sub = Sub {
         id: id.copy()?,
-        is_ready: false,
+        state: SubState::Waiting,
     };
-    let id = id.copy()?;
-    let name = name.copy()?;
-    connection
-        .client
-        .waiting
-        .push(FromClient::Sub { id, name })?;
+    connection.client.waiting.push(text)?;
     connection.client.sub = Some(sub);
     Ok(true)
 }
 
 // The client subscribes, if it can. Whether it did.
 fn subscribe(
+    alloc: Global,
     connection: &mut Option<Connection>,
     app: &App,
     who: &Text,
@@ -118,8 +133,29 @@ fn subscribe(
 {
     match connection {
         Some(connection) => {
-            let done = subscribe_one(connection, app, who, id, name)?;
+            let done = subscribe_one(alloc, connection, app, who, id, name)?;
             Ok(done)
+        }
+        None => Ok(false),
+    }
+}
+
+// The client sends a text, if it isn't broken. Whether it did.
+fn send_raw(connection: &mut Option<Connection>, who: &Text, text: &Text) -> Result<bool, Mem>
+    ensures done { IfOk result (λ done. done ≡ can_send who.now (option_map client_of connection.old)) }
+    ensures ok { OnOk result (option_map client_of connection.new ≡ after_raw who.now text.now (option_map client_of connection.old)) }
+    ensures err { OnErr result (option_map client_of connection.new ≡ option_map client_of connection.old) }
+    ensures stands { (store : Stored) → Stands store connection.old → Stands store connection.new }
+{
+    match connection {
+        Some(connection) => {
+            if connection.client.name.as_str() != who.as_str()
+                || connection.client.broken.is_some()
+            {
+                return Ok(false);
+            }
+            connection.client.waiting.push(text.copy()?)?;
+            Ok(true)
         }
         None => Ok(false),
     }
@@ -139,7 +175,7 @@ fn act(connection: &mut Connection, store: &Store, act: Act) -> Result<bool, Mem
         Act::Load => connection.load(store),
         Act::Advance => connection.advance(store),
         Act::Send => connection.send(),
-        Act::Take => connection.take(),
+        Act::Take => connection.take(store.allocator()),
     }
 }
 
@@ -199,17 +235,31 @@ impl World {
 
     // The client subscribes.
     fn sub(&mut self, who: &Text, id: &Text, name: &Text) -> Result<bool, Mem>
+        requires { IsShort id.now }
         ensures done { IfOk result (λ done. done ≡ subscribed self.old.app self.old.client who.now name.now) }
         ensures ok { OnOk result (self.new ≡ record self.old { client = after_sub self.old.app who.now id.now name.now self.old.client }) }
         ensures err { OnErr result (self.new ≡ self.old) }
         ensures idle { IfOk result (λ done. OnFalse done (self.new ≡ self.old)) }
     {
-        let done = subscribe(&mut self.connection, self.store.app(), who, id, name)?;
+        let alloc = self.store.allocator();
+        let done = subscribe(alloc, &mut self.connection, self.store.app(), who, id, name)?;
+        Ok(done)
+    }
+
+    // The client sends a text.
+    fn raw(&mut self, who: &Text, text: &Text) -> Result<bool, Mem>
+        requires { asks_in (client_answer text.now) ≡ false }
+        ensures done { IfOk result (λ done. done ≡ can_send who.now self.old.client) }
+        ensures ok { OnOk result (self.new ≡ record self.old { client = after_raw who.now text.now self.old.client }) }
+        ensures err { OnErr result (self.new ≡ self.old) }
+    {
+        let done = send_raw(&mut self.connection, who, text)?;
         Ok(done)
     }
 
     // A document is inserted from outside. What is printed.
     fn insert(&mut self, key: &Key, doc: &Doc) -> Result<Lines, Mem>
+        requires { IsStored key.now doc.now }
         ensures ok { OnOk result (self.new ≡ record self.old { history = inserted self.old.app self.old.history (record { key = key.now; doc = doc.now }) }) }
         ensures lines { IfOk result (λ lines. lines ≡ map line_text (refusal self.old.app (contents self.old.history) key.now)) }
         ensures err { OnErr result (self.new ≡ self.old) }
@@ -221,7 +271,6 @@ impl World {
         if self.store.get(key).is_some() {
             return refused(alloc, 409);
         }
-        doc.known();
         self.store.insert(key, doc)?;
         Ok(Lines::new(alloc))
     }
@@ -304,6 +353,7 @@ impl World {
         ensures settled { OnOk result (self.new ≡ settled self.old) }
         ensures steps { StepsLead self.old self.new }
     {
+        self.reached();
         for _ in 0..u64::MAX {
             let made = self.round()?;
             if !made {
@@ -318,7 +368,7 @@ impl World {
         ensures settled { OnOk result (self.new ≡ settled self.old) }
         ensures stuck { OnOk result (is_stuck self.new ≡ true) }
         ensures at_rest { OnOk result (HoldsOf self.new.client (IsAtRest self.new.history)) }
-        ensures quiescent { OnOk result (3 + length self.old.history < journal_limit → HoldsOf self.new.client (IsQuiescent self.new.history)) }
+        ensures quiescent { OnOk result (1 + made self.old < journal_limit → HoldsOf self.new.client (IsSettled self.new.history)) }
         ensures steps { StepsLead self.old self.new }
         ensures true_world { IsTrueWorld self.new }
     {
@@ -341,31 +391,36 @@ impl World {
         }
     }
 
-    fn apply(&mut self, event: &Event) -> Result<Lines, Mem>
+    fn apply(&mut self, event: &Happening) -> Result<Lines, Mem>
+        requires { IsEvent event.now }
         ensures step { OnOk result (self.new ≡ step self.old event.now) }
         ensures lines { IfOk result (λ lines. lines ≡ map line_text (lines_of self.old event.now)) }
         ensures err { OnErr result (IsLeft event.now self.old self.new) }
     {
         let alloc = self.store.allocator();
         match event {
-            Event::Client { name } => {
+            Happening::Client { name } => {
                 let done = self.client(name)?;
                 idle_unless(alloc, done)
             }
-            Event::Sub { client, id, name } => {
+            Happening::Sub { client, id, name } => {
                 let done = self.sub(client, id, name)?;
                 idle_unless(alloc, done)
             }
-            Event::Insert { key, doc } => self.insert(key, doc),
-            Event::Do { client, act } => {
+            Happening::Raw { client, text } => {
+                let done = self.raw(client, text)?;
+                idle_unless(alloc, done)
+            }
+            Happening::Insert { key, doc } => self.insert(key, doc),
+            Happening::Do { client, act } => {
                 let done = self.make_for(client, *act)?;
                 idle_unless(alloc, done)
             }
-            Event::Settle => {
+            Happening::Settle => {
                 self.settle_all()?;
                 Ok(Lines::new(alloc))
             }
-            Event::Show { client } => self.show(client),
+            Happening::Show { client } => self.show(client),
         }
     }
 
@@ -377,7 +432,8 @@ impl World {
         ensures err { OnErr result (IsLeft event.now self.old self.new) }
         ensures true_world { IsTrueWorld self.new }
     {
-        let answer = self.apply(event);
+        event.known();
+        let answer = self.apply(event.happening());
         self.known();
         answer
     }

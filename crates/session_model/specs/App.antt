@@ -1,5 +1,5 @@
 -- An application: the collections of its store, and its publications by name (Meteor's guide, "Publications and data loading").
-use Rattle.std.specs.Prelude.{ℕ, List, Bool, Option, Contains}
+use Rattle.std.specs.Prelude.{ℕ, List, Bool, Option}
 use Rattle.std.specs.List.{list_any}
 use Rattle.map_model.specs.Maps.{at}
 use Rattle.value_model.specs.Order.{text_cmp}

@@ -1,8 +1,9 @@
 -- The history of the store: what was inserted, oldest first. The store is the fold of its history.
-use Rattle.std.specs.Prelude.{◌≡◌, ℕ, List, [], ◌∷◌, Some, None, Bool, ◌&&◌, is_none, take, IsTrue}
-use Rattle.map_model.specs.Maps.{at, set, IsSorted}
-use Rattle.value_model.specs.Order.{text_cmp}
-use Rattle.value_model.specs.Val.{Entries}
+use Rattle.std.specs.Prelude.{ℕ, ◌<◌, length, List, [], ◌∷◌, Some, Bool, ◌&&◌, is_none, take, IsTrue}
+use Rattle.map_model.specs.Maps.{at, set}
+use Rattle.value_model.specs.Val.{Entries, object, fields_of}
+use Rattle.value_model.specs.Valid.{IsDocument}
+use Rattle.ddp_messages.specs.Limits.{IsShallow}
 use Rattle.ejson_value.specs.declared.key.Key.{Key}
 use Rattle.ejson_value.specs.Key.{key_cmp}
 use Rattle.ejson_value.specs.Rows.{Rows}
@@ -41,7 +42,10 @@ IsLegalFrom app rows (entry ∷ entries) = IsTrue (can_insert app rows entry) ×
 abbrev pub IsLegal : App → List Entry → Type 0
 IsLegal app history = IsLegalFrom app [] history
 
--- the documents of the history are documents: their names rise
+-- what every document of the store keeps: its key has an id, its names rise, its values are the program's, and it has at most 32 levels
+abbrev pub IsStored : Key → Entries → Type 0
+IsStored key doc = (0 < length key.id) × IsDocument doc × IsShallow (object (fields_of doc))
+
 abbrev pub AreEntries : List Entry → Type 0
 AreEntries [] = Unit {0}
-AreEntries (entry ∷ entries) = IsSorted text_cmp entry.doc × AreEntries entries
+AreEntries (entry ∷ entries) = IsStored entry.key entry.doc × AreEntries entries

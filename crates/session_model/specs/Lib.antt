@@ -1,7 +1,10 @@
 pub mod App
 pub mod History
 pub mod Publication
+pub mod Texts
+pub mod Answers
 pub mod Journal
 pub mod Out
 pub mod HistoryLaws
 pub mod OutLaws
+pub mod HeardLaws

@@ -1,4 +1,4 @@
--- The messages of a session, by looking back over its journal and the store's history: with each item the difference of what is shown before
+-- The messages of a session, and their texts, by looking back over its journal and the store's history: with each item the difference of what is shown before
 -- and after it, and then the item's own message (Meteor's DDP.md, "Managing data").
 use Rattle.std.specs.Prelude.{ℕ, List, [], ◌∷◌, ◌++◌, map, Option, Some, None, decimal, codes}
 use Rattle.map_model.specs.Differences.{Step, added, changed, removed, diff}
@@ -11,12 +11,13 @@ use Rattle.ejson_value.specs.Rows.{Rows}
 use Rattle.ejson_value.specs.declared.message.DataMsg.{DataMsg}
 use Rattle.ejson_value.specs.declared.message.DataMsg.TheVariants as message
 use Rattle.ejson_value.specs.Messages.{said}
-use Rattle.session_model.specs.declared.messages.FromServer.{FromServer}
-use Rattle.session_model.specs.declared.messages.FromServer.TheVariants as server
+use Rattle.ddp_messages.specs.ServerMessage.{ServerMessage}
+use Rattle.ddp_messages.specs.ServerMessage as server
 use Rattle.session_model.specs.declared.items.Item.{Item}
 use Rattle.session_model.specs.declared.items.Item.TheVariants as item
 use Rattle.session_model.specs.App.{App}
 use Rattle.session_model.specs.History.{Entry}
+use Rattle.session_model.specs.Texts.{server_text, message_in}
 use Rattle.session_model.specs.Journal.{Live, live_after, shown}
 
 -- the name of the session with this number
@@ -29,45 +30,100 @@ message_of (key, added fields) = message.Added key fields
 message_of (key, changed fields cleared) = message.Changed key fields cleared
 message_of (key, removed) = message.Removed key
 
--- the messages that lead from the one rows to the other, by key
-abbrev pub difference : Rows → Rows → List DataMsg
-difference old new = map message_of (diff text_cmp (eq_by_cmp compare) key_cmp old new)
+abbrev pub about : Key × Step (List ℕ) Val → ServerMessage
+about m = server.about (message_of m)
 
-abbrev pub ready_of : Option Live → List FromServer
+-- the messages that lead from these documents to those, by key
+abbrev pub difference : Rows → Rows → List (Key × Step (List ℕ) Val)
+difference before after = diff text_cmp (eq_by_cmp compare) key_cmp before after
+
+abbrev pub ready_of : Option Live → List ServerMessage
 ready_of None = []
-ready_of (Some live) = server.Ready live.id ∷ []
+ready_of (Some live) = server.ready (live.id ∷ []) ∷ []
 
--- the item's own message
-abbrev pub own_message : ℕ → Option Live → Item → List FromServer
-own_message number live item.Connect = server.Connected (session_name number) ∷ []
+-- what the item says itself
+abbrev pub own_message : ℕ → Option Live → Item → List ServerMessage
+own_message number live item.Connect = server.connected (session_name number) ∷ []
+own_message number live item.Fail = server.failed (codes "1") ∷ []
+own_message number live (item.Ping id) = server.pong id ∷ []
+own_message number live item.Pong = []
+own_message number live (item.Bad answer) = message_in answer ∷ []
 own_message number live (item.Open sub id name) = []
 own_message number live (item.Load sub at) = ready_of live
 own_message number live (item.Advance sub count) = []
 
--- the messages of one more item
-abbrev pub messages_of : App → ℕ → List Entry → Option Live → Item → List FromServer
-messages_of app number history live i =
-    map server.Data (difference (shown app history live) (shown app history (live_after live i))) ++ own_message number live i
+-- its text
+abbrev pub own_text : ℕ → Option Live → Item → List (List ℕ)
+own_text number live item.Connect = map server_text (own_message number live item.Connect)
+own_text number live item.Fail = map server_text (own_message number live item.Fail)
+own_text number live (item.Ping id) = map server_text (own_message number live (item.Ping id))
+own_text number live item.Pong = []
+own_text number live (item.Bad answer) = answer ∷ []
+own_text number live (item.Open sub id name) = []
+own_text number live (item.Load sub at) = map server_text (own_message number live (item.Load sub at))
+own_text number live (item.Advance sub count) = []
 
--- the messages of these items
-abbrev pub out_from : App → ℕ → List Entry → Option Live → List Item → List FromServer
+-- what an item changes of what is shown
+abbrev pub changes_of : App → List Entry → Option Live → Item → List (Key × Step (List ℕ) Val)
+changes_of app history live i = difference (shown app history live) (shown app history (live_after live i))
+
+-- the messages of an item, which follows a journal with this live subscription
+abbrev pub messages_of : App → ℕ → List Entry → Option Live → Item → List ServerMessage
+messages_of app number history live i = map about (changes_of app history live i) ++ own_message number live i
+
+abbrev pub texts_of : App → ℕ → List Entry → Option Live → Item → List (List ℕ)
+texts_of app number history live i = map server_text (map about (changes_of app history live i)) ++ own_text number live i
+
+abbrev pub out_from : App → ℕ → List Entry → Option Live → List Item → List ServerMessage
 out_from app number history live [] = []
 out_from app number history live (i ∷ items) = messages_of app number history live i ++ out_from app number history (live_after live i) items
 
+abbrev pub out_texts_from : App → ℕ → List Entry → Option Live → List Item → List (List ℕ)
+out_texts_from app number history live [] = []
+out_texts_from app number history live (i ∷ items) = texts_of app number history live i ++ out_texts_from app number history (live_after live i) items
+
 -- the messages of a journal
-abbrev pub out : App → ℕ → List Entry → List Item → List FromServer
+abbrev pub out : App → ℕ → List Entry → List Item → List ServerMessage
 out app number history journal = out_from app number history None journal
 
+-- the texts of a journal
+abbrev pub out_texts : App → ℕ → List Entry → List Item → List (List ℕ)
+out_texts app number history journal = out_texts_from app number history None journal
+
+-- what a message says of documents
+abbrev pub data_in : ServerMessage → List (Key × Step (List ℕ) Val)
+data_in (server.connected session) = []
+data_in (server.failed version) = []
+data_in (server.ping id) = []
+data_in (server.pong id) = []
+data_in (server.nosub id fault) = []
+data_in (server.ready subs) = []
+data_in (server.about m) = said m ∷ []
+data_in (server.finished id fault value) = []
+data_in (server.updated methods) = []
+data_in (server.refused reason offending) = []
+data_in server.unknown = []
+
+-- the ids that a message calls ready
+abbrev pub ready_in : ServerMessage → List (List ℕ)
+ready_in (server.connected session) = []
+ready_in (server.failed version) = []
+ready_in (server.ping id) = []
+ready_in (server.pong id) = []
+ready_in (server.nosub id fault) = []
+ready_in (server.ready subs) = subs
+ready_in (server.about m) = []
+ready_in (server.finished id fault value) = []
+ready_in (server.updated methods) = []
+ready_in (server.refused reason offending) = []
+ready_in server.unknown = []
+
 -- what the messages say of documents, in order
-abbrev pub data_of : List FromServer → List (Key × Step (List ℕ) Val)
+abbrev pub data_of : List ServerMessage → List (Key × Step (List ℕ) Val)
 data_of [] = []
-data_of (server.Connected session ∷ messages) = data_of messages
-data_of (server.Ready id ∷ messages) = data_of messages
-data_of (server.Data m ∷ messages) = said m ∷ data_of messages
+data_of (m ∷ messages) = data_in m ++ data_of messages
 
 -- the ids whose subscriptions the messages call ready
-abbrev pub ready_ids : List FromServer → List (List ℕ)
+abbrev pub ready_ids : List ServerMessage → List (List ℕ)
 ready_ids [] = []
-ready_ids (server.Connected session ∷ messages) = ready_ids messages
-ready_ids (server.Ready id ∷ messages) = id ∷ ready_ids messages
-ready_ids (server.Data m ∷ messages) = ready_ids messages
+ready_ids (m ∷ messages) = ready_in m ++ ready_ids messages

@@ -1,30 +1,20 @@
 -- The steps that a client and its session make by themselves. Each answers the client afterwards, or none where the step is not enabled.
-use Rattle.std.specs.Prelude.{◌≡◌, ℕ, ◌-◌, List, [], ◌∷◌, ◌++◌, length, Bool, true, false, Option, Some, None, nat_lt, ◌&&◌, if◌then◌else◌}
-use Rattle.map_model.specs.Maps.{at, set}
-use Rattle.map_model.specs.Differences.{Step, taken}
-use Rattle.value_model.specs.Val.{Val}
-use Rattle.value_model.specs.Order.{text_cmp}
-use Rattle.value_model.specs.Size.{is_name}
-use Rattle.ejson_value.specs.declared.key.Key.{Key}
-use Rattle.ejson_value.specs.Key.{key_cmp}
-use Rattle.ejson_value.specs.Rows.{Rows}
-use Rattle.ejson_value.specs.Messages.{said}
-use Rattle.session_model.specs.declared.messages.FromClient.{FromClient}
-use Rattle.session_model.specs.declared.messages.FromClient.TheVariants as client
-use Rattle.session_model.specs.declared.messages.FromServer.{FromServer}
-use Rattle.session_model.specs.declared.messages.FromServer.TheVariants as server
-use Rattle.session_model.specs.declared.messages.Request.{Request}
+use Rattle.std.specs.Prelude.{ℕ, ◌-◌, List, [], ◌∷◌, ◌++◌, length, Bool, true, false, not, Option, Some, None, is_none, nat_lt, ◌&&◌}
+use Rattle.std.specs.List.{list_any}
+use Rattle.session_model.specs.declared.requests.Request.{Request}
 use Rattle.session_model.specs.declared.items.Item.{Item}
 use Rattle.session_model.specs.declared.items.Item.TheVariants as item
 use Rattle.session_model.specs.App.{App}
 use Rattle.session_model.specs.History.{Entry}
-use Rattle.session_model.specs.Journal.{Live, live_of}
-use Rattle.session_model.specs.Out.{messages_of}
+use Rattle.session_model.specs.Journal.{Live, live_of, is_connected}
+use Rattle.session_model.specs.Answers.{Taken, at_once, to_queue, taken_text}
+use Rattle.session_model.specs.Out.{texts_of}
 use Rattle.world_model.specs.declared.events.Act.{Act}
 use Rattle.world_model.specs.declared.events.Act.TheVariants as act
-use Rattle.world_model.specs.Client.{Client, Sub}
+use Rattle.world_model.specs.Client.{Client}
+use Rattle.world_model.specs.Taking.{told_text}
 
--- how many messages a link, an outbox and a journal hold
+-- how many texts a link and an outbox hold, and how many items a journal
 abbrev pub link_limit : ℕ
 link_limit = 256
 
@@ -42,22 +32,41 @@ guarded false c = None
 abbrev pub has_room : Client → Bool
 has_room c = nat_lt (length c.outbox) outbox_limit && nat_lt (length c.journal) journal_limit
 
--- the session adds an item to its journal, and the item's messages to its outbox
+-- whether a version was refused
+abbrev pub is_fail : Item → Bool
+is_fail item.Connect = false
+is_fail item.Fail = true
+is_fail (item.Ping id) = false
+is_fail item.Pong = false
+is_fail (item.Bad answer) = false
+is_fail (item.Open sub id name) = false
+is_fail (item.Load sub at) = false
+is_fail (item.Advance sub count) = false
+
+abbrev pub has_failed : List Item → Bool
+has_failed journal = list_any is_fail journal
+
+-- the session adds an item to its journal, and the item's texts to its outbox
 abbrev pub with_item : App → List Entry → Client → Item → Client
 with_item app history c i = record c {
   journal = c.journal ++ i ∷ [];
-  outbox = c.outbox ++ messages_of app c.number history (live_of c.journal) i;
+  outbox = c.outbox ++ texts_of app c.number history (live_of c.journal) i;
 }
 
-abbrev pub moves_up : Client → List FromClient → Option Client
+abbrev pub moves_up : Client → List (List ℕ) → Option Client
 moves_up c [] = None
-moves_up c (m ∷ ms) = guarded (nat_lt (length c.upward) link_limit) (record c { waiting = ms; upward = c.upward ++ m ∷ [] })
+moves_up c (t ∷ ts) = guarded (nat_lt (length c.upward) link_limit) (record c { waiting = ts; upward = c.upward ++ t ∷ [] })
 
--- a `connect` is answered at once, and a `sub` waits in the queue
-abbrev pub receives : App → List Entry → Client → List FromClient → Option Client
+-- some texts are answered at once, and a `sub` waits in the queue
+abbrev pub after_taking : App → List Entry → Client → Taken → Client
+after_taking app history c (at_once i) = with_item app history c i
+after_taking app history c (to_queue r) = record c { queue = c.queue ++ r ∷ [] }
+
+abbrev pub receives : App → List Entry → Client → List (List ℕ) → Option Client
 receives app history c [] = None
-receives app history c (client.Connect ∷ ms) = guarded (has_room c) (with_item app history (record c { upward = ms }) item.Connect)
-receives app history c (client.Sub id name ∷ ms) = guarded (has_room c) (record c { upward = ms; queue = c.queue ++ (record { id = id; name = name }) ∷ [] })
+receives app history c (t ∷ ts) =
+    guarded (not (has_failed c.journal) && has_room c)
+    (after_taking app history (record c { upward = ts; received = c.received ++ t ∷ [] }) (taken_text (is_connected c.journal) t))
 
 abbrev pub handles : App → List Entry → Client → List Request → Option Client
 handles app history c [] = None
@@ -82,28 +91,14 @@ abbrev pub advances : App → List Entry → Client → Option Live → Option C
 advances app history c None = None
 advances app history c (Some live) = advances_from app history c live live.cursor
 
-abbrev pub sends : Client → List FromServer → Option Client
+abbrev pub sends : Client → List (List ℕ) → Option Client
 sends c [] = None
-sends c (m ∷ ms) = guarded (nat_lt (length c.downward) link_limit) (record c { outbox = ms; downward = c.downward ++ m ∷ [] })
+sends c (t ∷ ts) = guarded (nat_lt (length c.downward) link_limit) (record c { outbox = ts; downward = c.downward ++ t ∷ [] })
 
--- the rows after a message about a document
-abbrev pub taken_by : Rows → Key × Step (List ℕ) Val → Rows
-taken_by rows m = set key_cmp rows m.0 (taken text_cmp (at key_cmp rows m.0) m.1)
-
--- a subscription is ready once its `ready` was taken
-abbrev pub readied : List ℕ → Option Sub → Option Sub
-readied id None = None
-readied id (Some s) = Some (if is_name s.id id then record s { is_ready = true } else s)
-
--- the client takes a message
-abbrev pub told : Client → FromServer → Client
-told c (server.Connected session) = record c { session = Some session }
-told c (server.Ready id) = record c { sub = readied id c.sub }
-told c (server.Data m) = record c { rows = taken_by c.rows (said m) }
-
-abbrev pub takes : Client → List FromServer → Option Client
+-- a client whose version was refused, or that is broken, takes no text
+abbrev pub takes : Client → List (List ℕ) → Option Client
 takes c [] = None
-takes c (m ∷ ms) = Some (told (record c { downward = ms }) m)
+takes c (t ∷ ts) = guarded (not c.is_failed && is_none c.broken) (told_text (record c { downward = ts }) t)
 
 abbrev pub acts : App → List Entry → Client → Act → Option Client
 acts app history c act.Up = moves_up c c.waiting

@@ -1,88 +1,90 @@
 -- What every event keeps of a client and its session.
-use Rattle.std.specs.Prelude.{◌≡◌, ◌⊎◌, ℕ, zero, suc, ◌+◌, ◌-◌, ◌<◌, ◌≤◌, List, [], ◌∷◌, ◌++◌, length, take, Bool, true, false, cond, Option, Some, None, IfSome, IsSome, IsTrue, is_some, is_none, unwrap_or, nat_lt, ◌&&◌, refl}
-use Rattle.std.proofs.Common.{ap, sym, subst, ◌∙◌, arith, inl, inr}
-use Rattle.std.proofs.lemmas.List.{append_assoc, length-append}
-use Rattle.map_model.specs.Maps.{at, set, IsSorted}
-use Rattle.map_model.specs.Differences.{taken, all_taken}
-use Rattle.value_model.specs.Order.{text_cmp}
-use Rattle.value_model.specs.Size.{is_name}
-use Rattle.ejson_value.specs.Key.{key_cmp}
+use Rattle.std.specs.Prelude.{◌≡◌, ◌⊎◌, ℕ, List, [], ◌∷◌, ◌++◌, length, false, Option, Some, None, Result, Ok, Err}
 use Rattle.ejson_value.specs.Rows.{Rows}
-use Rattle.ejson_value.specs.Messages.{said}
-use Rattle.session_model.specs.declared.messages.FromClient.{FromClient}
-use Rattle.session_model.specs.declared.messages.FromClient.TheVariants as client
-use Rattle.session_model.specs.declared.messages.FromServer.{FromServer}
-use Rattle.session_model.specs.declared.messages.FromServer.TheVariants as server
-use Rattle.session_model.specs.declared.messages.Request.{Request}
+use Rattle.ddp_messages.specs.Answers.{client_answer}
+use Rattle.ddp_messages.specs.ClientMessage.{ClientMessage}
+use Rattle.ddp_messages.specs.ClientMessage as client
+use Rattle.ddp_messages.specs.Limits.{AreShort}
+use Rattle.ddp_messages.specs.ServerMessage.{ServerMessage}
+use Rattle.ddp_messages.specs.declared.fault.MsgFault.{MsgFault}
+use Rattle.session_model.specs.declared.requests.Request.{Request}
 use Rattle.session_model.specs.declared.items.Item.{Item}
 use Rattle.session_model.specs.declared.items.Item.TheVariants as item
 use Rattle.session_model.specs.App.{App}
-use Rattle.session_model.specs.History.{Entry, AreEntries}
-use Rattle.session_model.specs.Journal.{Live, live_of, live_from, live_after, CanFollow, FitsFrom}
-use Rattle.session_model.specs.Out.{out, out_from, messages_of, own_message, data_of, ready_ids, session_name}
-use Rattle.session_model.specs.OutLaws.{live_from-append, out-append, out-longer, out-taken, data_of-append, ready_ids-append, all_taken-append, FitsFrom-append, FitsFrom-longer}
-use Rattle.world_model.specs.declared.events.Act.{Act}
-use Rattle.world_model.specs.declared.events.Act.TheVariants as act
-use Rattle.world_model.specs.Client.{Client, Sub, new_client}
-use Rattle.world_model.specs.Acts.{guarded, has_room, link_limit, with_item, moves_up, receives, handles, loads, loads_at, advances, advances_from, sends, takes, taken_by, readied, told, acts}
-use Rattle.world_model.specs.Run.{opened_ids, subscribes, can_subscribe}
+use Rattle.session_model.specs.History.{Entry}
+use Rattle.session_model.specs.Journal.{live_of, Fits}
+use Rattle.session_model.specs.Texts.{messages_in}
+use Rattle.session_model.specs.Out.{out_texts}
+use Rattle.world_model.specs.declared.subs.SubState.TheVariants as state
+use Rattle.world_model.specs.Client.{Client, Sub, connect_text}
+use Rattle.world_model.specs.Taking.{session_in, sub_in, rows_in}
+use Rattle.world_model.specs.Run.{opened_ids, sub_ids}
 
--- the ids of the subscriptions that these messages and requests ask for
-abbrev pub asked : List FromClient → List (List ℕ)
+-- the id of the subscription that a text asks for
+abbrev pub asked_by : ClientMessage → List (List ℕ)
+asked_by (client.connect version support) = []
+asked_by (client.ping id) = []
+asked_by (client.pong id) = []
+asked_by (client.sub id name params) = id ∷ []
+asked_by (client.unsub id) = []
+asked_by (client.method id name params seed) = []
+
+abbrev pub asked_in : Result ClientMessage MsgFault → List (List ℕ)
+asked_in (Ok m) = asked_by m
+asked_in (Err e) = []
+
+-- the ids of the subscriptions that these texts and requests ask for
+abbrev pub asked : List (List ℕ) → List (List ℕ)
 asked [] = []
-asked (client.Connect ∷ ms) = asked ms
-asked (client.Sub id name ∷ ms) = id ∷ asked ms
+asked (t ∷ ts) = asked_in (client_answer t) ++ asked ts
 
 abbrev pub requested : List Request → List (List ℕ)
 requested [] = []
 requested (r ∷ rs) = r.id ∷ requested rs
 
--- the id of the client's subscription
-abbrev pub sub_ids : Option Sub → List (List ℕ)
-sub_ids None = []
-sub_ids (Some s) = s.id ∷ []
-
--- how many `connect` messages these are
-abbrev pub connects : List FromClient → ℕ
-connects [] = 0
-connects (client.Connect ∷ ms) = suc (connects ms)
-connects (client.Sub id name ∷ ms) = connects ms
-
-abbrev pub connected : List Item → ℕ
-connected [] = 0
-connected (item.Connect ∷ items) = suc (connected items)
-connected (item.Open sub id name ∷ items) = connected items
-connected (item.Load sub at ∷ items) = connected items
-connected (item.Advance sub count ∷ items) = connected items
-
--- the name of the session that a client has after these messages
-abbrev pub session_after : Option (List ℕ) → List FromServer → Option (List ℕ)
+-- what a client has after these messages
+abbrev pub session_after : Option (List ℕ) → List ServerMessage → Option (List ℕ)
 session_after session [] = session
-session_after session (server.Connected name ∷ ms) = session_after (Some name) ms
-session_after session (server.Ready id ∷ ms) = session_after session ms
-session_after session (server.Data m ∷ ms) = session_after session ms
+session_after session (m ∷ ms) = session_after (session_in session m) ms
 
--- the client's subscription after these messages
-abbrev pub sub_after : Option Sub → List FromServer → Option Sub
+abbrev pub sub_after : Option Sub → List ServerMessage → Option Sub
 sub_after sub [] = sub
-sub_after sub (server.Connected name ∷ ms) = sub_after sub ms
-sub_after sub (server.Ready id ∷ ms) = sub_after (readied id sub) ms
-sub_after sub (server.Data m ∷ ms) = sub_after sub ms
+sub_after sub (m ∷ ms) = sub_after (sub_in sub m) ms
+
+abbrev pub rows_after : Rows → List ServerMessage → Rows
+rows_after rows [] = rows
+rows_after rows (m ∷ ms) = rows_after (rows_in rows m) ms
 
 abbrev pub unready : Option Sub → Option Sub
 unready None = None
-unready (Some s) = Some (record s { is_ready = false })
+unready (Some s) = Some (record s { state = state.Waiting })
+
+-- nothing was taken yet, or the journal begins with the answer to the client's own `connect`
+abbrev pub HasBegun : List Item → List (List ℕ) → Type 0
+HasBegun journal received = ((journal ≡ []) × (received ≡ [])) ⊎ ((items : List Item) × (journal ≡ item.Connect ∷ items))
+
+-- What holds of a client that refused no text: those that it took, those on the link and those in the outbox are the journal's, and what it has is what it was told.
+pub record IsLinked (app : App) (history : List Entry) (c : Client) : Type 0 where
+  pub taken : List (List ℕ)
+  pub links : taken ++ (c.downward ++ c.outbox) ≡ out_texts app c.number history c.journal
+  pub rows : c.rows ≡ rows_after [] (messages_in taken)
+  pub session : c.session ≡ session_after None (messages_in taken)
+  pub sub : c.sub ≡ sub_after (unready c.sub) (messages_in taken)
+  pub unfailed : c.is_failed ≡ false
+
+-- at most the client's subscription
+abbrev pub AtMost : List (List ℕ) → Option Sub → Type 0
+AtMost ids sub = (ids ≡ []) ⊎ (ids ≡ sub_ids sub)
 
 pub record IsKept (app : App) (history : List Entry) (c : Client) : Type 0 where
   -- each item of the journal could follow those before it
-  pub fits : FitsFrom (length history) None c.journal
-  -- the messages that the client took; with those on the link and in the outbox they are the journal's
-  pub taken : List FromServer
-  pub links : taken ++ (c.downward ++ c.outbox) ≡ out app c.number history c.journal
-  -- what the client has is what it was told
-  pub rows : c.rows ≡ all_taken text_cmp key_cmp [] (data_of taken)
-  pub session : c.session ≡ session_after None taken
-  pub sub : c.sub ≡ sub_after (unready c.sub) taken
-  -- one `connect` and at most one subscription are on their way or there
-  pub one_connect : connects c.waiting + connects c.upward + connected c.journal ≡ 1
-  pub one_sub : opened_ids (live_of c.journal) ++ (requested c.queue ++ (asked c.upward ++ asked c.waiting)) ≡ sub_ids c.sub
+  pub fits : Fits (length history) c.journal
+  pub linked : c.broken ≡ None → IsLinked app history c
+  -- the client's first text is its `connect`
+  pub begun : HasBegun c.journal c.received
+  pub more : List (List ℕ)
+  pub first : c.received ++ (c.upward ++ c.waiting) ≡ connect_text ∷ more
+  -- at most one subscription is on its way or there, and what waits to be handled is of a session that is connected
+  pub one_sub : AtMost (opened_ids (live_of c.journal) ++ (requested c.queue ++ (asked c.upward ++ asked c.waiting))) c.sub
+  pub short : AreShort (requested c.queue)
+  pub queued : (c.queue ≡ []) ⊎ ((items : List Item) × (c.journal ≡ item.Connect ∷ items))

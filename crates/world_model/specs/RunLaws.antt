@@ -1,29 +1,40 @@
 -- Every event keeps the world: a legal history, and what is kept of the client.
-use Rattle.std.specs.Prelude.{◌≡◌, ℕ, zero, suc, ◌+◌, ◌≤◌, List, [], ◌∷◌, ◌++◌, length, Bool, true, false, cond, Option, Some, None, IfSome, IsTrue, is_some, is_none, unwrap_or, ◌&&◌, refl}
-use Rattle.std.proofs.Common.{ap, sym, subst, ◌∙◌, arith, append-nil}
-use Rattle.std.proofs.lemmas.List.{length-append, append_assoc}
-use Rattle.std.specs.List.Sorted.{IsStrictlySortedBy}
-use Rattle.map_model.specs.Maps.{IsSorted}
-use Rattle.value_model.specs.Order.{text_cmp}
+use Rattle.std.specs.Prelude.{◌≡◌, ℕ, zero, suc, ◌+◌, List, [], ◌∷◌, ◌++◌, length, Bool, true, false, cond, Option, Some, None, IfSome, IsTrue, is_some, is_none, unwrap_or, ◌&&◌, Result, Ok, Err, refl}
+use Rattle.std.proofs.Common.{ap, sym, subst, ◌∙◌, arith, append-nil, inl, inr}
+use Rattle.std.proofs.lemmas.List.{length-append, append_assoc, map-append}
+use Rattle.map_model.specs.Maps.{at}
 use Rattle.value_model.specs.Size.{is_name}
 use Rattle.ejson_value.specs.Rows.{Rows}
-use Rattle.session_model.specs.declared.messages.FromClient.TheVariants as client
+use Rattle.ddp_messages.specs.Answers.{client_answer}
+use Rattle.ddp_messages.specs.ClientMessage.{ClientMessage}
+use Rattle.ddp_messages.specs.ClientMessage as client
+use Rattle.ddp_messages.specs.Limits.{IsShort}
+use Rattle.ddp_messages.specs.ServerMessage.{ServerMessage}
+use Rattle.ddp_messages.specs.declared.fault.MsgFault.{MsgFault}
+use Rattle.session_model.specs.declared.items.Item.{Item}
+use Rattle.session_model.specs.declared.items.Item.TheVariants as item
 use Rattle.session_model.specs.App.{App, publication}
-use Rattle.session_model.specs.History.{Entry, applied, after, contents, can_insert, IsLegalFrom, IsLegal, AreEntries}
-use Rattle.session_model.specs.HistoryLaws.{after-append, AreEntries-append}
-use Rattle.session_model.specs.Journal.{Live, live_of, FitsFrom}
-use Rattle.session_model.specs.Out.{out, out_from, ready_ids}
-use Rattle.session_model.specs.OutLaws.{out-longer, FitsFrom-longer, ready_ids-append, ready_ids-out_from, loaded_ids}
+use Rattle.session_model.specs.History.{Entry, applied, after, contents, can_insert, IsLegalFrom, IsLegal, IsStored, AreEntries}
+use Rattle.session_model.specs.HistoryLaws.{AreEntries-append}
+use Rattle.session_model.specs.Texts.{messages_in}
+use Rattle.session_model.specs.Journal.{live_of, Fits, loaded_ids}
+use Rattle.session_model.specs.Out.{out, ready_in, ready_ids}
+use Rattle.session_model.specs.OutLaws.{out_texts-longer, FitsFrom-longer, ready_ids-append, ready_ids-out_from}
+use Rattle.session_model.specs.HeardLaws.{out_reads}
 use Rattle.world_model.specs.declared.events.Act.{Act}
 use Rattle.world_model.specs.declared.events.Event.{Event}
 use Rattle.world_model.specs.declared.events.Event.TheVariants as event
-use Rattle.world_model.specs.Client.{Client, Sub, new_client}
+use Rattle.world_model.specs.declared.subs.SubState.TheVariants as state
+use Rattle.world_model.specs.Client.{Client, Sub, new_client, connect_text}
+use Rattle.world_model.specs.Taking.{readied}
 use Rattle.world_model.specs.Acts.{guarded, acts}
 use Rattle.world_model.specs.World.{World, start, after_act, done}
-use Rattle.world_model.specs.Settle.{many, times, each, order, round, rounds, block, blocks, settled, texts, work}
-use Rattle.world_model.specs.Run.{after_client, can_subscribe, subscribes, after_sub, is_called, after_named, inserted, step, run, IsEvent, AreEvents, Reachable, HoldsOf, opened_ids}
-use Rattle.world_model.specs.Kept.{IsKept, asked, requested, sub_ids, connects, sub_after, unready}
-use Rattle.world_model.specs.KeptLaws.{acts_keep, asked-append, connects-append, none_opened, nil_before, sub_after-none}
+use Rattle.world_model.specs.Settle.{many, times, each, order, rounds, blocks, settled, texts, work}
+use Rattle.world_model.specs.Run.{after_client, sub_text, can_subscribe, subscribes, after_sub, asks_in, can_send, with_text, after_raw, is_called, after_named, step, run, IsEvent, AreEvents, Reachable, HoldsOf, opened_ids, sub_ids}
+use Rattle.world_model.specs.Kept.{asked_in, asked, requested, sub_after, HasBegun, IsLinked, AtMost, IsKept}
+use Rattle.world_model.specs.TextLaws.{connect_read, sub_read}
+use Rattle.world_model.specs.CalmLaws.{AreCalm, calm_front, out_calm}
+use Rattle.world_model.specs.KeptLaws.{acts_keep, asked-append, none_opened}
 
 pub record IsKeptWorld (w : World) : Type 0 where
   pub legal : IsLegal w.app w.history
@@ -34,12 +45,12 @@ pub chosen : (P : Client → Type 0) (c : Client) (o : Option Client) → P c �
 chosen P c None p h = p
 chosen P c (Some d) p h = h
 
-client_done : (app : App) (h : List Entry) (a : Act) (o : Option Client) → HoldsOf o (IsKept app h) → HoldsOf (after_act app h a o) (IsKept app h)
-client_done app h a None k = tt
-client_done app h a (Some c) k = chosen (IsKept app h) c (acts app h c a) k (acts_keep app h c a k)
+client_done : (app : App) (h : List Entry) (a : Act) (o : Option Client) → AreEntries h → HoldsOf o (IsKept app h) → HoldsOf (after_act app h a o) (IsKept app h)
+client_done app h a None entries k = tt
+client_done app h a (Some c) entries k = chosen (IsKept app h) c (acts app h c a) k (acts_keep app h entries c a k)
 
 pub done_keeps : (a : Act) (w : World) → IsKeptWorld w → IsKeptWorld (done a w)
-done_keeps a w k = record { legal = k.legal; entries = k.entries; client = client_done w.app w.history a w.client k.client }
+done_keeps a w k = record { legal = k.legal; entries = k.entries; client = client_done w.app w.history a w.client k.entries k.client }
 
 -- What every step keeps, settling keeps.
 module _ (P : World → Type 0) (keeps : (a : Act) (w : World) → P w → P (done a w)) where
@@ -69,13 +80,13 @@ module _ (P : World → Type 0) (keeps : (a : Act) (w : World) → P w → P (do
 new_kept : (app : App) (h : List Entry) (name : List ℕ) → IsKept app h (new_client name)
 new_kept app h name = record {
   fits = tt;
-  taken = [];
-  links = refl;
-  rows = refl;
-  session = refl;
-  sub = refl;
-  one_connect = refl;
-  one_sub = refl;
+  linked = λ u. record { taken = []; links = refl; rows = refl; session = refl; sub = refl; unfailed = refl };
+  begun = inl (refl, refl);
+  more = [];
+  first = refl;
+  one_sub = inl (ap (λ a. asked_in a ++ []) connect_read);
+  short = tt;
+  queued = inl refl;
 }
 
 client_began : (app : App) (h : List Entry) (name : List ℕ) (o : Option Client) → HoldsOf o (IsKept app h) → HoldsOf (after_client name o) (IsKept app h)
@@ -94,45 +105,134 @@ no_sub : (o : Option Sub) → is_none o ≡ true → o ≡ None
 no_sub None e = refl
 no_sub (Some s) e = cc
 
+-- ---- what the client was told of subscriptions
+
+readied-append : (xs ys : List (List ℕ)) (s : Option Sub) → readied (xs ++ ys) s ≡ readied ys (readied xs s)
+readied-append [] ys s = refl
+readied-append (x ∷ xs) ys s = readied-append xs ys _
+
+pub subs_told : (s : Option Sub) (ms : List ServerMessage) → AreCalm ms → sub_after s ms ≡ readied (ready_ids ms) s
+subs_told s [] a = refl
+subs_told s (m ∷ ms) a =
+    ap (λ t. sub_after t ms) (a.0.readies s)
+    ∙ (subs_told (readied (ready_in m) s) ms a.1 ∙ sym (readied-append (ready_in m) (ready_ids ms) s))
+
+empty_out : (app : App) (n : ℕ) (h : List Entry) (journal : List Item) → journal ≡ [] → AreCalm (out app n h journal)
+empty_out app n h journal e = subst (λ j. AreCalm (out app n h j)) (sym e) tt
+
+-- the messages of a journal are calm
+pub journal_calm : (app : App) (n : ℕ) (h : List Entry) (journal : List Item) (received : List (List ℕ)) → HasBegun journal received → Fits (length h) journal → AreCalm (out app n h journal)
+journal_calm app n h journal received (inl b) f = empty_out app n h journal b.0
+journal_calm app n h journal received (inr b) f = subst (λ j. AreCalm (out app n h j)) (sym b.1) (out_calm app n (length h) h b.0 (subst (Fits (length h)) b.1 f))
+
+-- what a client took, and what is still on its way, as messages
+pub heard : (app : App) (h : List Entry) (c : Client) → AreEntries h → IsKept app h c → (l : IsLinked app h c) →
+    messages_in l.taken ++ messages_in (c.downward ++ c.outbox) ≡ out app c.number h c.journal
+heard app h c entries k l = sym (map-append _ l.taken (c.downward ++ c.outbox)) ∙ (ap messages_in l.links ∙ (out_reads app c.number (length h) h c.journal entries k.fits).1)
+
+nil_before : {A : Type 0} (xs ys : List A) → xs ++ ys ≡ [] → xs ≡ []
+nil_before [] ys e = refl
+nil_before (x ∷ xs) ys e = cc
+
+no_ids_left : (ids : List (List ℕ)) (sub : Option Sub) → AtMost ids sub → sub ≡ None → ids ≡ []
+no_ids_left ids sub (inl e) none = e
+no_ids_left ids sub (inr e) none = e ∙ ap sub_ids none
+
 -- a client without a subscription was told of none
-none_ready : (app : App) (h : List Entry) (c : Client) → (k : IsKept app h c) → c.sub ≡ None → ready_ids k.taken ≡ []
-none_ready app h c k none =
-    let ids = k.one_sub ∙ ap sub_ids none in
+none_told : (app : App) (h : List Entry) (c : Client) (s : Option Sub) → AreEntries h → (k : IsKept app h c) → (l : IsLinked app h c) → c.sub ≡ None → sub_after s (messages_in l.taken) ≡ s
+none_told app h c s entries k l none =
+    let ids = no_ids_left _ c.sub k.one_sub none in
     let live = none_opened (live_of c.journal) (nil_before (opened_ids (live_of c.journal)) (requested c.queue ++ (asked c.upward ++ asked c.waiting)) ids) in
-    let ready : ready_ids (out app c.number h c.journal) ≡ [] = ready_ids-out_from app c.number (length h) h None c.journal k.fits ∙ ap loaded_ids live in
-    nil_before (ready_ids k.taken) (ready_ids (c.downward ++ c.outbox)) (sym (ready_ids-append k.taken (c.downward ++ c.outbox)) ∙ (ap ready_ids k.links ∙ ready))
+    let all = heard app h c entries k l in
+    let ready : ready_ids (messages_in l.taken) ++ ready_ids (messages_in (c.downward ++ c.outbox)) ≡ [] =
+    sym (ready_ids-append (messages_in l.taken) (messages_in (c.downward ++ c.outbox)))
+    ∙ (ap ready_ids all ∙ (ready_ids-out_from app c.number (length h) h false None c.journal k.fits ∙ ap loaded_ids live)) in
+    let quiet : AreCalm (messages_in l.taken) = calm_front (messages_in l.taken) (messages_in (c.downward ++ c.outbox)) (subst AreCalm (sym all) (journal_calm app c.number h c.journal c.received k.begun k.fits)) in
+    subs_told s (messages_in l.taken) quiet ∙ ap (λ ids. readied ids s) (nil_before (ready_ids (messages_in l.taken)) (ready_ids (messages_in (c.downward ++ c.outbox))) ready)
 
-inside : (a b d e f : List (List ℕ)) → a ++ (b ++ (d ++ (e ++ f))) ≡ (a ++ (b ++ (d ++ e))) ++ f
-inside a b d e f = simp append_assoc
+-- ---- the events of a client
 
-subscribe_keeps : (app : App) (h : List Entry) (c : Client) (who id name : List ℕ) (b : Bool) → (b ≡ true → c.sub ≡ None) → IsKept app h c →
-    IfSome (guarded b (record c { waiting = c.waiting ++ client.Sub id name ∷ []; sub = Some (record { id = id; is_ready = false }) })) (IsKept app h)
-subscribe_keeps app h c who id name false none k = tt
-subscribe_keeps app h c who id name true none k =
-    let s : Sub = record { id = id; is_ready = false } in
+-- one more text waits
+text_first : (c : Client) (t : List ℕ) (more : List (List ℕ)) → c.received ++ (c.upward ++ c.waiting) ≡ connect_text ∷ more → c.received ++ (c.upward ++ (c.waiting ++ t ∷ [])) ≡ connect_text ∷ (more ++ t ∷ [])
+text_first c t more e =
+    ap (λ rest. c.received ++ rest) (sym (append_assoc c.upward c.waiting (t ∷ [])))
+    ∙ (sym (append_assoc c.received (c.upward ++ c.waiting) (t ∷ [])) ∙ ap (λ xs. xs ++ t ∷ []) e)
+
+text_asked : (c : Client) (t : List ℕ) (ids : List (List ℕ)) → asked_in (client_answer t) ≡ ids →
+    opened_ids (live_of c.journal) ++ (requested c.queue ++ (asked c.upward ++ asked (c.waiting ++ t ∷ [])))
+    ≡ (opened_ids (live_of c.journal) ++ (requested c.queue ++ (asked c.upward ++ asked c.waiting))) ++ ids
+text_asked c t ids e =
+    ap (λ xs. opened_ids (live_of c.journal) ++ (requested c.queue ++ (asked c.upward ++ xs))) (asked-append c.waiting (t ∷ []) ∙ ap (λ a. asked c.waiting ++ a) (append-nil (asked_in (client_answer t)) ∙ e))
+    ∙ inside (opened_ids (live_of c.journal)) (requested c.queue) (asked c.upward) (asked c.waiting) ids
+  where
+    inside : (a b d e f : List (List ℕ)) → a ++ (b ++ (d ++ (e ++ f))) ≡ (a ++ (b ++ (d ++ e))) ++ f
+    inside a b d e f = simp append_assoc
+
+subscribe_keeps : (app : App) (h : List Entry) (c : Client) (id name : List ℕ) (b : Bool) → AreEntries h → IsShort id → (b ≡ true → c.sub ≡ None) → IsKept app h c →
+    IfSome (guarded b (record c { waiting = c.waiting ++ sub_text id name ∷ []; sub = Some (record { id = id; state = state.Waiting }) })) (IsKept app h)
+subscribe_keeps app h c id name false entries short none k = tt
+subscribe_keeps app h c id name true entries short none k =
+    let s : Sub = record { id = id; state = state.Waiting } in
+    let t = sub_text id name in
     record {
       fits = k.fits;
-      taken = k.taken;
-      links = k.links;
-      rows = k.rows;
-      session = k.session;
-      sub = sym (sub_after-none (Some s) k.taken (none_ready app h c k (none refl)));
-      one_connect = omega (arith, k.one_connect, connects-append c.waiting (client.Sub id name ∷ []));
-      one_sub = by (k.one_sub ∙ ap sub_ids (none refl));
+      linked = λ u.
+          let l = k.linked u in
+          record {
+            taken = l.taken;
+            links = l.links;
+            rows = l.rows;
+            session = l.session;
+            sub = sym (none_told app h c (Some s) entries k l (none refl));
+            unfailed = l.unfailed;
+          };
+      begun = k.begun;
+      more = k.more ++ t ∷ [];
+      first = text_first c t k.more k.first;
+      one_sub = inr (text_asked c t (id ∷ []) (ap asked_in (sub_read id name short)) ∙ ap (λ ids. ids ++ id ∷ []) (no_ids_left _ c.sub k.one_sub (none refl)));
+      short = k.short;
+      queued = k.queued;
     }
-  where
-    by : opened_ids (live_of c.journal) ++ (requested c.queue ++ (asked c.upward ++ asked c.waiting)) ≡ [] →
-        opened_ids (live_of c.journal) ++ (requested c.queue ++ (asked c.upward ++ asked (c.waiting ++ client.Sub id name ∷ []))) ≡ id ∷ []
-    by e =
-        ap (λ ids. opened_ids (live_of c.journal) ++ (requested c.queue ++ (asked c.upward ++ ids))) (asked-append c.waiting (client.Sub id name ∷ []))
-        ∙ (inside (opened_ids (live_of c.journal)) (requested c.queue) (asked c.upward) (asked c.waiting) (id ∷ []) ∙ ap (λ ids. ids ++ id ∷ []) e)
 
-client_subscribed : (app : App) (h : List Entry) (who id name : List ℕ) (o : Option Client) → HoldsOf o (IsKept app h) → HoldsOf (after_sub app who id name o) (IsKept app h)
-client_subscribed app h who id name None k = tt
-client_subscribed app h who id name (Some c) k =
+client_subscribed : (app : App) (h : List Entry) (who id name : List ℕ) (o : Option Client) → AreEntries h → IsShort id → HoldsOf o (IsKept app h) → HoldsOf (after_sub app who id name o) (IsKept app h)
+client_subscribed app h who id name None entries short k = tt
+client_subscribed app h who id name (Some c) entries short k =
     chosen (IsKept app h) c (subscribes app c who id name) k
-    (subscribe_keeps app h c who id name (can_subscribe app c who name)
-    (λ e. no_sub c.sub (second_true (is_name c.name who && is_some c.session) (is_none c.sub) (first_true (is_name c.name who && is_some c.session && is_none c.sub) (is_some (publication app name)) e))) k)
+    (subscribe_keeps app h c id name (can_subscribe app c who name) entries short
+    (λ e. no_sub c.sub (second_true (is_name c.name who && is_some c.session && is_none c.broken) (is_none c.sub)
+    (first_true (is_name c.name who && is_some c.session && is_none c.broken && is_none c.sub) (is_some (publication app name)) e))) k)
+
+-- a text that asks for nothing
+asks_nothing : (r : Result ClientMessage MsgFault) → asks_in r ≡ false → asked_in r ≡ []
+asks_nothing (Ok (client.connect version support)) e = refl
+asks_nothing (Ok (client.ping id)) e = refl
+asks_nothing (Ok (client.pong id)) e = refl
+asks_nothing (Ok (client.sub id name params)) e = cc e
+asks_nothing (Ok (client.unsub id)) e = refl
+asks_nothing (Ok (client.method id name params seed)) e = refl
+asks_nothing (Err fault) e = refl
+
+raw_one : (ids : List (List ℕ)) (sub : Option Sub) → AtMost ids sub → AtMost (ids ++ []) sub
+raw_one ids sub a = subst (λ xs. AtMost xs sub) (sym (append-nil ids)) a
+
+raw_keeps : (app : App) (h : List Entry) (c : Client) (t : List ℕ) → asks_in (client_answer t) ≡ false → IsKept app h c → IsKept app h (record c { waiting = c.waiting ++ t ∷ [] })
+raw_keeps app h c t none k = record {
+  fits = k.fits;
+  linked = λ u. let l = k.linked u in record { taken = l.taken; links = l.links; rows = l.rows; session = l.session; sub = l.sub; unfailed = l.unfailed };
+  begun = k.begun;
+  more = k.more ++ t ∷ [];
+  first = text_first c t k.more k.first;
+  one_sub = subst (λ ids. AtMost ids c.sub) (sym (text_asked c t [] (asks_nothing (client_answer t) none))) (raw_one _ c.sub k.one_sub);
+  short = k.short;
+  queued = k.queued;
+}
+
+raw_by : (app : App) (h : List Entry) (t : List ℕ) (o : Option Client) → asks_in (client_answer t) ≡ false → HoldsOf o (IsKept app h) → HoldsOf (with_text t o) (IsKept app h)
+raw_by app h t None none k = tt
+raw_by app h t (Some c) none k = raw_keeps app h c t none k
+
+client_sent : (app : App) (h : List Entry) (who t : List ℕ) (o : Option Client) → asks_in (client_answer t) ≡ false → HoldsOf o (IsKept app h) → HoldsOf (after_raw who t o) (IsKept app h)
+client_sent app h who t o none k = elim (can_send who o) as (λ b. HoldsOf (cond b (with_text t o) o) (IsKept app h)) [ true ↦ raw_by app h t o none k | false ↦ k ]
 
 client_stepped : (app : App) (h : List Entry) (who : List ℕ) (a : Act) (o : Option Client) → HoldsOf (after_act app h a o) (IsKept app h) → HoldsOf o (IsKept app h) →
     HoldsOf (after_named app h who a o) (IsKept app h)
@@ -142,21 +242,23 @@ client_stepped app h who a o made k = elim (is_called who o) as (λ b. HoldsOf (
 client_longer : (app : App) (h : List Entry) (e : Entry) (o : Option Client) → HoldsOf o (IsKept app h) → HoldsOf o (IsKept app (h ++ e ∷ []))
 client_longer app h e None k = tt
 client_longer app h e (Some c) k = record {
-  fits = FitsFrom-longer (length h) (length (h ++ e ∷ [])) None c.journal (omega (arith, length-append h (e ∷ []))) k.fits;
-  taken = k.taken;
-  links = k.links ∙ sym (out-longer app c.number h (e ∷ []) c.journal k.fits);
-  rows = k.rows;
-  session = k.session;
-  sub = k.sub;
-  one_connect = k.one_connect;
+  fits = FitsFrom-longer (length h) (length (h ++ e ∷ [])) false None c.journal (omega (arith, length-append h (e ∷ []))) k.fits;
+  linked = λ u.
+      let l = k.linked u in
+      record { taken = l.taken; links = l.links ∙ sym (out_texts-longer app c.number h (e ∷ []) c.journal k.fits); rows = l.rows; session = l.session; sub = l.sub; unfailed = l.unfailed };
+  begun = k.begun;
+  more = k.more;
+  first = k.first;
   one_sub = k.one_sub;
+  short = k.short;
+  queued = k.queued;
 }
 
 legal_longer : (app : App) (rows : Rows) (h : List Entry) (e : Entry) → IsLegalFrom app rows h → IsTrue (can_insert app (after rows h) e) → IsLegalFrom app rows (h ++ e ∷ [])
 legal_longer app rows [] e l can = (can, tt)
 legal_longer app rows (f ∷ h) e l can = (l.0, legal_longer app (applied rows f) h e l.1 can)
 
-insert_keeps : (w : World) (e : Entry) (b : Bool) → (b ≡ true → IsTrue (can_insert w.app (contents w.history) e)) → IsSorted text_cmp e.doc → IsKeptWorld w →
+insert_keeps : (w : World) (e : Entry) (b : Bool) → (b ≡ true → IsTrue (can_insert w.app (contents w.history) e)) → IsStored e.key e.doc → IsKeptWorld w →
     IsKeptWorld (record w { history = cond b (w.history ++ e ∷ []) w.history })
 insert_keeps w e false can doc k = k
 insert_keeps w e true can doc k = record {
@@ -167,7 +269,8 @@ insert_keeps w e true can doc k = record {
 
 pub step_keeps : (w : World) (e : Event) → IsEvent e → IsKeptWorld w → IsKeptWorld (step w e)
 step_keeps w (event.Client name) p k = record { legal = k.legal; entries = k.entries; client = client_began w.app w.history name w.client k.client }
-step_keeps w (event.Sub who id name) p k = record { legal = k.legal; entries = k.entries; client = client_subscribed w.app w.history who id name w.client k.client }
+step_keeps w (event.Sub who id name) p k = record { legal = k.legal; entries = k.entries; client = client_subscribed w.app w.history who id name w.client k.entries p k.client }
+step_keeps w (event.Raw who t) p k = record { legal = k.legal; entries = k.entries; client = client_sent w.app w.history who t w.client p k.client }
 step_keeps w (event.Insert key doc) p k =
     let e : Entry = record { key = key; doc = doc } in insert_keeps w e (can_insert w.app (contents w.history) e) (λ h. h) p k
 step_keeps w (event.Do who a) p k = record { legal = k.legal; entries = k.entries; client = client_stepped w.app w.history who a w.client (done_keeps a w k).client k.client }

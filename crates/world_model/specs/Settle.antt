@@ -1,7 +1,6 @@
 -- A world settles: its steps are made in rounds until none is enabled.
 use Rattle.std.specs.Prelude.{ℕ, zero, suc, ◌+◌, ◌-◌, ◌*◌, List, [], ◌∷◌, length, Bool, not, Option, Some, None}
 use Rattle.std.specs.List.{list_all}
-use Rattle.session_model.specs.History.{Entry}
 use Rattle.session_model.specs.Journal.{Live, live_of}
 use Rattle.world_model.specs.declared.events.Act.{Act}
 use Rattle.world_model.specs.declared.events.Act.TheVariants as act
@@ -12,7 +11,7 @@ use Rattle.world_model.specs.World.{World, done, can}
 abbrev pub order : List Act
 order = act.Up ∷ act.Recv ∷ act.Handle ∷ act.Load ∷ act.Advance ∷ act.Send ∷ act.Take ∷ []
 
--- how often a round makes a step at most: once for each message that lies where the step takes from
+-- how often a round makes a step at most: once for each text or request that lies where the step takes from
 abbrev pub times_of : Client → Act → ℕ
 times_of c act.Up = length c.waiting
 times_of c act.Recv = length c.upward

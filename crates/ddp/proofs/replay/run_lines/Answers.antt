@@ -1,9 +1,9 @@
-use Rattle.std.proofs.Common.{◌≡◌, ◌++◌, ◌+◌, true, ap, sym, subst, ◌∙◌, arith}
-use Rattle.std.specs.Prelude.{is_some, length}
+use Rattle.std.proofs.Common.{◌++◌, ◌+◌, true, ap, sym, subst, ◌∙◌, arith}
+use Rattle.std.specs.Prelude.{is_some}
 use Rattle.world_model.specs.Run.{AreEvents}
 use Rattle.ddp.specs.Input.{lines_in}
 use Rattle.ddp.specs.Replay.{bad_line, events_of, RunsLine}
-use Rattle.ddp.proofs.Turns.{whole, turned, Turned}
+use Rattle.ddp.proofs.Turns.{whole, turned}
 use Rattle.ddp.proofs.replay.run_lines.Goals as goal
 
 pub loop-rest-preserved : goal.loop-rest-preserved

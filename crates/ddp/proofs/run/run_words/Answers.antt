@@ -1,4 +1,4 @@
-use Rattle.std.proofs.Common.{◌≡◌, ℕ, true, false, List, take, ap, sym, subst, ◌∙◌}
+use Rattle.std.proofs.Common.{ℕ, true, false, List, take, ap, sym, subst, ◌∙◌}
 use Rattle.std.specs.Prelude.{is_some}
 use Rattle.io_edge.specs.Outside.{Grows}
 use Rattle.io_edge.specs.Whole.{written_before}

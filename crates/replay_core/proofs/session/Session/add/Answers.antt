@@ -1,8 +1,8 @@
 use Rattle.std.proofs.Common.{◌≡◌, ◌∷◌, [], ◌++◌, refl, ap, ◌∙◌}
-use Rattle.std.specs.Prelude.{option_to_list, is_ok, if◌then◌else◌}
-use Rattle.session_model.specs.Out.{own_message}
-use Rattle.replay_core.specs.Sessions.{with_session}
-use Rattle.replay_core.proofs.Sessions.{with_item_is, messages_are, stands_after, live_ref}
+use Rattle.std.specs.Prelude.{option_map, option_to_list, is_ok, if◌then◌else◌}
+use Rattle.replay_core.specs.Sessions.{as_live, text_of_item, with_session}
+use Rattle.replay_core.proofs.Items.{item_text_is}
+use Rattle.replay_core.proofs.Sessions.{with_item_is, texts_are, stands_after, live_ref}
 use Rattle.replay_core.proofs.session.Session.add.Goals as goal
 
 pub returns-clause-added : goal.returns-clause-added
@@ -14,11 +14,12 @@ returns-clause-added c cl =
     c.push.ensures.items
     ∙ (ap (λ r. if is_ok r then c.reserve.new.self.items ++ c.args.item ∷ [] else c.reserve.new.self.items) c.unwrap.ensures
     ∙ ap (λ xs. xs ++ c.args.item ∷ []) c.reserve.ensures.items) in
-    let own_is = c.in_ok-own.ensures ∙ ap (λ live. own_message old.number live c.args.item) (live_ref c.as_ref.result old.live c.as_ref.ensures.value) in
-    let messages = messages_are store old c.args.item own c.args.rows c.push_own.new.messages c.requires.stands c.requires.rows own_is
-    (c.in_ok-push_own.ensures ∙ ap (λ ms. ms ++ option_to_list own) c.in_ok-messages.ensures) in
+    let own_is = item_text_is old.number (option_map as_live old.live) c.args.item (option_to_list own)
+    (c.in_ok-own.ensures ∙ ap (λ live. text_of_item old.number live c.args.item) (live_ref c.as_ref.result old.live c.as_ref.ensures.value)) in
+    let texts = texts_are store old c.args.item own c.args.rows c.push_own.new.texts c.requires.stands c.requires.rows own_is
+    (c.in_ok-push_own.ensures ∙ ap (λ ts. ts ++ option_to_list own) c.in_ok-texts.ensures) in
     with_item_is store.app store.history (with_session cl old) c.args.item c.push.new.self.items c.append.new.self journal
-    (c.in_ok-append.ensures.ok ∙ ap (λ ms. old.outbox ++ ms) messages)
+    (c.in_ok-append.ensures.ok ∙ ap (λ ts. old.outbox ++ ts) texts)
 
 pub returns-clause-stands : goal.returns-clause-stands
 returns-clause-stands c =
@@ -27,4 +28,4 @@ returns-clause-stands c =
     c.push.ensures.items
     ∙ (ap (λ r. if is_ok r then c.reserve.new.self.items ++ c.args.item ∷ [] else c.reserve.new.self.items) c.unwrap.ensures
     ∙ ap (λ xs. xs ++ c.args.item ∷ []) c.reserve.ensures.items) in
-    stands_after c.args.store.now old.journal.items c.args.item c.args.live c.args.rows c.requires.live c.requires.rows _ journal refl refl
+    stands_after c.args.store.now old c.args.item c.args.live c.args.rows c.requires.stands c.requires.live c.requires.rows _ journal c.connected_after-is_connected.ensures c.failed_after-has_failed.ensures refl refl

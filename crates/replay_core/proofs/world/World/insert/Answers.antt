@@ -11,4 +11,4 @@ invariant_of-self-2 c =
     let entry : Entry = record { key = c.args.key.now; doc = c.args.doc.now } in
     let known = sym (c.has_collection.ensures ∙ ap (λ app. has_collection app c.args.key.now.collection) c.app.ensures) ∙ c.if-not-has_collection.false in
     let free = none_there c.get.result _ c.get.ensures (sym c.is_some.ensures ∙ c.if-is_some.false) in
-    kept_insert old c.insert.new.self entry c.known.ensures.names c.self.invariant (ap₂ (λ a b. a && b) known free) c.in_ok-insert.ensures.ok
+    kept_insert old c.insert.new.self entry c.requires c.self.invariant (ap₂ (λ a b. a && b) known free) c.in_ok-insert.ensures.ok

@@ -14,7 +14,7 @@ loop-preserved c = (
 
 pub returns-then-not-made-clause-settled : goal.returns-then-not-made-clause-settled
 returns-then-not-made-clause-settled c =
-    settles_after c.loop.invariant.0.0 c.args.self.now c.loop.self c.round.new.self c.loop.invariant.0.1 c.in_ok-made.ensures.ok
+    settles_after c.loop.invariant.0.0 c.args.self.now c.loop.self c.round.new.self c.reached.ensures c.loop.invariant.0.1 c.in_ok-made.ensures.ok
     (subst (λ b. OnFalse b (c.round.new.self ≡ c.loop.self)) c.if-not-made.true c.in_ok-made.ensures.idle)
 
 pub returns-then-not-made-clause-steps : goal.returns-then-not-made-clause-steps

@@ -1,6 +1,6 @@
 use Rattle.std.proofs.Common.{sym, ◌∙◌}
 use Rattle.replay_core.proofs.Forms.{doc_first}
-use Rattle.replay_core.proofs.event.doc_alone.Goals as goal
+use Rattle.replay_core.proofs.grammar.doc_alone.Goals as goal
 
 pub returns-then-is_nil : goal.returns-then-is_nil
 returns-then-is_nil c =
