@@ -42,10 +42,10 @@ has_no_params no_vals = true
 has_no_params (val (list vs) rest) = is_nil rest && is_nil vs
 has_no_params _ = false
 
--- a subscription to a publication of the application, its id of at most 256 bytes
+-- a subscription to a publication of the application, its id and the publication's name of at most 256 bytes (an application's names have at most 128)
 abbrev pub sub_with : App → List ℕ → List ℕ → List ℕ → Vals → Option Event
 sub_with app who id name params =
-    if has_no_params params && nat_lt (length id) 257 && is_some (publication app name) then Some (event.Sub who id name) else None
+    if has_no_params params && nat_lt (length id) 257 && nat_lt (length name) 257 && is_some (publication app name) then Some (event.Sub who id name) else None
 
 -- `["sub",client,id,name]` and `["sub",client,id,name,[]]`, after the word
 abbrev pub sub_in : App → Vals → Option Event

@@ -14,8 +14,8 @@ use std::marker::Model;
 use world_model::events::Event as Happening;
 
 /// An event of the program, as a line describes it. A contract sees it as what happens: an id of a
-/// subscription has at most 256 bytes, a document is one that a store keeps, and a text that is
-/// sent as it stands asks for nothing.
+/// subscription and the name of its publication have at most 256 bytes, a document is one that a
+/// store keeps, and a text that is sent as it stands asks for nothing.
 #[derive(Debug, Drop)]
 pub struct Event {
     happening: Happening,

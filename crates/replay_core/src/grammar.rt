@@ -1,5 +1,5 @@
 //! What the lines of events look like.
-ghost use Rattle.std.specs.Prelude.{◌≡◌, IfOk, IfSome, MatchOption, Some, None, nat_le, if◌then◌else◌, option_copied, option_map};
+ghost use Rattle.std.specs.Prelude.{◌≡◌, length, nat_lt, IfOk, IfSome, MatchOption, Some, None, nat_le, if◌then◌else◌, option_copied, option_map};
 ghost use Rattle.value_model.specs.Val.{vals_of, val, no_vals};
 ghost use Rattle.value_model.specs.Depth.{depth};
 ghost use Rattle.ejson_value.specs.View.{view, views};
@@ -94,6 +94,13 @@ fn has_no_params(values: &[Value]) -> bool
     }
 }
 
+// Whether the text has at most 256 bytes.
+fn is_short(text: &Text) -> bool
+    ensures { result ≡ nat_lt (length text.now) 257 }
+{
+    text.len() < 257
+}
+
 // The subscription of these parts.
 fn sub_with(
     app: &App,
@@ -105,7 +112,7 @@ fn sub_with(
     ensures found { IfOk result (λ e. e ≡ sub_with app.now client.now id.now name.now (vals_of (views params.now))) }
     ensures events { IfOk result (λ e. IfSome e IsEvent) }
 {
-    if has_no_params(params) && id.len() < 257 && app.publication(name).is_some() {
+    if has_no_params(params) && is_short(id) && is_short(name) && app.publication(name).is_some() {
         Ok(Some(Event::Sub {
             client: client.copy()?,
             id: id.copy()?,

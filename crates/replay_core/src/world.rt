@@ -235,7 +235,8 @@ impl World {
 
     // The client subscribes.
     fn sub(&mut self, who: &Text, id: &Text, name: &Text) -> Result<bool, Mem>
-        requires { IsShort id.now }
+        requires id { IsShort id.now }
+        requires name { IsShort name.now }
         ensures done { IfOk result (λ done. done ≡ subscribed self.old.app self.old.client who.now name.now) }
         ensures ok { OnOk result (self.new ≡ record self.old { client = after_sub self.old.app who.now id.now name.now self.old.client }) }
         ensures err { OnErr result (self.new ≡ self.old) }

@@ -22,7 +22,7 @@ use Rattle.world_model.specs.Client.{Client, Sub}
 use Rattle.world_model.specs.Taking.{readied, rows_in}
 use Rattle.world_model.specs.World.{World, start}
 use Rattle.world_model.specs.Run.{run, AreEvents, Reachable, IsAtEnd, IsQuiescent, whole, opened_ids, sub_ids, IsAnswered, IsWhole, HoldsOf, IsTrueWorld}
-use Rattle.world_model.specs.Kept.{rows_after, sub_after, unready, IsKept}
+use Rattle.world_model.specs.Kept.{asked, requested, rows_after, sub_after, unready, IsKept}
 use Rattle.world_model.specs.CalmLaws.{AreCalm}
 use Rattle.world_model.specs.RunLaws.{IsKeptWorld, run_keeps, start_kept, reachable_is_kept, subs_told, journal_calm}
 
@@ -68,6 +68,9 @@ quiescent_is_whole app h c entries k q =
     let ready : ready_ids (out app c.number h c.journal) ≡ opened_ids live =
     ready_ids-out_from app c.number (length h) h false None c.journal k.fits ∙ loaded_at_end (length h) live q.at_end in
     let calm : AreCalm (messages_in l.taken) = subst AreCalm (sym all) (journal_calm app c.number h c.journal c.received k.begun k.fits) in
+    let handled : opened_ids live ≡ sub_ids c.sub =
+    sym (append-nil (opened_ids live))
+    ∙ (ap (λ ids. opened_ids live ++ ids) (sym (ap (λ q. requested q ++ (asked c.upward ++ asked c.waiting)) q.queue ∙ (ap (λ up. asked up ++ asked c.waiting) q.upward ∙ ap asked q.waiting))) ∙ k.one_sub) in
     record {
       rows =
           l.rows
@@ -75,7 +78,7 @@ quiescent_is_whole app h c entries k q =
           ∙ (ap (λ ms. all_taken text_cmp key_cmp [] (data_of ms)) all
           ∙ (out-taken app c.number (length h) h c.journal entries k.fits ∙ shown_at_end app h live q.at_end)));
       answered = ready;
-      ready = λ handled. subst IsAnswered (sym l.sub) (answered c.sub (messages_in l.taken) calm (ap ready_ids all ∙ (ready ∙ handled)));
+      ready = subst IsAnswered (sym l.sub) (answered c.sub (messages_in l.taken) calm (ap ready_ids all ∙ (ready ∙ handled)));
     }
 
 by_client : (app : App) (h : List Entry) (o : Option Client) → AreEntries h → HoldsOf o (IsKept app h) → HoldsOf o (λ c. IsQuiescent h c → IsWhole app h c)

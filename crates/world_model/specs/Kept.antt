@@ -1,5 +1,5 @@
 -- What every event keeps of a client and its session.
-use Rattle.std.specs.Prelude.{◌≡◌, ◌⊎◌, ℕ, List, [], ◌∷◌, ◌++◌, length, false, Option, Some, None, Result, Ok, Err}
+use Rattle.std.specs.Prelude.{◌≡◌, ◌⊎◌, ℕ, List, [], ◌∷◌, ◌++◌, length, nat_lt, false, Option, Some, None, Result, Ok, Err}
 use Rattle.ejson_value.specs.Rows.{Rows}
 use Rattle.ddp_messages.specs.Answers.{client_answer}
 use Rattle.ddp_messages.specs.ClientMessage.{ClientMessage}
@@ -14,6 +14,7 @@ use Rattle.session_model.specs.App.{App}
 use Rattle.session_model.specs.History.{Entry}
 use Rattle.session_model.specs.Journal.{live_of, Fits}
 use Rattle.session_model.specs.Texts.{messages_in}
+use Rattle.session_model.specs.Answers.{max_text}
 use Rattle.session_model.specs.Out.{out_texts}
 use Rattle.world_model.specs.declared.subs.SubState.TheVariants as state
 use Rattle.world_model.specs.Client.{Client, Sub, connect_text}
@@ -72,9 +73,17 @@ pub record IsLinked (app : App) (history : List Entry) (c : Client) : Type 0 whe
   pub sub : c.sub ≡ sub_after (unready c.sub) (messages_in taken)
   pub unfailed : c.is_failed ≡ false
 
--- at most the client's subscription
-abbrev pub AtMost : List (List ℕ) → Option Sub → Type 0
-AtMost ids sub = (ids ≡ []) ⊎ (ids ≡ sub_ids sub)
+-- a text that asks for nothing, or that a session reads
+abbrev pub IsHeard : List ℕ → Type 0
+IsHeard t = (asked_in (client_answer t) ≡ []) ⊎ (nat_lt max_text (length t) ≡ false)
+
+abbrev pub AreHeard : List (List ℕ) → Type 0
+AreHeard [] = Unit {0}
+AreHeard (t ∷ ts) = IsHeard t × AreHeard ts
+
+-- the journal begins with the answer to a `connect`
+abbrev pub HasConnected : List Item → Type 0
+HasConnected journal = (items : List Item) × (journal ≡ item.Connect ∷ items)
 
 pub record IsKept (app : App) (history : List Entry) (c : Client) : Type 0 where
   -- each item of the journal could follow those before it
@@ -84,7 +93,9 @@ pub record IsKept (app : App) (history : List Entry) (c : Client) : Type 0 where
   pub begun : HasBegun c.journal c.received
   pub more : List (List ℕ)
   pub first : c.received ++ (c.upward ++ c.waiting) ≡ connect_text ∷ more
-  -- at most one subscription is on its way or there, and what waits to be handled is of a session that is connected
-  pub one_sub : AtMost (opened_ids (live_of c.journal) ++ (requested c.queue ++ (asked c.upward ++ asked c.waiting))) c.sub
+  -- the client's subscription is on its way or there, once, in texts that the session reads, and nothing of it is sent before the session is connected
+  pub one_sub : opened_ids (live_of c.journal) ++ (requested c.queue ++ (asked c.upward ++ asked c.waiting)) ≡ sub_ids c.sub
   pub short : AreShort (requested c.queue)
-  pub queued : (c.queue ≡ []) ⊎ ((items : List Item) × (c.journal ≡ item.Connect ∷ items))
+  pub queued : (c.queue ≡ []) ⊎ HasConnected c.journal
+  pub heard : AreHeard (c.upward ++ c.waiting)
+  pub asking : (asked c.upward ++ asked c.waiting ≡ []) ⊎ HasConnected c.journal

@@ -30,8 +30,8 @@ use Rattle.world_model.specs.Client.{Client, Sub, connect_text}
 use Rattle.world_model.specs.Taking.{max_server_text, message_refusal, session_in, answers_in, turned, ended_by, readied, sub_in, rows_in, told, told_unless, told_answer, breaks}
 use Rattle.world_model.specs.Acts.{guarded, has_room, has_failed, link_limit, with_item, moves_up, after_taking, receives, handles, loads, loads_at, advances, advances_from, sends, takes, acts}
 use Rattle.world_model.specs.Run.{opened_ids, sub_ids}
-use Rattle.world_model.specs.Kept.{asked_in, asked, requested, session_after, sub_after, rows_after, unready, HasBegun, IsLinked, AtMost, IsKept}
-use Rattle.world_model.specs.TextLaws.{IsAnswerItem, IsTakenWell, text_taken_well, connect_taken}
+use Rattle.world_model.specs.Kept.{asked_in, asked, requested, session_after, sub_after, rows_after, unready, HasBegun, HasConnected, IsHeard, AreHeard, IsLinked, IsKept}
+use Rattle.world_model.specs.TextLaws.{IsAnswerItem, IsTakenWell, text_taken_well, connect_taken, connect_read}
 use Rattle.world_model.specs.CalmLaws.{IsCalm, AreCalm, calm_at, stays_connected, out_calm}
 
 pub guarded_holds : (P : Client → Type 0) (b : Bool) (d : Client) → (b ≡ true → P d) → IfSome (guarded b d) P
@@ -102,34 +102,27 @@ asked-answers (server.updated methods) = refl
 asked-answers (server.refused reason offending) = refl
 asked-answers server.unknown = refl
 
--- ---- at most one subscription
+-- what a client answers by itself is heard
+heard-answers : (m : ServerMessage) → AreHeard (answers_in m)
+heard-answers (server.connected name) = tt
+heard-answers (server.failed version) = tt
+heard-answers (server.ping id) = (inl (ap asked_in (client_text_back (client.pong id) tt tt)), tt)
+heard-answers (server.pong id) = tt
+heard-answers (server.nosub id fault) = tt
+heard-answers (server.ready subs) = tt
+heard-answers (server.about m) = tt
+heard-answers (server.finished id fault value) = tt
+heard-answers (server.updated methods) = tt
+heard-answers (server.refused reason offending) = tt
+heard-answers server.unknown = tt
 
--- fewer ids are at most that one, too
-shorter : {A : Type 0} (xs ys zs : List A) (a : A) → xs ++ (ys ++ zs) ≡ a ∷ [] → (xs ++ zs ≡ []) ⊎ (xs ++ zs ≡ a ∷ [])
-shorter [] [] zs a e = inr e
-shorter [] (y ∷ []) [] a e = inl refl
-shorter [] (y ∷ []) (z ∷ zs) a e = cc e
-shorter [] (y ∷ w ∷ ys) zs a e = cc e
-shorter (x ∷ []) [] [] a e = inr e
-shorter (x ∷ []) [] (z ∷ zs) a e = cc e
-shorter (x ∷ []) (y ∷ ys) zs a e = cc e
-shorter (x ∷ w ∷ xs) ys zs a e = cc e
+pub AreHeard-append : (xs ys : List (List ℕ)) → AreHeard xs → AreHeard ys → AreHeard (xs ++ ys)
+AreHeard-append [] ys a b = b
+AreHeard-append (x ∷ xs) ys a b = (a.0, AreHeard-append xs ys a.1 b)
 
-no_ids : {A : Type 0} (xs ys zs : List A) → xs ++ (ys ++ zs) ≡ [] → xs ++ zs ≡ []
-no_ids [] [] zs e = e
-no_ids [] (y ∷ ys) zs e = cc e
-no_ids (x ∷ xs) ys zs e = cc e
+-- ---- one subscription
 
-pub fewer : (xs ys zs : List (List ℕ)) (s : Option Sub) → AtMost (xs ++ (ys ++ zs)) s → AtMost (xs ++ zs) s
-fewer xs ys zs s (inl e) = inl (no_ids xs ys zs e)
-fewer xs ys zs None (inr e) = inl (no_ids xs ys zs e)
-fewer xs ys zs (Some s) (inr e) = shorter xs ys zs s.id e
-
-pub as_many : (xs ys : List (List ℕ)) (s t : Option Sub) → xs ≡ ys → sub_ids s ≡ sub_ids t → AtMost xs s → AtMost ys t
-as_many xs ys s t e f (inl n) = inl (sym e ∙ n)
-as_many xs ys s t e f (inr i) = inr (sym e ∙ (i ∙ f))
-
--- of one subscription at most, one that is still asked for is not open
+-- one that is still asked for is not open
 before_one : {A : Type 0} (xs : List A) (y : A) (zs : List A) (a : A) → xs ++ (y ∷ zs) ≡ a ∷ [] → xs ≡ []
 before_one [] y zs a e = refl
 before_one (x ∷ []) y zs a e = cc e
@@ -139,10 +132,9 @@ not_none : {A : Type 0} (xs : List A) (y : A) (zs : List A) → xs ++ (y ∷ zs)
 not_none [] y zs e = refl
 not_none (x ∷ xs) y zs e = cc e
 
-none_before : (xs : List (List ℕ)) (y : List ℕ) (zs : List (List ℕ)) (s : Option Sub) → AtMost (xs ++ (y ∷ zs)) s → xs ≡ []
-none_before xs y zs s (inl e) = not_none xs y zs e
-none_before xs y zs None (inr e) = not_none xs y zs e
-none_before xs y zs (Some s) (inr e) = before_one xs y zs s.id e
+none_before : (xs : List (List ℕ)) (y : List ℕ) (zs : List (List ℕ)) (s : Option Sub) → xs ++ (y ∷ zs) ≡ sub_ids s → xs ≡ []
+none_before xs y zs None e = not_none xs y zs e
+none_before xs y zs (Some s) e = before_one xs y zs s.id e
 
 pub none_opened : (live : Option Live) → opened_ids live ≡ [] → live ≡ None
 none_opened None e = refl
@@ -195,6 +187,15 @@ module _ (app : App) (h : List Entry) where
   item_linked : (c : Client) (i : Item) → IsLinked app h c → IsLinked app h (with_item app h c i)
   item_linked c i l = record { taken = l.taken; links = item_links c i l.taken l.links; rows = l.rows; session = l.session; sub = l.sub; unfailed = l.unfailed }
 
+  -- a text that goes onto the link is asked for as before
+  moved_asked : (c : Client) (t : List ℕ) (ts : List (List ℕ)) → c.waiting ≡ t ∷ ts → asked (c.upward ++ t ∷ []) ++ asked ts ≡ asked c.upward ++ asked c.waiting
+  moved_asked c t ts e =
+      sym (asked-append (c.upward ++ t ∷ []) ts) ∙ (ap asked (append_assoc c.upward (t ∷ []) ts) ∙ (asked-append c.upward (t ∷ ts) ∙ ap (λ w. asked c.upward ++ asked w) (sym e)))
+
+  same_asking : (xs ys : List (List ℕ)) (journal : List Item) → xs ≡ ys → (ys ≡ []) ⊎ HasConnected journal → (xs ≡ []) ⊎ HasConnected journal
+  same_asking xs ys journal e (inl none) = inl (e ∙ none)
+  same_asking xs ys journal e (inr b) = inr b
+
   up_keeps : (c : Client) (ts : List (List ℕ)) → c.waiting ≡ ts → IsKept app h c → IfSome (moves_up c ts) (IsKept app h)
   up_keeps c [] e k = tt
   up_keeps c (t ∷ ts) e k = guarded_holds (IsKept app h) (nat_lt (length c.upward) link_limit) _ (λ _. record {
@@ -203,19 +204,16 @@ module _ (app : App) (h : List Entry) where
     begun = k.begun;
     more = k.more;
     first = ap (λ rest. c.received ++ rest) (append_assoc c.upward (t ∷ []) ts ∙ ap (λ w. c.upward ++ w) (sym e)) ∙ k.first;
-    one_sub =
-        as_many _ _ c.sub c.sub
-        (ap (λ ids. opened_ids (live_of c.journal) ++ (requested c.queue ++ ids))
-        (ap (λ w. asked c.upward ++ asked w) e
-        ∙ (sym (asked-append c.upward (t ∷ ts)) ∙ (ap asked (sym (append_assoc c.upward (t ∷ []) ts)) ∙ asked-append (c.upward ++ t ∷ []) ts))))
-        refl k.one_sub;
+    one_sub = ap (λ ids. opened_ids (live_of c.journal) ++ (requested c.queue ++ ids)) (moved_asked c t ts e) ∙ k.one_sub;
     short = k.short;
     queued = k.queued;
+    heard = subst AreHeard (ap (λ w. c.upward ++ w) e ∙ sym (append_assoc c.upward (t ∷ []) ts)) k.heard;
+    asking = same_asking _ _ c.journal (moved_asked c t ts e) k.asking;
   })
 
   -- an item that leaves open what is open
   item_keeps : (c : Client) (i : Item) → IsKept app h c → CanFollow (length h) (is_connected c.journal) (live_of c.journal) i → opened_ids (live_after (live_of c.journal) i) ≡ opened_ids (live_of c.journal) →
-      (items : List Item) × (c.journal ≡ item.Connect ∷ items) → IsKept app h (with_item app h c i)
+      HasConnected c.journal → IsKept app h (with_item app h c i)
   item_keeps c i k follows same b = record {
     fits = FitsFrom-append (length h) false None c.journal i k.fits follows;
     linked = λ u. item_linked c i (k.linked u);
@@ -223,40 +221,39 @@ module _ (app : App) (h : List Entry) where
     more = k.more;
     first = k.first;
     one_sub =
-        as_many _ _ c.sub c.sub
-        (ap (λ ids. ids ++ (requested c.queue ++ (asked c.upward ++ asked c.waiting))) (sym same)
-        ∙ ap (λ live. opened_ids live ++ (requested c.queue ++ (asked c.upward ++ asked c.waiting))) (sym (live_from-append None c.journal i)))
-        refl k.one_sub;
+        ap (λ live. opened_ids live ++ (requested c.queue ++ (asked c.upward ++ asked c.waiting))) (live_from-append None c.journal i)
+        ∙ (ap (λ ids. ids ++ (requested c.queue ++ (asked c.upward ++ asked c.waiting))) same ∙ k.one_sub);
     short = k.short;
     queued = inr (begun_with c.journal i b);
+    heard = k.heard;
+    asking = inr (begun_with c.journal i b);
   }
 
-  -- the client without the first text of its link to the server
-  received_keeps : (c : Client) (t : List ℕ) (ts : List (List ℕ)) → c.upward ≡ t ∷ ts → (items : List Item) × (c.journal ≡ item.Connect ∷ items) → IsKept app h c →
+  -- what was asked for without the first text of the link to the server, and the texts without it
+  asked_first : (c : Client) (t : List ℕ) (ts : List (List ℕ)) → c.upward ≡ t ∷ ts → asked c.upward ++ asked c.waiting ≡ asked_in (client_answer t) ++ (asked ts ++ asked c.waiting)
+  asked_first c t ts e = ap (λ up. asked up ++ asked c.waiting) e ∙ append_assoc (asked_in (client_answer t)) (asked ts) (asked c.waiting)
+
+  heard_first : (c : Client) (t : List ℕ) (ts : List (List ℕ)) → c.upward ≡ t ∷ ts → AreHeard (c.upward ++ c.waiting) → IsHeard t × AreHeard (ts ++ c.waiting)
+  heard_first c t ts e all = subst (λ up. AreHeard (up ++ c.waiting)) e all
+
+  -- the client without the first text of its link to the server, which asks for nothing
+  received_keeps : (c : Client) (t : List ℕ) (ts : List (List ℕ)) → c.upward ≡ t ∷ ts → HasConnected c.journal → asked_in (client_answer t) ≡ [] → IsKept app h c →
       IsKept app h (record c { upward = ts; received = c.received ++ t ∷ [] })
-  received_keeps c t ts e b k = record {
+  received_keeps c t ts e b none k = record {
     fits = k.fits;
     linked = λ u. let l = k.linked u in record { taken = l.taken; links = l.links; rows = l.rows; session = l.session; sub = l.sub; unfailed = l.unfailed };
     begun = inr b;
     more = k.more;
     first = append_assoc c.received (t ∷ []) (ts ++ c.waiting) ∙ (ap (λ up. c.received ++ (up ++ c.waiting)) (sym e) ∙ k.first);
-    one_sub =
-        let o = opened_ids (live_of c.journal) in
-        let q = requested c.queue in
-        let x = asked_in (client_answer t) in
-        let rest = asked ts ++ asked c.waiting in
-        as_many _ _ c.sub c.sub (append_assoc o q rest) refl
-        (fewer (o ++ q) x rest c.sub
-        (as_many _ _ c.sub c.sub
-        (ap (λ up. o ++ (q ++ (asked up ++ asked c.waiting))) e
-        ∙ (ap (λ ids. o ++ (q ++ ids)) (append_assoc x (asked ts) (asked c.waiting)) ∙ sym (append_assoc o q (x ++ rest))))
-        refl k.one_sub));
+    one_sub = ap (λ ids. opened_ids (live_of c.journal) ++ (requested c.queue ++ ids)) (sym (asked_first c t ts e ∙ ap (λ x. x ++ (asked ts ++ asked c.waiting)) none)) ∙ k.one_sub;
     short = k.short;
     queued = inr b;
+    heard = (heard_first c t ts e k.heard).1;
+    asking = inr b;
   }
 
   -- a request that waits
-  queued_keeps : (c : Client) (t : List ℕ) (ts : List (List ℕ)) (r : Request) → c.upward ≡ t ∷ ts → (items : List Item) × (c.journal ≡ item.Connect ∷ items) →
+  queued_keeps : (c : Client) (t : List ℕ) (ts : List (List ℕ)) (r : Request) → c.upward ≡ t ∷ ts → HasConnected c.journal →
       asked_in (client_answer t) ≡ r.id ∷ [] → IsShort r.id → IsKept app h c → IsKept app h (record c { upward = ts; received = c.received ++ t ∷ []; queue = c.queue ++ r ∷ [] })
   queued_keeps c t ts r e b asks short k = record {
     fits = k.fits;
@@ -265,24 +262,24 @@ module _ (app : App) (h : List Entry) where
     more = k.more;
     first = append_assoc c.received (t ∷ []) (ts ++ c.waiting) ∙ (ap (λ up. c.received ++ (up ++ c.waiting)) (sym e) ∙ k.first);
     one_sub =
-        let o = opened_ids (live_of c.journal) in
         let q = requested c.queue in
         let rest = asked ts ++ asked c.waiting in
-        as_many _ _ c.sub c.sub
-        (ap (λ up. o ++ (q ++ (asked up ++ asked c.waiting))) e
-        ∙ ap (λ ids. o ++ ids)
-        (ap (λ ids. q ++ ids) (append_assoc (asked_in (client_answer t)) (asked ts) (asked c.waiting) ∙ ap (λ x. x ++ rest) asks)
-        ∙ (sym (append_assoc q (r.id ∷ []) rest) ∙ ap (λ ids. ids ++ rest) (sym (requested-append c.queue (r ∷ []))))))
-        refl k.one_sub;
+        ap (λ ids. opened_ids (live_of c.journal) ++ ids)
+        (ap (λ ids. ids ++ rest) (requested-append c.queue (r ∷ []))
+        ∙ (append_assoc q (r.id ∷ []) rest
+        ∙ ap (λ ids. q ++ ids) (sym (asked_first c t ts e ∙ ap (λ x. x ++ rest) asks))))
+        ∙ k.one_sub;
     short = subst AreShort (sym (requested-append c.queue (r ∷ []))) (short_append (requested c.queue) (r.id ∷ []) k.short (short, tt));
     queued = inr b;
+    heard = (heard_first c t ts e k.heard).1;
+    asking = inr b;
   }
 
-  taken_keeps : (c : Client) (t : List ℕ) (ts : List (List ℕ)) (x : Taken) → c.upward ≡ t ∷ ts → (b : (items : List Item) × (c.journal ≡ item.Connect ∷ items)) →
+  taken_keeps : (c : Client) (t : List ℕ) (ts : List (List ℕ)) (x : Taken) → c.upward ≡ t ∷ ts → (b : HasConnected c.journal) →
       IsTakenWell (asked_in (client_answer t)) x → IsKept app h c → IsKept app h (after_taking app h (record c { upward = ts; received = c.received ++ t ∷ [] }) x)
   taken_keeps c t ts (at_once i) e b well k =
-      let f = answer_follows (length h) (live_of c.journal) i well in
-      item_keeps (record c { upward = ts; received = c.received ++ t ∷ [] }) i (received_keeps c t ts e b k)
+      let f = answer_follows (length h) (live_of c.journal) i well.0 in
+      item_keeps (record c { upward = ts; received = c.received ++ t ∷ [] }) i (received_keeps c t ts e b well.1 k)
       (subst (λ on. CanFollow (length h) on (live_of c.journal) i) (sym (begun_connected c.journal b.0 b.1)) f.0) (ap opened_ids f.1) b
   taken_keeps c t ts (to_queue r) e b well k = queued_keeps c t ts r e b well.0 well.1 k
 
@@ -290,9 +287,9 @@ module _ (app : App) (h : List Entry) where
   first_text t ts ws more received e f = let g : t ∷ (ts ++ ws) ≡ connect_text ∷ more = ap (λ r. r ++ ((t ∷ ts) ++ ws)) (sym e) ∙ f in cc g
 
   -- the client's own `connect`
-  connect_keeps : (c : Client) (t : List ℕ) (ts : List (List ℕ)) → c.upward ≡ t ∷ ts → c.journal ≡ [] → IsKept app h c →
+  connect_keeps : (c : Client) (t : List ℕ) (ts : List (List ℕ)) → c.upward ≡ t ∷ ts → c.journal ≡ [] → asked_in (client_answer t) ≡ [] → IsKept app h c →
       IsKept app h (with_item app h (record c { upward = ts; received = c.received ++ t ∷ [] }) item.Connect)
-  connect_keeps c t ts e none k =
+  connect_keeps c t ts e none none_asked k =
       let b : (items : List Item) × (c.journal ++ item.Connect ∷ [] ≡ item.Connect ∷ items) = ([], ap (λ j. j ++ item.Connect ∷ []) none) in
       record {
         fits = FitsFrom-append (length h) false None c.journal item.Connect k.fits (ap is_connected none);
@@ -304,18 +301,13 @@ module _ (app : App) (h : List Entry) where
         more = k.more;
         first = append_assoc c.received (t ∷ []) (ts ++ c.waiting) ∙ (ap (λ up. c.received ++ (up ++ c.waiting)) (sym e) ∙ k.first);
         one_sub =
-            let o = opened_ids (live_of c.journal) in
-            let q = requested c.queue in
-            let x = asked_in (client_answer t) in
             let rest = asked ts ++ asked c.waiting in
-            as_many _ _ c.sub c.sub (append_assoc o q rest ∙ ap (λ live. opened_ids live ++ (q ++ rest)) (sym (live_from-append None c.journal item.Connect))) refl
-            (fewer (o ++ q) x rest c.sub
-            (as_many _ _ c.sub c.sub
-            (ap (λ up. o ++ (q ++ (asked up ++ asked c.waiting))) e
-            ∙ (ap (λ ids. o ++ (q ++ ids)) (append_assoc x (asked ts) (asked c.waiting)) ∙ sym (append_assoc o q (x ++ rest))))
-            refl k.one_sub));
+            ap (λ live. opened_ids live ++ (requested c.queue ++ rest)) (live_from-append None c.journal item.Connect)
+            ∙ (ap (λ ids. opened_ids (live_of c.journal) ++ (requested c.queue ++ ids)) (sym (asked_first c t ts e ∙ ap (λ x. x ++ rest) none_asked)) ∙ k.one_sub);
         short = k.short;
         queued = inr b;
+        heard = (heard_first c t ts e k.heard).1;
+        asking = inr b;
       }
 
   recv_by : (c : Client) (t : List ℕ) (ts : List (List ℕ)) → c.upward ≡ t ∷ ts → HasBegun c.journal c.received → IsKept app h c →
@@ -323,10 +315,11 @@ module _ (app : App) (h : List Entry) where
   recv_by c t ts e (inl b) k =
       let own = first_text t ts c.waiting k.more c.received b.1 (ap (λ up. c.received ++ (up ++ c.waiting)) (sym e) ∙ k.first) in
       let is : taken_text (is_connected c.journal) t ≡ at_once item.Connect = ap₂ taken_text (ap is_connected b.0) own ∙ connect_taken in
-      subst (λ x. IsKept app h (after_taking app h (record c { upward = ts; received = c.received ++ t ∷ [] }) x)) (sym is) (connect_keeps c t ts e b.0 k)
+      subst (λ x. IsKept app h (after_taking app h (record c { upward = ts; received = c.received ++ t ∷ [] }) x)) (sym is)
+      (connect_keeps c t ts e b.0 (ap (λ x. asked_in (client_answer x)) own ∙ ap asked_in connect_read) k)
   recv_by c t ts e (inr b) k =
       taken_keeps c t ts (taken_text (is_connected c.journal) t) e b
-      (subst (λ on. IsTakenWell (asked_in (client_answer t)) (taken_text on t)) (sym (begun_connected c.journal b.0 b.1)) (text_taken_well t)) k
+      (subst (λ on. IsTakenWell (asked_in (client_answer t)) (taken_text on t)) (sym (begun_connected c.journal b.0 b.1)) (text_taken_well t (heard_first c t ts e k.heard).0)) k
 
   recv_keeps : (c : Client) (ts : List (List ℕ)) → c.upward ≡ ts → IsKept app h c → IfSome (receives app h c ts) (IsKept app h)
   recv_keeps c [] e k = tt
@@ -342,8 +335,8 @@ module _ (app : App) (h : List Entry) where
   handle_keeps c (r ∷ rs) e k =
       let i = item.Open 0 r.id r.name in
       let after = requested rs ++ (asked c.upward ++ asked c.waiting) in
-      let ids : AtMost (opened_ids (live_of c.journal) ++ (r.id ∷ after)) c.sub =
-      as_many _ _ c.sub c.sub (ap (λ q. opened_ids (live_of c.journal) ++ (requested q ++ (asked c.upward ++ asked c.waiting))) e) refl k.one_sub in
+      let ids : opened_ids (live_of c.journal) ++ (r.id ∷ after) ≡ sub_ids c.sub =
+      ap (λ q. opened_ids (live_of c.journal) ++ (requested q ++ (asked c.upward ++ asked c.waiting))) (sym e) ∙ k.one_sub in
       let none = none_before (opened_ids (live_of c.journal)) r.id after c.sub ids in
       let b = waits_begun c.queue rs r c.journal e k.queued in
       let short : AreShort (r.id ∷ requested rs) = subst (λ q. AreShort (requested q)) e k.short in
@@ -355,12 +348,11 @@ module _ (app : App) (h : List Entry) where
         begun = inr (begun_with c.journal i b);
         more = k.more;
         first = k.first;
-        one_sub =
-            as_many _ _ c.sub c.sub
-            (ap (λ xs. xs ++ (r.id ∷ after)) none ∙ ap (λ live. opened_ids live ++ after) (sym (live_from-append None c.journal i)))
-            refl ids;
+        one_sub = ap (λ live. opened_ids live ++ after) (live_from-append None c.journal i) ∙ (ap (λ xs. xs ++ (r.id ∷ after)) (sym none) ∙ ids);
         short = short.1;
         queued = inr (begun_with c.journal i b);
+        heard = k.heard;
+        asking = inr (begun_with c.journal i b);
       })
 
   load_keeps : (c : Client) (live : Live) (cursor : Option ℕ) → live_of c.journal ≡ Some live → live.cursor ≡ cursor → IsKept app h c → IfSome (loads_at app h c live cursor) (IsKept app h)
@@ -414,6 +406,8 @@ module _ (app : App) (h : List Entry) where
     one_sub = k.one_sub;
     short = k.short;
     queued = k.queued;
+    heard = k.heard;
+    asking = k.asking;
   })
 
   pub take_links : (c : Client) (t : List ℕ) (ts : List (List ℕ)) → c.downward ≡ t ∷ ts → (l : IsLinked app h c) → l.taken ++ (t ∷ (ts ++ c.outbox)) ≡ out_texts app c.number h c.journal
@@ -430,6 +424,8 @@ module _ (app : App) (h : List Entry) where
     one_sub = k.one_sub;
     short = k.short;
     queued = k.queued;
+    heard = k.heard;
+    asking = k.asking;
   }
 
   told_linked : (c : Client) (t : List ℕ) (ts : List (List ℕ)) → c.downward ≡ t ∷ ts → IsCalm (message_in t) → IsLinked app h c → IsLinked app h (told (record c { downward = ts }) (message_in t))
@@ -448,6 +444,10 @@ module _ (app : App) (h : List Entry) where
         unfailed = quiet.unfailed c.is_failed ∙ l.unfailed;
       }
 
+  -- a client that answers by itself asks for nothing more
+  told_asked : (c : Client) (m : ServerMessage) → asked (c.waiting ++ answers_in m) ≡ asked c.waiting
+  told_asked c m = asked-append c.waiting (answers_in m) ∙ (ap (λ ids. asked c.waiting ++ ids) (asked-answers m) ∙ append-nil (asked c.waiting))
+
   told_keeps : (c : Client) (t : List ℕ) (ts : List (List ℕ)) → c.downward ≡ t ∷ ts → IsCalm (message_in t) → IsKept app h c → IsKept app h (told (record c { downward = ts }) (message_in t))
   told_keeps c t ts e quiet k = let m = message_in t in record {
     fits = k.fits;
@@ -458,12 +458,12 @@ module _ (app : App) (h : List Entry) where
         ap (λ rest. c.received ++ rest) (sym (append_assoc c.upward c.waiting (answers_in m)))
         ∙ (sym (append_assoc c.received (c.upward ++ c.waiting) (answers_in m)) ∙ ap (λ xs. xs ++ answers_in m) k.first);
     one_sub =
-        as_many _ _ c.sub (sub_in c.sub m)
-        (ap (λ ids. opened_ids (live_of c.journal) ++ (requested c.queue ++ (asked c.upward ++ ids)))
-        (sym (append-nil (asked c.waiting)) ∙ (ap (λ ids. asked c.waiting ++ ids) (sym (asked-answers m)) ∙ sym (asked-append c.waiting (answers_in m)))))
-        (sym (sub_in_keeps c.sub m).0) k.one_sub;
+        ap (λ ids. opened_ids (live_of c.journal) ++ (requested c.queue ++ (asked c.upward ++ ids))) (told_asked c m)
+        ∙ (k.one_sub ∙ sym (sub_in_keeps c.sub m).0);
     short = k.short;
     queued = k.queued;
+    heard = subst AreHeard (append_assoc c.upward c.waiting (answers_in m)) (AreHeard-append (c.upward ++ c.waiting) (answers_in m) k.heard (heard-answers m));
+    asking = same_asking _ _ c.journal (ap (λ ids. asked c.upward ++ ids) (told_asked c m)) k.asking;
   }
 
   told_unless_keeps : (c : Client) (t : List ℕ) (ts : List (List ℕ)) (o : Option ℕ) → c.downward ≡ t ∷ ts → IsCalm (message_in t) → IsKept app h c →

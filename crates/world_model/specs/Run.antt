@@ -99,10 +99,10 @@ abbrev pub asks_in : Result ClientMessage MsgFault → Bool
 asks_in (Ok m) = asks m
 asks_in (Err e) = false
 
--- An id of a subscription has at most 256 bytes, a document is as those of a store, and a text that is sent as it stands asks for nothing.
+-- An id of a subscription and the name of its publication have at most 256 bytes each, a document is as those of a store, and a text that is sent as it stands asks for nothing.
 abbrev pub IsEvent : Event → Type 0
 IsEvent (event.Client name) = Unit {0}
-IsEvent (event.Sub who id name) = IsShort id
+IsEvent (event.Sub who id name) = IsShort id × IsShort name
 IsEvent (event.Raw who t) = asks_in (client_answer t) ≡ false
 IsEvent (event.Insert key doc) = IsStored key doc
 IsEvent (event.Do who a) = Unit {0}
@@ -152,11 +152,11 @@ IsAnswered None = Unit {0}
 IsAnswered (Some s) = s.state ≡ state.Ready
 
 -- What holds of a quiescent session: its client's documents are those of the live publication over the store; each subscription that was
--- handled has its `ready`, once; and the client's own subscription, once it was handled, is ready.
+-- handled has its `ready`, once; and the client's own subscription is ready.
 pub record IsWhole (app : App) (history : List Entry) (c : Client) : Type 0 where
   pub rows : c.rows ≡ whole app history (live_of c.journal)
   pub answered : ready_ids (out app c.number history c.journal) ≡ opened_ids (live_of c.journal)
-  pub ready : opened_ids (live_of c.journal) ≡ sub_ids c.sub → IsAnswered c.sub
+  pub ready : IsAnswered c.sub
 
 abbrev pub HoldsOf : Option Client → (Client → Type 0) → Type 0
 HoldsOf None P = Unit {0}

@@ -1,5 +1,5 @@
 -- Every event keeps the world: a legal history, and what is kept of the client.
-use Rattle.std.specs.Prelude.{◌≡◌, ℕ, zero, suc, ◌+◌, List, [], ◌∷◌, ◌++◌, length, Bool, true, false, cond, Option, Some, None, IfSome, IsTrue, is_some, is_none, unwrap_or, ◌&&◌, Result, Ok, Err, refl}
+use Rattle.std.specs.Prelude.{◌≡◌, ◌⊎◌, ℕ, zero, suc, ◌+◌, List, [], ◌∷◌, ◌++◌, length, Bool, true, false, cond, Option, Some, None, IfSome, IsTrue, is_some, is_none, unwrap_or, ◌&&◌, Result, Ok, Err, refl}
 use Rattle.std.proofs.Common.{ap, sym, subst, ◌∙◌, arith, append-nil, inl, inr}
 use Rattle.std.proofs.lemmas.List.{length-append, append_assoc, map-append}
 use Rattle.map_model.specs.Maps.{at}
@@ -18,7 +18,7 @@ use Rattle.session_model.specs.History.{Entry, applied, after, contents, can_ins
 use Rattle.session_model.specs.HistoryLaws.{AreEntries-append}
 use Rattle.session_model.specs.Texts.{messages_in}
 use Rattle.session_model.specs.Journal.{live_of, Fits, loaded_ids}
-use Rattle.session_model.specs.Out.{out, ready_in, ready_ids}
+use Rattle.session_model.specs.Out.{out, out_texts, ready_in, ready_ids}
 use Rattle.session_model.specs.OutLaws.{out_texts-longer, FitsFrom-longer, ready_ids-append, ready_ids-out_from}
 use Rattle.session_model.specs.HeardLaws.{out_reads}
 use Rattle.world_model.specs.declared.events.Act.{Act}
@@ -31,10 +31,10 @@ use Rattle.world_model.specs.Acts.{guarded, acts}
 use Rattle.world_model.specs.World.{World, start, after_act, done}
 use Rattle.world_model.specs.Settle.{many, times, each, order, rounds, blocks, settled, texts, work}
 use Rattle.world_model.specs.Run.{after_client, sub_text, can_subscribe, subscribes, after_sub, asks_in, can_send, with_text, after_raw, is_called, after_named, step, run, IsEvent, AreEvents, Reachable, HoldsOf, opened_ids, sub_ids}
-use Rattle.world_model.specs.Kept.{asked_in, asked, requested, sub_after, HasBegun, IsLinked, AtMost, IsKept}
-use Rattle.world_model.specs.TextLaws.{connect_read, sub_read}
+use Rattle.world_model.specs.Kept.{asked_in, asked, requested, session_after, sub_after, HasBegun, HasConnected, AreHeard, IsLinked, IsKept}
+use Rattle.world_model.specs.TextLaws.{connect_read, sub_read, sub_heard}
 use Rattle.world_model.specs.CalmLaws.{AreCalm, calm_front, out_calm}
-use Rattle.world_model.specs.KeptLaws.{acts_keep, asked-append, none_opened}
+use Rattle.world_model.specs.KeptLaws.{acts_keep, asked-append, AreHeard-append, none_opened}
 
 pub record IsKeptWorld (w : World) : Type 0 where
   pub legal : IsLegal w.app w.history
@@ -84,9 +84,11 @@ new_kept app h name = record {
   begun = inl (refl, refl);
   more = [];
   first = refl;
-  one_sub = inl (ap (λ a. asked_in a ++ []) connect_read);
+  one_sub = ap (λ a. asked_in a ++ []) connect_read;
   short = tt;
   queued = inl refl;
+  heard = (inl (ap asked_in connect_read), tt);
+  asking = inl (ap (λ a. asked_in a ++ []) connect_read);
 }
 
 client_began : (app : App) (h : List Entry) (name : List ℕ) (o : Option Client) → HoldsOf o (IsKept app h) → HoldsOf (after_client name o) (IsKept app h)
@@ -134,14 +136,10 @@ nil_before : {A : Type 0} (xs ys : List A) → xs ++ ys ≡ [] → xs ≡ []
 nil_before [] ys e = refl
 nil_before (x ∷ xs) ys e = cc
 
-no_ids_left : (ids : List (List ℕ)) (sub : Option Sub) → AtMost ids sub → sub ≡ None → ids ≡ []
-no_ids_left ids sub (inl e) none = e
-no_ids_left ids sub (inr e) none = e ∙ ap sub_ids none
-
 -- a client without a subscription was told of none
 none_told : (app : App) (h : List Entry) (c : Client) (s : Option Sub) → AreEntries h → (k : IsKept app h c) → (l : IsLinked app h c) → c.sub ≡ None → sub_after s (messages_in l.taken) ≡ s
 none_told app h c s entries k l none =
-    let ids = no_ids_left _ c.sub k.one_sub none in
+    let ids = k.one_sub ∙ ap sub_ids none in
     let live = none_opened (live_of c.journal) (nil_before (opened_ids (live_of c.journal)) (requested c.queue ++ (asked c.upward ++ asked c.waiting)) ids) in
     let all = heard app h c entries k l in
     let ready : ready_ids (messages_in l.taken) ++ ready_ids (messages_in (c.downward ++ c.outbox)) ≡ [] =
@@ -168,12 +166,44 @@ text_asked c t ids e =
     inside : (a b d e f : List (List ℕ)) → a ++ (b ++ (d ++ (e ++ f))) ≡ (a ++ (b ++ (d ++ e))) ++ f
     inside a b d e f = simp append_assoc
 
-subscribe_keeps : (app : App) (h : List Entry) (c : Client) (id name : List ℕ) (b : Bool) → AreEntries h → IsShort id → (b ≡ true → c.sub ≡ None) → IsKept app h c →
+-- one more text that is heard waits
+text_heard : (c : Client) (t : List ℕ) → AreHeard (c.upward ++ c.waiting) → AreHeard (t ∷ []) → AreHeard (c.upward ++ (c.waiting ++ t ∷ []))
+text_heard c t all one = subst AreHeard (append_assoc c.upward c.waiting (t ∷ [])) (AreHeard-append (c.upward ++ c.waiting) (t ∷ []) all one)
+
+no_session : (o : Option (List ℕ)) → is_some o ≡ true → o ≡ None → ⊥
+no_session None e n = cc e
+no_session (Some s) e n = cc n
+
+-- a client that knows its session is one of a connected session
+session_begun : (app : App) (h : List Entry) (c : Client) → IsKept app h c → is_none c.broken ≡ true → is_some c.session ≡ true → HasConnected c.journal
+session_begun app h c k unbroken known = by k.begun
+  where
+    l : IsLinked app h c
+    l = k.linked (no_break c.broken unbroken)
+      where
+        no_break : (o : Option ℕ) → is_none o ≡ true → o ≡ None
+        no_break None e = refl
+        no_break (Some n) e = cc e
+
+    by : HasBegun c.journal c.received → HasConnected c.journal
+    by (inl b) =
+        let taken : l.taken ≡ [] = nil_before l.taken (c.downward ++ c.outbox) (l.links ∙ ap (out_texts app c.number h) b.0) in
+        absurd (no_session c.session known (l.session ∙ ap (λ ts. session_after None (messages_in ts)) taken))
+    by (inr b) = b
+
+-- what a client that subscribes is: it knows its session, isn't broken, and has no subscription
+record CanAsk (c : Client) : Type 0 where
+  pub session : is_some c.session ≡ true
+  pub unbroken : is_none c.broken ≡ true
+  pub none : c.sub ≡ None
+
+subscribe_keeps : (app : App) (h : List Entry) (c : Client) (id name : List ℕ) (b : Bool) → AreEntries h → IsShort id → IsShort name → (b ≡ true → CanAsk c) → IsKept app h c →
     IfSome (guarded b (record c { waiting = c.waiting ++ sub_text id name ∷ []; sub = Some (record { id = id; state = state.Waiting }) })) (IsKept app h)
-subscribe_keeps app h c id name false entries short none k = tt
-subscribe_keeps app h c id name true entries short none k =
+subscribe_keeps app h c id name false entries short named can k = tt
+subscribe_keeps app h c id name true entries short named can k =
     let s : Sub = record { id = id; state = state.Waiting } in
     let t = sub_text id name in
+    let ask = can refl in
     record {
       fits = k.fits;
       linked = λ u.
@@ -183,24 +213,35 @@ subscribe_keeps app h c id name true entries short none k =
             links = l.links;
             rows = l.rows;
             session = l.session;
-            sub = sym (none_told app h c (Some s) entries k l (none refl));
+            sub = sym (none_told app h c (Some s) entries k l ask.none);
             unfailed = l.unfailed;
           };
       begun = k.begun;
       more = k.more ++ t ∷ [];
       first = text_first c t k.more k.first;
-      one_sub = inr (text_asked c t (id ∷ []) (ap asked_in (sub_read id name short)) ∙ ap (λ ids. ids ++ id ∷ []) (no_ids_left _ c.sub k.one_sub (none refl)));
+      one_sub = text_asked c t (id ∷ []) (ap asked_in (sub_read id name short)) ∙ ap (λ ids. ids ++ id ∷ []) (k.one_sub ∙ ap sub_ids ask.none);
       short = k.short;
       queued = k.queued;
+      heard = text_heard c t k.heard (inr (sub_heard id name short named), tt);
+      asking = inr (session_begun app h c k ask.unbroken ask.session);
     }
 
-client_subscribed : (app : App) (h : List Entry) (who id name : List ℕ) (o : Option Client) → AreEntries h → IsShort id → HoldsOf o (IsKept app h) → HoldsOf (after_sub app who id name o) (IsKept app h)
-client_subscribed app h who id name None entries short k = tt
-client_subscribed app h who id name (Some c) entries short k =
-    chosen (IsKept app h) c (subscribes app c who id name) k
-    (subscribe_keeps app h c id name (can_subscribe app c who name) entries short
-    (λ e. no_sub c.sub (second_true (is_name c.name who && is_some c.session && is_none c.broken) (is_none c.sub)
-    (first_true (is_name c.name who && is_some c.session && is_none c.broken && is_none c.sub) (is_some (publication app name)) e))) k)
+can_ask : (app : App) (c : Client) (who name : List ℕ) → can_subscribe app c who name ≡ true → CanAsk c
+can_ask app c who name e =
+    let p4 = first_true (is_name c.name who && is_some c.session && is_none c.broken && is_none c.sub) (is_some (publication app name)) e in
+    let p3 = first_true (is_name c.name who && is_some c.session && is_none c.broken) (is_none c.sub) p4 in
+    let p2 = first_true (is_name c.name who && is_some c.session) (is_none c.broken) p3 in
+    record {
+      session = second_true (is_name c.name who) (is_some c.session) p2;
+      unbroken = second_true (is_name c.name who && is_some c.session) (is_none c.broken) p3;
+      none = no_sub c.sub (second_true (is_name c.name who && is_some c.session && is_none c.broken) (is_none c.sub) p4);
+    }
+
+client_subscribed : (app : App) (h : List Entry) (who id name : List ℕ) (o : Option Client) → AreEntries h → IsShort id → IsShort name → HoldsOf o (IsKept app h) →
+    HoldsOf (after_sub app who id name o) (IsKept app h)
+client_subscribed app h who id name None entries short named k = tt
+client_subscribed app h who id name (Some c) entries short named k =
+    chosen (IsKept app h) c (subscribes app c who id name) k (subscribe_keeps app h c id name (can_subscribe app c who name) entries short named (can_ask app c who name) k)
 
 -- a text that asks for nothing
 asks_nothing : (r : Result ClientMessage MsgFault) → asks_in r ≡ false → asked_in r ≡ []
@@ -212,8 +253,11 @@ asks_nothing (Ok (client.unsub id)) e = refl
 asks_nothing (Ok (client.method id name params seed)) e = refl
 asks_nothing (Err fault) e = refl
 
-raw_one : (ids : List (List ℕ)) (sub : Option Sub) → AtMost ids sub → AtMost (ids ++ []) sub
-raw_one ids sub a = subst (λ xs. AtMost xs sub) (sym (append-nil ids)) a
+raw_asking : (c : Client) (t : List ℕ) → asked_in (client_answer t) ≡ [] → (asked c.upward ++ asked c.waiting ≡ []) ⊎ HasConnected c.journal →
+    (asked c.upward ++ asked (c.waiting ++ t ∷ []) ≡ []) ⊎ HasConnected c.journal
+raw_asking c t none (inl e) =
+    inl (ap (λ ids. asked c.upward ++ ids) (asked-append c.waiting (t ∷ []) ∙ (ap (λ ids. asked c.waiting ++ (ids ++ [])) none ∙ append-nil (asked c.waiting))) ∙ e)
+raw_asking c t none (inr b) = inr b
 
 raw_keeps : (app : App) (h : List Entry) (c : Client) (t : List ℕ) → asks_in (client_answer t) ≡ false → IsKept app h c → IsKept app h (record c { waiting = c.waiting ++ t ∷ [] })
 raw_keeps app h c t none k = record {
@@ -222,9 +266,11 @@ raw_keeps app h c t none k = record {
   begun = k.begun;
   more = k.more ++ t ∷ [];
   first = text_first c t k.more k.first;
-  one_sub = subst (λ ids. AtMost ids c.sub) (sym (text_asked c t [] (asks_nothing (client_answer t) none))) (raw_one _ c.sub k.one_sub);
+  one_sub = text_asked c t [] (asks_nothing (client_answer t) none) ∙ (append-nil _ ∙ k.one_sub);
   short = k.short;
   queued = k.queued;
+  heard = text_heard c t k.heard (inl (asks_nothing (client_answer t) none), tt);
+  asking = raw_asking c t (asks_nothing (client_answer t) none) k.asking;
 }
 
 raw_by : (app : App) (h : List Entry) (t : List ℕ) (o : Option Client) → asks_in (client_answer t) ≡ false → HoldsOf o (IsKept app h) → HoldsOf (with_text t o) (IsKept app h)
@@ -252,6 +298,8 @@ client_longer app h e (Some c) k = record {
   one_sub = k.one_sub;
   short = k.short;
   queued = k.queued;
+  heard = k.heard;
+  asking = k.asking;
 }
 
 legal_longer : (app : App) (rows : Rows) (h : List Entry) (e : Entry) → IsLegalFrom app rows h → IsTrue (can_insert app (after rows h) e) → IsLegalFrom app rows (h ++ e ∷ [])
@@ -269,7 +317,7 @@ insert_keeps w e true can doc k = record {
 
 pub step_keeps : (w : World) (e : Event) → IsEvent e → IsKeptWorld w → IsKeptWorld (step w e)
 step_keeps w (event.Client name) p k = record { legal = k.legal; entries = k.entries; client = client_began w.app w.history name w.client k.client }
-step_keeps w (event.Sub who id name) p k = record { legal = k.legal; entries = k.entries; client = client_subscribed w.app w.history who id name w.client k.entries p k.client }
+step_keeps w (event.Sub who id name) p k = record { legal = k.legal; entries = k.entries; client = client_subscribed w.app w.history who id name w.client k.entries p.0 p.1 k.client }
 step_keeps w (event.Raw who t) p k = record { legal = k.legal; entries = k.entries; client = client_sent w.app w.history who t w.client p k.client }
 step_keeps w (event.Insert key doc) p k =
     let e : Entry = record { key = key; doc = doc } in insert_keeps w e (can_insert w.app (contents w.history) e) (λ h. h) p k

@@ -14,5 +14,5 @@ invariant_of-self c =
 pub invariant_of-self-2 : goal.invariant_of-self-2
 invariant_of-self-2 c =
     let old = c.self.inside in
-    kept_step old c.subscribe.new.connection (event.Sub c.args.who.now c.args.id.now c.args.name.now) _ c.requires c.self.invariant (c.subscribe.ensures.stands old.store c.self.invariant.stands) refl
+    kept_step old c.subscribe.new.connection (event.Sub c.args.who.now c.args.id.now c.args.name.now) _ (c.requires.id, c.requires.name) c.self.invariant (c.subscribe.ensures.stands old.store c.self.invariant.stands) refl
     (c.in_ok-done.ensures.ok ∙ ap (λ app. after_sub app c.args.who.now c.args.id.now c.args.name.now (option_map client_of old.connection)) c.app.ensures)
