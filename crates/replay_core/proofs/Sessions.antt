@@ -1,9 +1,17 @@
 -- The steps of a session.
 use Rattle.std.proofs.Common.{◌≡◌, ℕ, ◌-◌, ◌<◌, Bool, true, false, List, [], ◌∷◌, ◌++◌, length, take, map, Option, Some, None, refl, ap, ap₂, sym, subst, ◌∙◌, arith, append-nil}
 use Rattle.std.specs.Borrow.{Bor}
-use Rattle.std.specs.Prelude.{is_some, is_none, not, option_map, option_copied, option_to_list, nat_lt, ◌&&◌, ◌||◌}
+use Rattle.std.specs.Prelude.{IfSome, cond, is_some, is_none, not, option_map, option_copied, option_to_list, nat_lt, ◌&&◌, ◌||◌}
 use Rattle.std.proofs.lemmas.Bool.Decides.{Decides-ltb}
-use Rattle.ejson_value.specs.Rows.{Rows}
+use Rattle.std.specs.Ordering.{eq_by_cmp}
+use Rattle.std.specs.BTreeMap.{is_at}
+use Rattle.map_model.specs.Maps.{at, IsSorted}
+use Rattle.map_model.specs.DifferenceLaws.{diff_itself}
+use Rattle.value_model.specs.Order.{text_cmp, compare}
+use Rattle.value_model.specs.OrderLaws.{compare_is_eq}
+use Rattle.ejson_value.specs.declared.key.Key.{Key}
+use Rattle.ejson_value.specs.Key.{key_cmp, key_order}
+use Rattle.ejson_value.specs.Rows.{Rows, AreDocuments, AreRows}
 use Rattle.session_model.specs.declared.requests.Request.{Request}
 use Rattle.session_model.specs.declared.items.Item.{Item}
 use Rattle.session_model.specs.declared.items.Item.TheVariants as item
@@ -13,10 +21,11 @@ use Rattle.session_model.specs.Texts.{server_text}
 use Rattle.session_model.specs.Answers.{taken_text}
 use Rattle.session_model.specs.Journal.{Live as ALive, live_of, live_after, is_connected, connected_after, shown}
 use Rattle.session_model.specs.Out.{about, difference, own_text, texts_of}
-use Rattle.session_model.specs.OutLaws.{live_from-append, connected_from-append}
+use Rattle.session_model.specs.OutLaws.{name_order, live_from-append, connected_from-append}
 use Rattle.world_model.specs.Client.{Client}
 use Rattle.world_model.specs.Acts.{guarded, has_room, is_fail, has_failed, with_item, moves_up, after_taking, receives, handles, loads, loads_at, advances, advances_from, sends, takes, link_limit}
 use Rattle.world_model.specs.Taking.{told_text}
+use Rattle.world_model.specs.TakenLaws.{keeps_live}
 use Rattle.replay_core.specs.Store.{Stored}
 use Rattle.replay_core.specs.Queue.{first_of, rest_of}
 use Rattle.replay_core.specs.Sessions.{as_live, IsTrueTo, Does}
@@ -40,6 +49,23 @@ texts_are store s i own rows texts stands rows_are own_is made =
     ∙ (ap₂ (λ a b. map server_text (map about (difference a b)) ++ option_to_list own) stands.shown rows_are
     ∙ ap (λ ts. map server_text (map about (difference (shown store.app store.history (live_of s.journal.items)) (shown store.app store.history (live_after (live_of s.journal.items) i)))) ++ ts)
     (own_is ∙ ap (λ live. own_text s.number live i) stands.live))
+
+-- the documents of contents are maps
+found : (rows : Rows) (q : Key) → AreDocuments rows → IfSome (at key_cmp rows q) (IsSorted text_cmp)
+found [] q all = tt
+found (row ∷ rows) q all =
+    elim (is_at (key_cmp q) row.0) as (λ b. IfSome (cond b (Some row.1) (at key_cmp rows q)) (IsSorted text_cmp)) [ true ↦ all.0.names | false ↦ found rows q all.1 ]
+
+-- contents don't differ from themselves
+no_difference : (rows : Rows) → AreRows rows → difference rows rows ≡ []
+no_difference rows are = diff_itself key_order name_order (eq_by_cmp compare) (λ v. (compare_is_eq v v).1 refl) rows are.by_key (λ q. found rows q are.documents)
+
+-- an item that leaves the live subscription has its own text alone
+pub own_texts : (store : Stored) (s : Session) (i : Item) (own : Option (List ℕ)) → IsTrueTo store s → AreRows s.shown → keeps_live i →
+    option_to_list own ≡ own_text s.number (option_map as_live s.live) i → option_to_list own ≡ texts_of store.app s.number store.history (live_of s.journal.items) i
+own_texts store s i own stands are quiet own_is =
+    texts_are store s i own s.shown (option_to_list own) stands (stands.shown ∙ sym (ap (shown store.app store.history) (quiet (live_of s.journal.items)))) own_is
+    (ap (λ ms. map server_text (map about ms) ++ option_to_list own) (sym (no_difference s.shown are)))
 
 or_false : (b : Bool) → b ≡ (b || false)
 or_false true = refl
@@ -68,6 +94,14 @@ stands_after store old i live rows stands live_is rows_are new journal connected
       live = ap (option_map as_live) live_new ∙ (live_is ∙ sym after);
       shown = shown_new ∙ (rows_are ∙ ap (shown store.app store.history) (sym after));
     }
+
+-- what stands after an item that leaves the live subscription
+pub still_stands : (store : Stored) (old : Session) (i : Item) → IsTrueTo store old → keeps_live i →
+    (new : Session) → new.journal.items ≡ old.journal.items ++ i ∷ [] → new.is_connected ≡ connected_after old.is_connected i → new.has_failed ≡ (old.has_failed || is_fail i) →
+    new.live ≡ old.live → new.shown ≡ old.shown → IsTrueTo store new
+still_stands store old i stands quiet =
+    let same = sym (quiet (live_of old.journal.items)) in
+    stands_after store old i old.live old.shown stands (stands.live ∙ same) (stands.shown ∙ ap (shown store.app store.history) same)
 
 pub live_ref : (r : Option (Bor Live)) (live : Option Live) → option_copied r ≡ live → option_map (λ l. as_live l.now) r ≡ option_map as_live live
 live_ref None live e = ap (option_map as_live) e

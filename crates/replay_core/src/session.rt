@@ -8,7 +8,7 @@ ghost use Rattle.session_model.specs.Journal.{live_of, live_after, connected_aft
 ghost use Rattle.session_model.specs.Out.{session_name, ready_of};
 ghost use Rattle.world_model.specs.Client.{Client as AClient};
 ghost use Rattle.world_model.specs.Acts.{outbox_limit, journal_limit, is_fail, has_failed, with_item, after_taking, loads, advances};
-ghost use Rattle.world_model.specs.TakenLaws.{IsQuietTaken};
+ghost use Rattle.world_model.specs.TakenLaws.{keeps_live, IsQuietTaken};
 ghost use Rattle.session_model.specs.Answers.{taken_text};
 ghost use Rattle.replay_core.specs.Taking.{as_taken};
 ghost use Rattle.replay_core.specs.Sessions.{as_live, text_of_item, IsTrueTo, with_session, Does};
@@ -56,12 +56,6 @@ pub(crate) struct Session {
 }
 
 impl Live {
-    fn copy(&self) -> Result<Live, Mem>
-        ensures { IfOk result (λ live. as_live live ≡ as_live self.now) }
-    {
-        self.at(self.cursor)
-    }
-
     // The subscription with this cursor.
     fn at(&self, cursor: Option<u64>) -> Result<Live, Mem>
         ensures { IfOk result (λ live. as_live live ≡ record (as_live self.now) { cursor = cursor }) }
@@ -72,15 +66,6 @@ impl Live {
             name: self.name.copy()?,
             cursor,
         })
-    }
-}
-
-fn copy_live(live: Option<&Live>) -> Result<Option<Live>, Mem>
-    ensures { IfOk result (λ copy. option_map as_live copy ≡ option_map (λ l. as_live l.now) live.entry) }
-{
-    match live {
-        Some(live) => Ok(Some(live.copy()?)),
-        None => Ok(None),
     }
 }
 
@@ -175,7 +160,8 @@ fn own_text(
 }
 
 fn push_own(texts: &mut Queue<Text>, own: Option<Text>) -> Result<(), Mem>
-    ensures { OnOk result (texts.new ≡ texts.old ++ option_to_list own) }
+    ensures ok { OnOk result (texts.new ≡ texts.old ++ option_to_list own) }
+    ensures err { OnErr result (texts.new ≡ texts.old) }
 {
     match own {
         Some(own) => texts.push(own),
@@ -277,6 +263,27 @@ impl Session {
         Ok(())
     }
 
+    // Adds an item that leaves the live subscription: it has its own text alone, since what is
+    // shown stays.
+    fn add_own(&mut self, store: &Store, item: Item) -> Result<(), Mem>
+        requires stands { IsTrueTo store.now self.old }
+        requires quiet { keeps_live item }
+        ensures added { OnOk result ((c : AClient) → with_session c self.new ≡ with_item store.now.app store.now.history (with_session c self.old) item) }
+        ensures same { OnErr result ((c : AClient) → with_session c self.new ≡ with_session c self.old) }
+        ensures stands { IsTrueTo store.now self.new }
+    {
+        self.shown.known();
+        let own = own_text(store.allocator(), self.number, self.live.as_ref(), &item)?;
+        let is_connected = connected_after(self.is_connected, &item);
+        let has_failed = failed_after(self.has_failed, &item);
+        self.journal.reserve(1)?;
+        push_own(&mut self.outbox, own)?;
+        self.journal.push(item).unwrap();
+        self.is_connected = is_connected;
+        self.has_failed = has_failed;
+        Ok(())
+    }
+
     // Adds what comes of a text, which leaves the live subscription.
     fn put_in(&mut self, store: &Store, taken: Taken) -> Result<(), Mem>
         requires stands { IsTrueTo store.now self.old }
@@ -286,11 +293,7 @@ impl Session {
         ensures stands { IsTrueTo store.now self.new }
     {
         match taken {
-            Taken::AtOnce(item) => {
-                let live = copy_live(self.live.as_ref())?;
-                let rows = self.shown.copy()?;
-                self.add(store, item, live, rows)
-            }
+            Taken::AtOnce(item) => self.add_own(store, item),
             Taken::ToQueue(request) => self.queue.push(request),
         }
     }

@@ -17,7 +17,7 @@ returns-clause-added c cl =
     let own_is = item_text_is old.number (option_map as_live old.live) c.args.item (option_to_list own)
     (c.in_ok-own.ensures ∙ ap (λ live. text_of_item old.number live c.args.item) (live_ref c.as_ref.result old.live c.as_ref.ensures.value)) in
     let texts = texts_are store old c.args.item own c.args.rows c.push_own.new.texts c.requires.stands c.requires.rows own_is
-    (c.in_ok-push_own.ensures ∙ ap (λ ts. ts ++ option_to_list own) c.in_ok-texts.ensures) in
+    (c.in_ok-push_own.ensures.ok ∙ ap (λ ts. ts ++ option_to_list own) c.in_ok-texts.ensures) in
     with_item_is store.app store.history (with_session cl old) c.args.item c.push.new.self.items c.append.new.self journal
     (c.in_ok-append.ensures.ok ∙ ap (λ ts. old.outbox ++ ts) texts)
 

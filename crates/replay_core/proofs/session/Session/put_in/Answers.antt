@@ -6,7 +6,7 @@ use Rattle.replay_core.specs.Taking.{as_taken}
 use Rattle.replay_core.specs.Sessions.{with_session}
 use Rattle.replay_core.proofs.session.Session.put_in.Goals as goal
 
-pub returns-in_ok-rows-in-AtOnce-clause-taken : goal.returns-in_ok-rows-in-AtOnce-clause-taken
-returns-in_ok-rows-in-AtOnce-clause-taken c =
-    subst (λ t. OnOk c.add.result ((cl : Client) → with_session cl c.add.new.self ≡ after_taking c.args.store.now.app c.args.store.now.history (with_session cl c.args.self.now) (as_taken t)))
-    (sym c.in-AtOnce.is) c.add.ensures.added
+pub returns-in-AtOnce-clause-taken : goal.returns-in-AtOnce-clause-taken
+returns-in-AtOnce-clause-taken c =
+    subst (λ t. OnOk c.add_own.result ((cl : Client) → with_session cl c.add_own.new.self ≡ after_taking c.args.store.now.app c.args.store.now.history (with_session cl c.args.self.now) (as_taken t)))
+    (sym c.in-AtOnce.is) c.add_own.ensures.added
