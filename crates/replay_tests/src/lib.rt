@@ -31,32 +31,48 @@ mod tests {
         }
     }
 
-    // The lines that the event of this line prints, each with a line feed.
-    fn printed(alloc: Global, app: &App, world: &mut World, line: &str) -> Result<String, Fail> {
+    // Adds the line, and behind it each line that its event prints, after `> `.
+    fn add_printed(
+        alloc: Global,
+        app: &App,
+        world: &mut World,
+        line: &str,
+        text: &mut String,
+    ) -> Result<(), Fail> {
         let event = Event::read(alloc, app, &value(alloc, line)?)?;
         let lines = world.event(&event)?;
-        let mut text = String::new(alloc);
-        for line in lines.as_slice() {
-            text.push_str(line.as_str())?;
+        text.push_str(line)?;
+        text.push('\n')?;
+        for printed in lines.as_slice() {
+            text.push_str("> ")?;
+            text.push_str(printed.as_str())?;
             text.push('\n')?;
+        }
+        Ok(())
+    }
+
+    // The events of a transcript, run in a new world, each with what it prints behind it.
+    fn transcript(alloc: Global, script: &str) -> Result<String, Fail> {
+        let app = app(alloc)?;
+        let mut world = World::new(alloc, &app)?;
+        let mut text = String::new(alloc);
+        for line in script.lines() {
+            if !line.starts_with('>') {
+                add_printed(alloc, &app, &mut world, line, &mut text)?;
+            }
         }
         Ok(text)
     }
 
-    // The first of these lines, run in a new world, that doesn't print what stands beside it.
-    fn first_wrong(
-        alloc: Global,
-        rows: &[(&'static str, &str)],
-    ) -> Result<Option<&'static str>, Fail> {
-        let app = app(alloc)?;
-        let mut world = World::new(alloc, &app)?;
-        for (line, lines) in rows {
-            if printed(alloc, &app, &mut world, line)?.as_str() != *lines {
-                return Ok(Some(*line));
-            }
-        }
-        Ok(None)
-    }
+    const NO_APPLICATIONS: &str = r#"{}
+[]
+{"collections":["a","a"],"methods":{},"publications":{}}
+{"collections":[""],"methods":{},"publications":{}}
+{"collections":["a"],"methods":{"m":{}},"publications":{}}
+{"collections":["a"],"methods":{},"publications":{"p":[{"collection":"b"}]}}
+{"collections":["a"],"methods":{},"publications":{"p":[]}}
+{"collections":["a"],"methods":{},"publications":{},"more":0}
+"#;
 
     #[test]
     fn applications(rt: HostRuntime) -> Result<(), Fail> {
@@ -68,16 +84,7 @@ mod tests {
         assert!(rt; copy.has_collection(&tasks));
         assert!(rt; !copy.has_collection(&name));
         assert_eq!(rt; copy.publication(&name).map(|c| c.as_str()), Some("tasks"));
-        for bad in [
-            "{}",
-            "[]",
-            r#"{"collections":["a","a"],"methods":{},"publications":{}}"#,
-            r#"{"collections":[""],"methods":{},"publications":{}}"#,
-            r#"{"collections":["a"],"methods":{"m":{}},"publications":{}}"#,
-            r#"{"collections":["a"],"methods":{},"publications":{"p":[{"collection":"b"}]}}"#,
-            r#"{"collections":["a"],"methods":{},"publications":{"p":[]}}"#,
-            r#"{"collections":["a"],"methods":{},"publications":{},"more":0}"#,
-        ] {
+        for bad in NO_APPLICATIONS.lines() {
             assert_eq!(rt;
                 App::read(alloc, &value(alloc, bad)?).err(),
                 Some(AppFault::Bad),
@@ -87,67 +94,69 @@ mod tests {
         Ok(())
     }
 
+    const EVENTS: &str = r#"["client","a"]
+["sub","a","1","all"]
+["sub","a","1","all",[]]
+["sub","","","all"]
+["admin",["insert","none",{"_id":"t1"}]]
+["admin",["insert","tasks",{"_id":"t1","n":{"a":[1,{"$date":0}]}}]]
+["settle"]
+["show",""]
+["up","a"]
+["recv","a"]
+["handle","a"]
+["send","a"]
+["take","a"]
+"#;
+
     #[test]
     fn lines_that_are_events(rt: HostRuntime) -> Result<(), Fail> {
         let alloc = rt.alloc();
         let app = app(alloc)?;
-        for line in [
-            r#"["client","a"]"#,
-            r#"["sub","a","1","all"]"#,
-            r#"["sub","a","1","all",[]]"#,
-            r#"["sub","","","all"]"#,
-            r#"["admin",["insert","none",{"_id":"t1"}]]"#,
-            r#"["admin",["insert","tasks",{"_id":"t1","n":{"a":[1,{"$date":0}]}}]]"#,
-            r#"["settle"]"#,
-            r#"["show",""]"#,
-            r#"["up","a"]"#,
-            r#"["recv","a"]"#,
-            r#"["handle","a"]"#,
-            r#"["send","a"]"#,
-            r#"["take","a"]"#,
-        ] {
+        for line in EVENTS.lines() {
             assert!(rt; is_event(alloc, &app, &value(alloc, line)?)?, "{line}");
         }
         Ok(())
     }
 
+    const NO_EVENTS: &str = r#"{}
+[]
+null
+"settle"
+["client"]
+["client",1]
+["client","a","b"]
+["sub","a","1"]
+["sub","a","1","none"]
+["sub","a","1","all",[1]]
+["sub","a","1","all",{}]
+["sub","a","1","all",[],[]]
+["sub","a",1,"all"]
+["admin",["insert","tasks",{"n":1}]]
+["admin",["insert","tasks",{"_id":""}]]
+["admin",["insert","tasks",{"_id":1}]]
+["admin",["insert","tasks",[]]]
+["admin",["insert","tasks",{"_id":"t1"},1]]
+["admin",["remove","tasks",{}]]
+["admin",[]]
+["admin",{}]
+["raw","a"]
+["raw","a",{}]
+["raw","a","","b"]
+["settle",1]
+["show"]
+["up"]
+["up",1]
+["load","a","1"]
+["load","a"]
+["advance","a"]
+"#;
+
     #[test]
     fn lines_that_are_none(rt: HostRuntime) -> Result<(), Fail> {
         let alloc = rt.alloc();
         let app = app(alloc)?;
-        for line in [
-            "{}",
-            "[]",
-            "null",
-            r#""settle""#,
-            r#"["client"]"#,
-            r#"["client",1]"#,
-            r#"["client","a","b"]"#,
-            r#"["sub","a","1"]"#,
-            r#"["sub","a","1","none"]"#,
-            r#"["sub","a","1","all",[1]]"#,
-            r#"["sub","a","1","all",{}]"#,
-            r#"["sub","a","1","all",[],[]]"#,
-            r#"["sub","a",1,"all"]"#,
-            r#"["admin",["insert","tasks",{"n":1}]]"#,
-            r#"["admin",["insert","tasks",{"_id":""}]]"#,
-            r#"["admin",["insert","tasks",{"_id":1}]]"#,
-            r#"["admin",["insert","tasks",[]]]"#,
-            r#"["admin",["insert","tasks",{"_id":"t1"},1]]"#,
-            r#"["admin",["remove","tasks",{}]]"#,
-            r#"["admin",[]]"#,
-            r#"["admin",{}]"#,
-            r#"["raw","a"]"#,
-            r#"["raw","a",{}]"#,
-            r#"["raw","a","","b"]"#,
-            r#"["settle",1]"#,
-            r#"["show"]"#,
-            r#"["up"]"#,
-            r#"["up",1]"#,
-            r#"["load","a","1"]"#,
-            r#"["load","a"]"#,
-            r#"["advance","a"]"#,
-        ] {
+        for line in NO_EVENTS.lines() {
             assert!(rt; !is_event(alloc, &app, &value(alloc, line)?)?, "{line}");
         }
         Ok(())
@@ -166,20 +175,21 @@ mod tests {
         Ok(Value::List(items))
     }
 
+    const ASKING: &str = r#"{"msg":"sub","id":"1","name":"all"}
+{"msg":"sub","id":"1","name":"none","params":[1,{}]}
+ {"id":"1","x":0,"msg":"sub","name":""} 
+{"msg":"unsub","id":"1"}
+{"msg":"unsub","id":"","x":0}
+{"msg":"method","id":"1","method":"m"}
+{"msg":"method","id":"1","method":"m","params":[1],"randomSeed":"s"}
+"#;
+
     // What asks for a subscription, its end or a method is sent by no `raw`.
     #[test]
     fn texts_that_ask(rt: HostRuntime) -> Result<(), Fail> {
         let alloc = rt.alloc();
         let app = app(alloc)?;
-        for message in [
-            r#"{"msg":"sub","id":"1","name":"all"}"#,
-            r#"{"msg":"sub","id":"1","name":"none","params":[1,{}]}"#,
-            r#" {"id":"1","x":0,"msg":"sub","name":""} "#,
-            r#"{"msg":"unsub","id":"1"}"#,
-            r#"{"msg":"unsub","id":"","x":0}"#,
-            r#"{"msg":"method","id":"1","method":"m"}"#,
-            r#"{"msg":"method","id":"1","method":"m","params":[1],"randomSeed":"s"}"#,
-        ] {
+        for message in ASKING.lines() {
             assert!(rt;
                 !is_event(alloc, &app, &raw_line(alloc, message)?)?,
                 "{message}"
@@ -188,31 +198,31 @@ mod tests {
         Ok(())
     }
 
+    const NOT_ASKING: &str = r#"no JSON
+null
+[{"msg":"unsub","id":"1"}]
+{"id":"1","name":"all"}
+{"msg":"Sub","id":"1","name":"all"}
+{"msg":"sub"}
+{"msg":"sub","id":"1"}
+{"msg":"sub","id":1,"name":"all"}
+{"msg":"sub","id":"1","name":"all","params":{}}
+{"msg":"sub","id":"1","name":"all"
+{"msg":"unsub"}
+{"msg":"unsub","id":null}
+{"msg":"method","id":"1"}
+{"msg":"method","id":"1","method":"m","params":1}
+{"msg":"connect","version":"1"}
+{"msg":"connect","version":"2","support":["2"]}
+{"msg":"ping"}
+{"msg":"pong","id":"1"}
+"#;
+
     #[test]
     fn texts_that_ask_for_nothing(rt: HostRuntime) -> Result<(), Fail> {
         let alloc = rt.alloc();
         let app = app(alloc)?;
-        for message in [
-            "",
-            "no JSON",
-            "null",
-            r#"[{"msg":"unsub","id":"1"}]"#,
-            r#"{"id":"1","name":"all"}"#,
-            r#"{"msg":"Sub","id":"1","name":"all"}"#,
-            r#"{"msg":"sub"}"#,
-            r#"{"msg":"sub","id":"1"}"#,
-            r#"{"msg":"sub","id":1,"name":"all"}"#,
-            r#"{"msg":"sub","id":"1","name":"all","params":{}}"#,
-            r#"{"msg":"sub","id":"1","name":"all""#,
-            r#"{"msg":"unsub"}"#,
-            r#"{"msg":"unsub","id":null}"#,
-            r#"{"msg":"method","id":"1"}"#,
-            r#"{"msg":"method","id":"1","method":"m","params":1}"#,
-            r#"{"msg":"connect","version":"1"}"#,
-            r#"{"msg":"connect","version":"2","support":["2"]}"#,
-            r#"{"msg":"ping"}"#,
-            r#"{"msg":"pong","id":"1"}"#,
-        ] {
+        for message in NOT_ASKING.lines() {
             assert!(rt;
                 is_event(alloc, &app, &raw_line(alloc, message)?)?,
                 "{message}"
@@ -296,235 +306,255 @@ mod tests {
         Ok(())
     }
 
-    const INSERTS: [(&str, &str); 4] = [
-        (r#"["admin",["insert","tasks",{"_id":"t1","n":1}]]"#, ""),
-        (
-            r#"["admin",["insert","tasks",{"_id":"t1","n":1}]]"#,
-            "[\"refused\",409]\n",
-        ),
-        (
-            r#"["admin",["insert","notes",{"_id":"t1"}]]"#,
-            "[\"refused\",404]\n",
-        ),
-        (r#"["show","a"]"#, "[\"idle\"]\n"),
-    ];
+    const INSERTS: &str = r#"["admin",["insert","tasks",{"_id":"t1","n":1}]]
+["admin",["insert","tasks",{"_id":"t1","n":1}]]
+> ["refused",409]
+["admin",["insert","notes",{"_id":"t1"}]]
+> ["refused",404]
+["show","a"]
+> ["idle"]
+"#;
 
-    const CLIENTS: [(&str, &str); 12] = [
-        (r#"["sub","a","1","all"]"#, "[\"idle\"]\n"),
-        (r#"["raw","a","{\"msg\":\"ping\"}"]"#, "[\"idle\"]\n"),
-        (r#"["client","a"]"#, ""),
-        (r#"["client","b"]"#, "[\"idle\"]\n"),
-        (r#"["sub","a","1","all"]"#, "[\"idle\"]\n"),
-        (r#"["settle"]"#, ""),
-        (r#"["show","a"]"#, "[\"show\",\"a\"]\n"),
-        (r#"["show","b"]"#, "[\"idle\"]\n"),
-        (r#"["sub","b","1","all"]"#, "[\"idle\"]\n"),
-        (r#"["raw","b","{\"msg\":\"ping\"}"]"#, "[\"idle\"]\n"),
-        (r#"["sub","a","1","all",[]]"#, ""),
-        (r#"["sub","a","2","all"]"#, "[\"idle\"]\n"),
-    ];
+    const CLIENTS: &str = r#"["sub","a","1","all"]
+> ["idle"]
+["raw","a","{\"msg\":\"ping\"}"]
+> ["idle"]
+["client","a"]
+["client","b"]
+> ["idle"]
+["sub","a","1","all"]
+> ["idle"]
+["settle"]
+["show","a"]
+> ["show","a"]
+["show","b"]
+> ["idle"]
+["sub","b","1","all"]
+> ["idle"]
+["raw","b","{\"msg\":\"ping\"}"]
+> ["idle"]
+["sub","a","1","all",[]]
+["sub","a","2","all"]
+> ["idle"]
+"#;
 
-    const DOCUMENTS: [(&str, &str); 11] = [
-        (r#"["admin",["insert","tasks",{"_id":"t1","n":1}]]"#, ""),
-        (r#"["client","a"]"#, ""),
-        (r#"["settle"]"#, ""),
-        (r#"["sub","a","1","all"]"#, ""),
-        (
-            r#"["show","a"]"#,
-            "[\"show\",\"a\"]\n[\"sub\",\"1\",\"waiting\"]\n",
-        ),
-        (r#"["settle"]"#, ""),
-        (
-            r#"["show","a"]"#,
-            "[\"show\",\"a\"]\n[\"doc\",\"tasks\",\"t1\",{\"n\":1}]\n[\"sub\",\"1\",\"ready\"]\n",
-        ),
-        (r#"["admin",["insert","tasks",{"_id":"t0"}]]"#, ""),
-        (
-            r#"["show","a"]"#,
-            "[\"show\",\"a\"]\n[\"doc\",\"tasks\",\"t1\",{\"n\":1}]\n[\"sub\",\"1\",\"ready\"]\n",
-        ),
-        (r#"["settle"]"#, ""),
-        (
-            r#"["show","a"]"#,
-            "[\"show\",\"a\"]\n[\"doc\",\"tasks\",\"t0\",{}]\n[\"doc\",\"tasks\",\"t1\",{\"n\":1}]\n[\"sub\",\"1\",\"ready\"]\n",
-        ),
-    ];
+    const DOCUMENTS: &str = r#"["admin",["insert","tasks",{"_id":"t1","n":1}]]
+["client","a"]
+["settle"]
+["sub","a","1","all"]
+["show","a"]
+> ["show","a"]
+> ["sub","1","waiting"]
+["settle"]
+["show","a"]
+> ["show","a"]
+> ["doc","tasks","t1",{"n":1}]
+> ["sub","1","ready"]
+["admin",["insert","tasks",{"_id":"t0"}]]
+["show","a"]
+> ["show","a"]
+> ["doc","tasks","t1",{"n":1}]
+> ["sub","1","ready"]
+["settle"]
+["show","a"]
+> ["show","a"]
+> ["doc","tasks","t0",{}]
+> ["doc","tasks","t1",{"n":1}]
+> ["sub","1","ready"]
+"#;
 
-    const STEPS: [(&str, &str); 35] = [
-        (r#"["up","a"]"#, "[\"idle\"]\n"),
-        (r#"["client","a"]"#, ""),
-        (r#"["up","b"]"#, "[\"idle\"]\n"),
-        (r#"["recv","a"]"#, "[\"idle\"]\n"),
-        (r#"["up","a"]"#, ""),
-        (r#"["up","a"]"#, "[\"idle\"]\n"),
-        (r#"["send","a"]"#, "[\"idle\"]\n"),
-        (r#"["recv","a"]"#, ""),
-        (r#"["handle","a"]"#, "[\"idle\"]\n"),
-        (r#"["take","a"]"#, "[\"idle\"]\n"),
-        (r#"["send","a"]"#, ""),
-        (r#"["sub","a","1","all"]"#, "[\"idle\"]\n"),
-        (r#"["take","a"]"#, ""),
-        (r#"["show","a"]"#, "[\"show\",\"a\"]\n"),
-        (r#"["sub","a","1","all"]"#, ""),
-        (r#"["up","a"]"#, ""),
-        (
-            r#"["show","a"]"#,
-            "[\"show\",\"a\"]\n[\"sub\",\"1\",\"waiting\"]\n",
-        ),
-        (r#"["recv","a"]"#, ""),
-        (r#"["send","a"]"#, "[\"idle\"]\n"),
-        (r#"["handle","a"]"#, ""),
-        (r#"["handle","a"]"#, "[\"idle\"]\n"),
-        (r#"["send","a"]"#, "[\"idle\"]\n"),
-        (r#"["take","a"]"#, "[\"idle\"]\n"),
-        (
-            r#"["show","a"]"#,
-            "[\"show\",\"a\"]\n[\"sub\",\"1\",\"waiting\"]\n",
-        ),
-        (r#"["settle"]"#, ""),
-        (
-            r#"["show","a"]"#,
-            "[\"show\",\"a\"]\n[\"sub\",\"1\",\"ready\"]\n",
-        ),
-        (r#"["raw","a","{\"msg\":\"ping\",\"id\":\"p\"}"]"#, ""),
-        (r#"["up","a"]"#, ""),
-        (r#"["recv","a"]"#, ""),
-        (r#"["handle","a"]"#, "[\"idle\"]\n"),
-        (r#"["send","a"]"#, ""),
-        (r#"["send","a"]"#, "[\"idle\"]\n"),
-        (r#"["take","a"]"#, ""),
-        (r#"["take","a"]"#, "[\"idle\"]\n"),
-        (
-            r#"["show","a"]"#,
-            "[\"show\",\"a\"]\n[\"sub\",\"1\",\"ready\"]\n",
-        ),
-    ];
+    const STEPS: &str = r#"["up","a"]
+> ["idle"]
+["client","a"]
+["up","b"]
+> ["idle"]
+["recv","a"]
+> ["idle"]
+["up","a"]
+["up","a"]
+> ["idle"]
+["send","a"]
+> ["idle"]
+["recv","a"]
+["handle","a"]
+> ["idle"]
+["take","a"]
+> ["idle"]
+["send","a"]
+["sub","a","1","all"]
+> ["idle"]
+["take","a"]
+["show","a"]
+> ["show","a"]
+["sub","a","1","all"]
+["up","a"]
+["show","a"]
+> ["show","a"]
+> ["sub","1","waiting"]
+["recv","a"]
+["send","a"]
+> ["idle"]
+["handle","a"]
+["handle","a"]
+> ["idle"]
+["send","a"]
+> ["idle"]
+["take","a"]
+> ["idle"]
+["show","a"]
+> ["show","a"]
+> ["sub","1","waiting"]
+["settle"]
+["show","a"]
+> ["show","a"]
+> ["sub","1","ready"]
+["raw","a","{\"msg\":\"ping\",\"id\":\"p\"}"]
+["up","a"]
+["recv","a"]
+["handle","a"]
+> ["idle"]
+["send","a"]
+["send","a"]
+> ["idle"]
+["take","a"]
+["take","a"]
+> ["idle"]
+["show","a"]
+> ["show","a"]
+> ["sub","1","ready"]
+"#;
 
     // A second `connect` is answered by an `error`, and nothing else comes of it, whatever its version.
-    const SECOND_CONNECTS: [(&str, &str); 18] = [
-        (r#"["client","a"]"#, ""),
-        (r#"["up","a"]"#, ""),
-        (r#"["recv","a"]"#, ""),
-        (r#"["send","a"]"#, ""),
-        (r#"["take","a"]"#, ""),
-        (
-            r#"["raw","a","{\"msg\":\"connect\",\"version\":\"2\"}"]"#,
-            "",
-        ),
-        (r#"["up","a"]"#, ""),
-        (r#"["recv","a"]"#, ""),
-        (r#"["handle","a"]"#, "[\"idle\"]\n"),
-        (r#"["send","a"]"#, ""),
-        (r#"["send","a"]"#, "[\"idle\"]\n"),
-        (r#"["take","a"]"#, ""),
-        (r#"["take","a"]"#, "[\"idle\"]\n"),
-        (r#"["up","a"]"#, "[\"idle\"]\n"),
-        (r#"["show","a"]"#, "[\"show\",\"a\"]\n"),
-        (r#"["sub","a","1","all"]"#, ""),
-        (r#"["settle"]"#, ""),
-        (
-            r#"["show","a"]"#,
-            "[\"show\",\"a\"]\n[\"sub\",\"1\",\"ready\"]\n",
-        ),
-    ];
+    const SECOND_CONNECTS: &str = r#"["client","a"]
+["up","a"]
+["recv","a"]
+["send","a"]
+["take","a"]
+["raw","a","{\"msg\":\"connect\",\"version\":\"2\"}"]
+["up","a"]
+["recv","a"]
+["handle","a"]
+> ["idle"]
+["send","a"]
+["send","a"]
+> ["idle"]
+["take","a"]
+["take","a"]
+> ["idle"]
+["up","a"]
+> ["idle"]
+["show","a"]
+> ["show","a"]
+["sub","a","1","all"]
+["settle"]
+["show","a"]
+> ["show","a"]
+> ["sub","1","ready"]
+"#;
 
     // Texts that the session refuses leave the client's documents and its subscription as they are.
-    const REFUSED_TEXTS: [(&str, &str); 20] = [
-        (r#"["admin",["insert","tasks",{"_id":"t1","n":1}]]"#, ""),
-        (r#"["client","a"]"#, ""),
-        (r#"["settle"]"#, ""),
-        (r#"["sub","a","1","all"]"#, ""),
-        (r#"["settle"]"#, ""),
-        (
-            r#"["show","a"]"#,
-            "[\"show\",\"a\"]\n[\"doc\",\"tasks\",\"t1\",{\"n\":1}]\n[\"sub\",\"1\",\"ready\"]\n",
-        ),
-        (r#"["raw","a","no JSON"]"#, ""),
-        (r#"["raw","a",""]"#, ""),
-        (r#"["raw","a","[]"]"#, ""),
-        (r#"["raw","a","{}"]"#, ""),
-        (
-            r#"["raw","a","{\"msg\":\"connect\",\"version\":\"1\"}"]"#,
-            "",
-        ),
-        (r#"["raw","a","{\"msg\":\"sub\",\"id\":\"2\"}"]"#, ""),
-        (r#"["raw","a","{\"msg\":\"unsub\",\"id\":1}"]"#, ""),
-        (r#"["raw","a","{\"msg\":\"method\",\"id\":\"3\"}"]"#, ""),
-        (r#"["raw","a","{\"msg\":\"hello\"}"]"#, ""),
-        (r#"["settle"]"#, ""),
-        (
-            r#"["show","a"]"#,
-            "[\"show\",\"a\"]\n[\"doc\",\"tasks\",\"t1\",{\"n\":1}]\n[\"sub\",\"1\",\"ready\"]\n",
-        ),
-        (r#"["admin",["insert","tasks",{"_id":"t2"}]]"#, ""),
-        (r#"["settle"]"#, ""),
-        (
-            r#"["show","a"]"#,
-            "[\"show\",\"a\"]\n[\"doc\",\"tasks\",\"t1\",{\"n\":1}]\n[\"doc\",\"tasks\",\"t2\",{}]\n[\"sub\",\"1\",\"ready\"]\n",
-        ),
-    ];
+    const REFUSED_TEXTS: &str = r#"["admin",["insert","tasks",{"_id":"t1","n":1}]]
+["client","a"]
+["settle"]
+["sub","a","1","all"]
+["settle"]
+["show","a"]
+> ["show","a"]
+> ["doc","tasks","t1",{"n":1}]
+> ["sub","1","ready"]
+["raw","a","no JSON"]
+["raw","a",""]
+["raw","a","[]"]
+["raw","a","{}"]
+["raw","a","{\"msg\":\"connect\",\"version\":\"1\"}"]
+["raw","a","{\"msg\":\"sub\",\"id\":\"2\"}"]
+["raw","a","{\"msg\":\"unsub\",\"id\":1}"]
+["raw","a","{\"msg\":\"method\",\"id\":\"3\"}"]
+["raw","a","{\"msg\":\"hello\"}"]
+["settle"]
+["show","a"]
+> ["show","a"]
+> ["doc","tasks","t1",{"n":1}]
+> ["sub","1","ready"]
+["admin",["insert","tasks",{"_id":"t2"}]]
+["settle"]
+["show","a"]
+> ["show","a"]
+> ["doc","tasks","t1",{"n":1}]
+> ["doc","tasks","t2",{}]
+> ["sub","1","ready"]
+"#;
 
     // Texts that wait behind the client's own `connect`.
-    const EARLY_TEXTS: [(&str, &str); 8] = [
-        (r#"["client","a"]"#, ""),
-        (r#"["raw","a","no JSON"]"#, ""),
-        (
-            r#"["raw","a","{\"msg\":\"connect\",\"version\":\"2\"}"]"#,
-            "",
-        ),
-        (r#"["settle"]"#, ""),
-        (r#"["show","a"]"#, "[\"show\",\"a\"]\n"),
-        (r#"["sub","a","1","all"]"#, ""),
-        (r#"["settle"]"#, ""),
-        (
-            r#"["show","a"]"#,
-            "[\"show\",\"a\"]\n[\"sub\",\"1\",\"ready\"]\n",
-        ),
-    ];
+    const EARLY_TEXTS: &str = r#"["client","a"]
+["raw","a","no JSON"]
+["raw","a","{\"msg\":\"connect\",\"version\":\"2\"}"]
+["settle"]
+["show","a"]
+> ["show","a"]
+["sub","a","1","all"]
+["settle"]
+["show","a"]
+> ["show","a"]
+> ["sub","1","ready"]
+"#;
 
     #[test]
     fn inserts(rt: HostRuntime) -> Result<(), Fail> {
-        assert_eq!(rt; first_wrong(rt.alloc(), &INSERTS)?, None);
+        assert_eq!(rt; transcript(rt.alloc(), INSERTS)?.as_str(), INSERTS);
         Ok(())
     }
 
     #[test]
     fn clients(rt: HostRuntime) -> Result<(), Fail> {
-        assert_eq!(rt; first_wrong(rt.alloc(), &CLIENTS)?, None);
+        assert_eq!(rt; transcript(rt.alloc(), CLIENTS)?.as_str(), CLIENTS);
         Ok(())
     }
 
     #[test]
     fn documents(rt: HostRuntime) -> Result<(), Fail> {
-        assert_eq!(rt; first_wrong(rt.alloc(), &DOCUMENTS)?, None);
+        assert_eq!(rt; transcript(rt.alloc(), DOCUMENTS)?.as_str(), DOCUMENTS);
         Ok(())
     }
 
     #[test]
     fn steps(rt: HostRuntime) -> Result<(), Fail> {
-        assert_eq!(rt; first_wrong(rt.alloc(), &STEPS)?, None);
+        assert_eq!(rt; transcript(rt.alloc(), STEPS)?.as_str(), STEPS);
         Ok(())
     }
 
     #[test]
     fn second_connects(rt: HostRuntime) -> Result<(), Fail> {
-        assert_eq!(rt; first_wrong(rt.alloc(), &SECOND_CONNECTS)?, None);
+        assert_eq!(rt;
+            transcript(rt.alloc(), SECOND_CONNECTS)?.as_str(),
+            SECOND_CONNECTS
+        );
         Ok(())
     }
 
     #[test]
     fn refused_texts(rt: HostRuntime) -> Result<(), Fail> {
-        assert_eq!(rt; first_wrong(rt.alloc(), &REFUSED_TEXTS)?, None);
+        assert_eq!(rt;
+            transcript(rt.alloc(), REFUSED_TEXTS)?.as_str(),
+            REFUSED_TEXTS
+        );
         Ok(())
     }
 
     #[test]
     fn early_texts(rt: HostRuntime) -> Result<(), Fail> {
-        assert_eq!(rt; first_wrong(rt.alloc(), &EARLY_TEXTS)?, None);
+        assert_eq!(rt; transcript(rt.alloc(), EARLY_TEXTS)?.as_str(), EARLY_TEXTS);
         Ok(())
     }
 
     // Once a world is settled, no step is enabled.
+    const SETTLED: &str = r#"["up","a"]
+["recv","a"]
+["handle","a"]
+["send","a"]
+["take","a"]
+"#;
+
     #[test]
     fn settled_worlds(rt: HostRuntime) -> Result<(), Fail> {
         let alloc = rt.alloc();
@@ -535,15 +565,10 @@ mod tests {
         drop(world.event(&begin)?);
         world.settle()?;
         world.known();
-        for line in [
-            r#"["up","a"]"#,
-            r#"["recv","a"]"#,
-            r#"["handle","a"]"#,
-            r#"["send","a"]"#,
-            r#"["take","a"]"#,
-        ] {
-            let lines = printed(alloc, &app, &mut world, line)?;
-            assert_eq!(rt; lines.as_str(), "[\"idle\"]\n", "{line}");
+        for line in SETTLED.lines() {
+            let mut text = String::new(alloc);
+            add_printed(alloc, &app, &mut world, line, &mut text)?;
+            assert!(rt; text.as_str().ends_with("\n> [\"idle\"]\n"), "{line}");
         }
         Ok(())
     }
