@@ -3,90 +3,87 @@ use Rattle.std.proofs.Common.{◌≡◌, ℕ, suc, ◌+◌, List, [], ◌∷◌,
 use Rattle.std.specs.Prelude.{flat_map}
 use Rattle.std.proofs.lemmas.Grind.{flat_map-append}
 use Rattle.std.proofs.lemmas.List.{append_assoc}
-use Rattle.value_model.specs.Val.{Val}
-use Rattle.session_model.specs.App.{App}
 use Rattle.world_model.specs.declared.events.Event.{Event}
 use Rattle.world_model.specs.World.{World}
-use Rattle.world_model.specs.Lines.{lines_of}
+use Rattle.world_model.specs.Lines.{Line, line_text, lines_of}
 use Rattle.world_model.specs.Run.{step, AreEvents}
-use Rattle.replay_core.specs.Text.{line_text}
 use Rattle.ddp.specs.Input.{line_feed, is_blank}
 use Rattle.ddp.specs.Replay.{RunsLine, event_of, before_bad, events_of, bad_unless, bad_line, printed, bad_value, bad_lines, line_bytes, all_bytes}
 
 -- what a world prints for these lines, the first of which has this number
-abbrev pub whole : World → App → ℕ → List (List ℕ) → List ℕ
-whole w app n ls = all_bytes (printed w (events_of app ls) ++ bad_lines (bad_line app n ls))
+abbrev pub whole : World → ℕ → List (List ℕ) → List ℕ
+whole w n ls = all_bytes (printed w (events_of ls) ++ bad_lines (bad_line n ls))
 
 next : (n : ℕ) → suc n ≡ n + 1
 next n = omega arith
 
-pub events-blank : (app : App) (l : List ℕ) (ls : List (List ℕ)) → is_blank l ≡ true → events_of app (l ∷ ls) ≡ events_of app ls
-events-blank app l ls b = ap (λ t. cond t (events_of app ls) (before_bad (event_of app l) (events_of app ls))) b
+pub events-blank : (l : List ℕ) (ls : List (List ℕ)) → is_blank l ≡ true → events_of (l ∷ ls) ≡ events_of ls
+events-blank l ls b = ap (λ t. cond t (events_of ls) (before_bad (event_of l) (events_of ls))) b
 
-pub bad-blank : (app : App) (n : ℕ) (l : List ℕ) (ls : List (List ℕ)) → is_blank l ≡ true → bad_line app n (l ∷ ls) ≡ bad_line app (n + 1) ls
-bad-blank app n l ls b =
-    ap (λ t. cond t (bad_line app (suc n) ls) (bad_unless (event_of app l) n (bad_line app (suc n) ls))) b ∙ ap (λ k. bad_line app k ls) (next n)
+pub bad-blank : (n : ℕ) (l : List ℕ) (ls : List (List ℕ)) → is_blank l ≡ true → bad_line n (l ∷ ls) ≡ bad_line (n + 1) ls
+bad-blank n l ls b =
+    ap (λ t. cond t (bad_line (suc n) ls) (bad_unless (event_of l) n (bad_line (suc n) ls))) b ∙ ap (λ k. bad_line k ls) (next n)
 
-pub events-event : (app : App) (l : List ℕ) (ls : List (List ℕ)) (e : Event) → is_blank l ≡ false → event_of app l ≡ Some e → events_of app (l ∷ ls) ≡ e ∷ events_of app ls
-events-event app l ls e b is =
-    ap (λ t. cond t (events_of app ls) (before_bad (event_of app l) (events_of app ls))) b ∙ ap (λ o. before_bad o (events_of app ls)) is
+pub events-event : (l : List ℕ) (ls : List (List ℕ)) (e : Event) → is_blank l ≡ false → event_of l ≡ Some e → events_of (l ∷ ls) ≡ e ∷ events_of ls
+events-event l ls e b is =
+    ap (λ t. cond t (events_of ls) (before_bad (event_of l) (events_of ls))) b ∙ ap (λ o. before_bad o (events_of ls)) is
 
-pub bad-event : (app : App) (n : ℕ) (l : List ℕ) (ls : List (List ℕ)) (e : Event) → is_blank l ≡ false → event_of app l ≡ Some e → bad_line app n (l ∷ ls) ≡ bad_line app (n + 1) ls
-bad-event app n l ls e b is =
-    ap (λ t. cond t (bad_line app (suc n) ls) (bad_unless (event_of app l) n (bad_line app (suc n) ls))) b
-    ∙ (ap (λ o. bad_unless o n (bad_line app (suc n) ls)) is ∙ ap (λ k. bad_line app k ls) (next n))
+pub bad-event : (n : ℕ) (l : List ℕ) (ls : List (List ℕ)) (e : Event) → is_blank l ≡ false → event_of l ≡ Some e → bad_line n (l ∷ ls) ≡ bad_line (n + 1) ls
+bad-event n l ls e b is =
+    ap (λ t. cond t (bad_line (suc n) ls) (bad_unless (event_of l) n (bad_line (suc n) ls))) b
+    ∙ (ap (λ o. bad_unless o n (bad_line (suc n) ls)) is ∙ ap (λ k. bad_line k ls) (next n))
 
-pub events-none : (app : App) (l : List ℕ) (ls : List (List ℕ)) → is_blank l ≡ false → event_of app l ≡ None → events_of app (l ∷ ls) ≡ []
-events-none app l ls b is =
-    ap (λ t. cond t (events_of app ls) (before_bad (event_of app l) (events_of app ls))) b ∙ ap (λ o. before_bad o (events_of app ls)) is
+pub events-none : (l : List ℕ) (ls : List (List ℕ)) → is_blank l ≡ false → event_of l ≡ None → events_of (l ∷ ls) ≡ []
+events-none l ls b is =
+    ap (λ t. cond t (events_of ls) (before_bad (event_of l) (events_of ls))) b ∙ ap (λ o. before_bad o (events_of ls)) is
 
-pub bad-none : (app : App) (n : ℕ) (l : List ℕ) (ls : List (List ℕ)) → is_blank l ≡ false → event_of app l ≡ None → bad_line app n (l ∷ ls) ≡ Some n
-bad-none app n l ls b is =
-    ap (λ t. cond t (bad_line app (suc n) ls) (bad_unless (event_of app l) n (bad_line app (suc n) ls))) b ∙ ap (λ o. bad_unless o n (bad_line app (suc n) ls)) is
+pub bad-none : (n : ℕ) (l : List ℕ) (ls : List (List ℕ)) → is_blank l ≡ false → event_of l ≡ None → bad_line n (l ∷ ls) ≡ Some n
+bad-none n l ls b is =
+    ap (λ t. cond t (bad_line (suc n) ls) (bad_unless (event_of l) n (bad_line (suc n) ls))) b ∙ ap (λ o. bad_unless o n (bad_line (suc n) ls)) is
 
 -- the bytes of lines, from their texts
-pub bytes_of_texts : (vs : List Val) → flat_map (λ (line : List ℕ). line ++ line_feed ∷ []) (map line_text vs) ≡ all_bytes vs
+pub bytes_of_texts : (vs : List Line) → flat_map (λ (line : List ℕ). line ++ line_feed ∷ []) (map line_text vs) ≡ all_bytes vs
 bytes_of_texts [] = refl
 bytes_of_texts (v ∷ vs) = ap (λ rest. (line_text v ++ line_feed ∷ []) ++ rest) (bytes_of_texts vs)
 
-pub whole-blank : (w : World) (app : App) (n : ℕ) (l : List ℕ) (ls : List (List ℕ)) → is_blank l ≡ true → whole w app n (l ∷ ls) ≡ whole w app (n + 1) ls
-whole-blank w app n l ls b =
-    ap (λ events. all_bytes (printed w events ++ bad_lines (bad_line app n (l ∷ ls)))) (events-blank app l ls b)
-    ∙ ap (λ bad. all_bytes (printed w (events_of app ls) ++ bad_lines bad)) (bad-blank app n l ls b)
+pub whole-blank : (w : World) (n : ℕ) (l : List ℕ) (ls : List (List ℕ)) → is_blank l ≡ true → whole w n (l ∷ ls) ≡ whole w (n + 1) ls
+whole-blank w n l ls b =
+    ap (λ events. all_bytes (printed w events ++ bad_lines (bad_line n (l ∷ ls)))) (events-blank l ls b)
+    ∙ ap (λ bad. all_bytes (printed w (events_of ls) ++ bad_lines bad)) (bad-blank n l ls b)
 
-pub whole-event : (w : World) (app : App) (n : ℕ) (l : List ℕ) (ls : List (List ℕ)) (e : Event) → is_blank l ≡ false → event_of app l ≡ Some e →
-    whole w app n (l ∷ ls) ≡ flat_map (λ (line : List ℕ). line ++ line_feed ∷ []) (map line_text (lines_of w e)) ++ whole (step w e) app (n + 1) ls
-whole-event w app n l ls e b is =
-    ap (λ events. all_bytes (printed w events ++ bad_lines (bad_line app n (l ∷ ls)))) (events-event app l ls e b is)
-    ∙ (ap (λ bad. all_bytes ((lines_of w e ++ printed (step w e) (events_of app ls)) ++ bad_lines bad)) (bad-event app n l ls e b is)
-    ∙ (ap all_bytes (append_assoc (lines_of w e) (printed (step w e) (events_of app ls)) (bad_lines (bad_line app (n + 1) ls)))
-    ∙ (flat_map-append line_bytes (lines_of w e) (printed (step w e) (events_of app ls) ++ bad_lines (bad_line app (n + 1) ls))
-    ∙ ap (λ bytes. bytes ++ whole (step w e) app (n + 1) ls) (sym (bytes_of_texts (lines_of w e))))))
+pub whole-event : (w : World) (n : ℕ) (l : List ℕ) (ls : List (List ℕ)) (e : Event) → is_blank l ≡ false → event_of l ≡ Some e →
+    whole w n (l ∷ ls) ≡ flat_map (λ (line : List ℕ). line ++ line_feed ∷ []) (map line_text (lines_of w e)) ++ whole (step w e) (n + 1) ls
+whole-event w n l ls e b is =
+    ap (λ events. all_bytes (printed w events ++ bad_lines (bad_line n (l ∷ ls)))) (events-event l ls e b is)
+    ∙ (ap (λ bad. all_bytes ((lines_of w e ++ printed (step w e) (events_of ls)) ++ bad_lines bad)) (bad-event n l ls e b is)
+    ∙ (ap all_bytes (append_assoc (lines_of w e) (printed (step w e) (events_of ls)) (bad_lines (bad_line (n + 1) ls)))
+    ∙ (flat_map-append line_bytes (lines_of w e) (printed (step w e) (events_of ls) ++ bad_lines (bad_line (n + 1) ls))
+    ∙ ap (λ bytes. bytes ++ whole (step w e) (n + 1) ls) (sym (bytes_of_texts (lines_of w e))))))
 
-pub whole-none : (w : World) (app : App) (n : ℕ) (l : List ℕ) (ls : List (List ℕ)) → is_blank l ≡ false → event_of app l ≡ None →
-    whole w app n (l ∷ ls) ≡ all_bytes (bad_value n ∷ [])
-whole-none w app n l ls b is =
-    ap (λ events. all_bytes (printed w events ++ bad_lines (bad_line app n (l ∷ ls)))) (events-none app l ls b is)
-    ∙ ap (λ bad. all_bytes ([] ++ bad_lines bad)) (bad-none app n l ls b is)
+pub whole-none : (w : World) (n : ℕ) (l : List ℕ) (ls : List (List ℕ)) → is_blank l ≡ false → event_of l ≡ None →
+    whole w n (l ∷ ls) ≡ all_bytes (bad_value n ∷ [])
+whole-none w n l ls b is =
+    ap (λ events. all_bytes (printed w events ++ bad_lines (bad_line n (l ∷ ls)))) (events-none l ls b is)
+    ∙ ap (λ bad. all_bytes ([] ++ bad_lines bad)) (bad-none n l ls b is)
 
 -- what stays to be written, and what the events are, over a line that ran
-pub record Turned (app : App) (n : ℕ) (l : List ℕ) (ls : List (List ℕ)) (old new : World) (before now : List ℕ) : Type 0 where
-  pub text : before ++ whole old app n (l ∷ ls) ≡ now ++ whole new app (n + 1) ls
-  pub bad : bad_line app n (l ∷ ls) ≡ bad_line app (n + 1) ls
-  pub events : AreEvents (events_of app ls) → AreEvents (events_of app (l ∷ ls))
+pub record Turned (n : ℕ) (l : List ℕ) (ls : List (List ℕ)) (old new : World) (before now : List ℕ) : Type 0 where
+  pub text : before ++ whole old n (l ∷ ls) ≡ now ++ whole new (n + 1) ls
+  pub bad : bad_line n (l ∷ ls) ≡ bad_line (n + 1) ls
+  pub events : AreEvents (events_of ls) → AreEvents (events_of (l ∷ ls))
 
-pub turned : (app : App) (n : ℕ) (l : List ℕ) (ls : List (List ℕ)) (old new : World) (before now : List ℕ) → RunsLine app l old new before now true → Turned app n l ls old new before now
-turned app n l ls old new before now (inl b) = record {
-  text = ap (λ rest. before ++ rest) (whole-blank old app n l ls b.0) ∙ (ap (λ w. before ++ whole w app (n + 1) ls) (sym b.1) ∙ ap (λ out. out ++ whole new app (n + 1) ls) (sym b.2));
-  bad = bad-blank app n l ls b.0;
-  events = λ p. subst AreEvents (sym (events-blank app l ls b.0)) p;
+pub turned : (n : ℕ) (l : List ℕ) (ls : List (List ℕ)) (old new : World) (before now : List ℕ) → RunsLine l old new before now true → Turned n l ls old new before now
+turned n l ls old new before now (inl b) = record {
+  text = ap (λ rest. before ++ rest) (whole-blank old n l ls b.0) ∙ (ap (λ w. before ++ whole w (n + 1) ls) (sym b.1) ∙ ap (λ out. out ++ whole new (n + 1) ls) (sym b.2));
+  bad = bad-blank n l ls b.0;
+  events = λ p. subst AreEvents (sym (events-blank l ls b.0)) p;
 }
-turned app n l ls old new before now (inr r) = record {
+turned n l ls old new before now (inr r) = record {
   text =
-      ap (λ rest. before ++ rest) (whole-event old app n l ls r.event r.is_line r.is_event)
-      ∙ (sym (append_assoc before _ (whole (step old r.event) app (n + 1) ls))
-      ∙ (ap (λ w. (before ++ flat_map (λ (text : List ℕ). text ++ line_feed ∷ []) (map line_text (lines_of old r.event))) ++ whole w app (n + 1) ls) (sym r.world)
-      ∙ ap (λ out. out ++ whole new app (n + 1) ls) (sym r.output)));
-  bad = bad-event app n l ls r.event r.is_line r.is_event;
-  events = λ p. subst AreEvents (sym (events-event app l ls r.event r.is_line r.is_event)) (r.fits, p);
+      ap (λ rest. before ++ rest) (whole-event old n l ls r.event r.is_line r.is_event)
+      ∙ (sym (append_assoc before _ (whole (step old r.event) (n + 1) ls))
+      ∙ (ap (λ w. (before ++ flat_map (λ (text : List ℕ). text ++ line_feed ∷ []) (map line_text (lines_of old r.event))) ++ whole w (n + 1) ls) (sym r.world)
+      ∙ ap (λ out. out ++ whole new (n + 1) ls) (sym r.output)));
+  bad = bad-event n l ls r.event r.is_line r.is_event;
+  events = λ p. subst AreEvents (sym (events-event l ls r.event r.is_line r.is_event)) (r.fits, p);
 }

@@ -2,7 +2,7 @@
 use Rattle.std.specs.Prelude.{◌≡◌, ◌==◌, ℕ, zero, suc, ◌+◌, ◌<◌, ◌≤◌, List, [], ◌∷◌, ◌++◌, length, take, Bool, true, false, cond, Option, Some, None, IfSome, refl}
 use Rattle.std.proofs.Common.{ap, sym, subst, ◌∙◌, arith}
 use Rattle.std.proofs.lemmas.List.{length-append}
-use Rattle.session_model.specs.App.{App}
+use Rattle.app_model.specs.App.{App}
 use Rattle.world_model.specs.declared.events.Event.{Event}
 use Rattle.world_model.specs.declared.events.Event.TheVariants as event
 use Rattle.world_model.specs.Acts.{journal_limit}
@@ -35,12 +35,15 @@ same_app w (e ∷ events) = same_app (step w e) events ∙ step_app w e
   where
     step_app : (w : World) (e : Event) → (step w e).app ≡ w.app
     step_app w (event.Client name) = refl
-    step_app w (event.Sub who id name) = refl
+    step_app w (event.Sub who id name params) = refl
     step_app w (event.Raw who t) = refl
     step_app w (event.Insert key doc) = refl
     step_app w (event.Do who a) = refl
+    step_app w (event.Load who id place) = refl
+    step_app w (event.Advance who id count) = refl
     step_app w event.Settle = settled_app w
     step_app w (event.Show who) = refl
+    step_app w (event.Journal who) = refl
 
 -- the events send and store one thing each at most
 run_made : (app : App) (events : List Event) → AreEvents events → made (run (start app) events) ≤ length events
@@ -50,11 +53,11 @@ shorter : (o : Option Event) (events : List Event) (n : ℕ) → length events �
 shorter None events n h = omega arith
 shorter (Some e) events n h = omega (arith, h)
 
-length-events : (app : App) (ls : List (List ℕ)) → length (events_of app ls) ≤ length ls
-length-events app [] = omega arith
-length-events app (l ∷ ls) =
-    elim (is_blank l) as (λ b. length (cond b (events_of app ls) (before_bad (event_of app l) (events_of app ls))) ≤ suc (length ls))
-    [ true ↦ omega (arith, length-events app ls) | false ↦ shorter (event_of app l) (events_of app ls) (length ls) (length-events app ls) ]
+length-events : (ls : List (List ℕ)) → length (events_of ls) ≤ length ls
+length-events [] = omega arith
+length-events (l ∷ ls) =
+    elim (is_blank l) as (λ b. length (cond b (events_of ls) (before_bad (event_of l) (events_of ls))) ≤ suc (length ls))
+    [ true ↦ omega (arith, length-events ls) | false ↦ shorter (event_of l) (events_of ls) (length ls) (length-events ls) ]
 
 length-with_byte : (b : ℕ) (ls : List (List ℕ)) → length (with_byte b ls) ≤ suc (length ls)
 length-with_byte b [] = omega arith
@@ -87,14 +90,14 @@ run_is_true_throughout app events p few = record {
       let reached : Reachable w = (before, front, ap (λ a. run (start a) before) same) in
       let short : 1 + made w < journal_limit =
       omega (arith, run_made app before front, few, ap (λ (es : List Event). length es) is, length-append before (event.Settle ∷ later)) in
-      subst (λ v. HoldsOf v.client (IsSettled v.history)) (sym (run-append (start app) before (event.Settle ∷ []))) (short_world_settles w reached short);
+      subst (λ v. HoldsOf v.client (IsSettled v.app v.history)) (sym (run-append (start app) before (event.Settle ∷ []))) (short_world_settles w reached short);
 }
 
-pub replay_is_true : (input : List ℕ) → length input ≤ input_limit → ((app : App) → app_of (lines_in input) ≡ Some app → AreEvents (events_of app (rest_of (lines_in input)))) → IsTrueReplay input
+pub replay_is_true : (input : List ℕ) → length input ≤ input_limit → ((app : App) → app_of (lines_in input) ≡ Some app → AreEvents (events_of (rest_of (lines_in input)))) → IsTrueReplay input
 replay_is_true input short p app is =
     let ls = lines_in input in
-    run_is_true_throughout app (events_of app (rest_of ls)) (p app is)
-    (omega (arith, length-events app (rest_of ls), length-rest ls, length-lines input, short))
+    run_is_true_throughout app (events_of (rest_of ls)) (p app is)
+    (omega (arith, length-events (rest_of ls), length-rest ls, length-lines input, short))
 
 -- what holds of the bytes that were read holds of the input, where the source told it
 pub of_the_input : (o : Option (List ℕ)) (P : List ℕ → Type 0) (bytes : List ℕ) → IfSome o (λ old. bytes ≡ old) → P bytes → IfSome o P

@@ -1,17 +1,16 @@
 //! The command `replay`.
-ghost use Rattle.std.specs.Prelude.{◌≡◌, ◌≤◌, ◌<◌, ◌+◌, ◌++◌, ◌∷◌, [], ℕ, List, length, flat_map, is_some, option_copied, Some, None, IfOk, OnOk, OnErr};
-ghost use Rattle.session_model.specs.App.{App as AnApp};
+ghost use Rattle.std.specs.Prelude.{◌≡◌, ◌≤◌, ◌<◌, ◌+◌, ◌++◌, ◌∷◌, [], List, length, flat_map, is_some, Some, None, IfOk, OnOk};
 ghost use Rattle.world_model.specs.World.{start};
 ghost use Rattle.world_model.specs.Run.{AreEvents};
-ghost use Rattle.ejson_value.specs.View.{view};
 ghost use Rattle.ddp.specs.Input.{line_feed, lines_in};
-ghost use Rattle.ddp.specs.Replay.{input_limit, app_of, event_of, events_of, rest_of, bad_line, first_bad, replay_text, printed, all_bytes, bad_value, bad_lines};
+ghost use Rattle.ddp.specs.Replay.{input_limit, app_of, events_of, bad_line, first_bad, replay_text, printed, all_bytes, bad_value, bad_lines};
 ghost use Rattle.ddp.specs.Replay.{AreReplayed, GivesEventOf, RunsLine};
 
 use crate::input::{first_line, is_blank, value_in};
+use app_model::{App, AppFault};
 use ejson_codec::{Lines, text};
 use ejson_value::{Items, Mem, Text, Value, Whole};
-use replay_core::{App, AppFault, Event, LineFault, World};
+use replay_core::{Event, LineFault, World};
 use std::alloc::Global;
 
 /// What a replay writes, and whether a line was bad.
@@ -30,19 +29,19 @@ fn read_app(alloc: Global, line: &[u8]) -> Result<Option<App>, Mem>
     };
     match App::read(alloc, &value) {
         Ok(app) => Ok(Some(app)),
-        Err(AppFault::Bad) => Ok(None),
+        Err(AppFault::Bad { .. }) => Ok(None),
         Err(AppFault::Memory) => Err(Mem),
     }
 }
 
 // The event that the line is, if it is one.
-fn event_in(alloc: Global, app: &App, line: &[u8]) -> Result<Option<Event>, Mem>
-    ensures { IfOk result (GivesEventOf app.now line.now) }
+fn event_in(alloc: Global, line: &[u8]) -> Result<Option<Event>, Mem>
+    ensures { IfOk result (GivesEventOf line.now) }
 {
     let Some(value) = value_in(alloc, line)? else {
         return Ok(None);
     };
-    match Event::read(alloc, app, &value) {
+    match Event::read(alloc, &value) {
         Ok(event) => {
             event.known();
             Ok(Some(event))
@@ -87,17 +86,16 @@ fn add_bad(alloc: Global, output: &mut Vec<u8>, number: u64) -> Result<(), Mem>
 // Runs a line, if it is an event or blank, and answers whether it is.
 fn run_line(
     alloc: Global,
-    app: &App,
     world: &mut World,
     line: &[u8],
     output: &mut Vec<u8>,
 ) -> Result<bool, Mem>
-    ensures { IfOk result (RunsLine app.now line.now world.old world.new output.old.items output.new.items) }
+    ensures { IfOk result (RunsLine line.now world.old world.new output.old.items output.new.items) }
 {
     if is_blank(line) {
         return Ok(true);
     }
-    match event_in(alloc, app, line)? {
+    match event_in(alloc, line)? {
         None => Ok(false),
         Some(event) => {
             add_lines(output, &world.event(&event)?)?;
@@ -107,19 +105,19 @@ fn run_line(
 }
 
 // Runs the lines of an application, and answers whether one of them is bad.
-fn run_lines(alloc: Global, app: &App, lines: &[u8], output: &mut Vec<u8>) -> Result<bool, Mem>
+fn run_lines(alloc: Global, app: App, lines: &[u8], output: &mut Vec<u8>) -> Result<bool, Mem>
     requires { length lines.now ≤ input_limit }
     ensures text { OnOk result (output.new.items ≡ output.old.items ++ all_bytes
-        (printed (start app.now) (events_of app.now (lines_in lines.now)) ++ bad_lines (bad_line app.now 2 (lines_in lines.now)))) }
-    ensures bad { IfOk result (λ bad. bad ≡ is_some (bad_line app.now 2 (lines_in lines.now))) }
-    ensures events { OnOk result (AreEvents (events_of app.now (lines_in lines.now))) }
+        (printed (start app) (events_of (lines_in lines.now)) ++ bad_lines (bad_line 2 (lines_in lines.now)))) }
+    ensures bad { IfOk result (λ bad. bad ≡ is_some (bad_line 2 (lines_in lines.now))) }
+    ensures events { OnOk result (AreEvents (events_of (lines_in lines.now))) }
 {
-    let mut world = World::new(alloc, app)?;
+    let mut world = World::new(alloc, app);
     let mut rest = lines;
     let mut number = 2;
     while !rest.is_empty() {
         let (line, more) = first_line(rest);
-        if !run_line(alloc, app, &mut world, line, output)? {
+        if !run_line(alloc, &mut world, line, output)? {
             add_bad(alloc, output, number)?;
             return Ok(true);
         }
@@ -152,7 +150,7 @@ pub fn replay(alloc: Global, input: &[u8]) -> Result<Outcome, Mem>
             is_bad: true,
         });
     };
-    let is_bad = run_lines(alloc, &app, rest, &mut output)?;
+    let is_bad = run_lines(alloc, app, rest, &mut output)?;
     Ok(Outcome {
         text: output,
         is_bad,

@@ -1,6 +1,6 @@
 //! All that the program does, over any source and sink.
 ghost use Rattle.std.specs.Prelude.{◌≡◌, ◌↔◌, ◌<◌, List};
-ghost use Rattle.session_model.specs.App.{App as AnApp};
+ghost use Rattle.app_model.specs.App.{App as AnApp};
 ghost use Rattle.world_model.specs.declared.events.Event.{Event as AnEvent};
 ghost use Rattle.world_model.specs.World.{start};
 ghost use Rattle.world_model.specs.Run.{run, AreEvents, IsTrueWorld};

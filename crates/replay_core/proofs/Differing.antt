@@ -12,7 +12,7 @@ use Rattle.std.proofs.lemmas.Cmp.{nat_list_cmp_total}
 use Rattle.std.proofs.lemmas.List.{map-append}
 use Rattle.map_model.specs.Orders.{IsAbove}
 use Rattle.map_model.specs.OrderLaws.{IsAbove-from_sorted, put_last}
-use Rattle.map_model.specs.Maps.{at, set, IsSorted, collect, keyed}
+use Rattle.map_model.specs.Maps.{at, IsSorted, collect, keyed}
 use Rattle.map_model.specs.MapLaws.{at-collect, sorted-collect}
 use Rattle.map_model.specs.Differences.{Step, is_there, new_fields, cleared, between, diff, IsDiff}
 use Rattle.map_model.specs.DifferenceLaws.{diff_is, one_diff}
@@ -29,8 +29,6 @@ use Rattle.ejson_value.specs.Rows.{Rows}
 use Rattle.ejson_value.specs.declared.message.DataMsg.{DataMsg}
 use Rattle.session_model.specs.Texts.{server_text}
 use Rattle.session_model.specs.Out.{about, difference}
-use Rattle.session_model.specs.Publication.{collection_of}
-use Rattle.value_model.specs.Size.{is_name}
 use Rattle.replay_core.specs.Difference.{message_at, data_text}
 
 abbrev pub same_value : Val → Val → Bool
@@ -213,17 +211,6 @@ said_step old new done key message from to texts texts' from_is to_is says so_fa
 row_keys-append : (front : Rows) (key : Key) (doc : Entries) (more : Rows) → keys_of (front ++ (key, doc) ∷ more) ≡ keys_of front ++ key ∷ keys_of more
 row_keys-append [] key doc more = refl
 row_keys-append (e ∷ front) key doc more = ap (λ ks. e.0 ∷ ks) (row_keys-append front key doc more)
-
--- one more step of the walk over contents that keeps a collection
-pub kept_step : (name : List ℕ) (all done : Rows) (key : Key) (doc : Entries) (rest rows rows' : Rows) →
-    all ≡ done ++ (key, doc) ∷ rest → IsSorted key_cmp all → rows ≡ collection_of name done →
-    rows' ≡ (if is_name key.collection name then set key_cmp rows key (Some doc) else rows) →
-    rows' ≡ collection_of name (done ++ (key, doc) ∷ [])
-kept_step name all done key doc rest rows rows' is sorted so_far made =
-    made
-    ∙ (ap (λ es. if is_name key.collection name then set key_cmp es key (Some doc) else es) so_far
-    ∙ next_kept key_cmp (λ row. is_name row.0.collection name) done key doc
-    (IsAbove-from_sorted key_total (keys_of done) key (keys_of rest) (subst (IsStrictlySortedBy key_cmp) (ap keys_of is ∙ row_keys-append done key doc rest) sorted)))
 
 pub is_some-map : {A B : Type 0} (f : A → B) (o : Option A) → is_some o ≡ is_some (option_map f o)
 is_some-map f None = refl

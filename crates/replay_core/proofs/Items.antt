@@ -1,7 +1,10 @@
 -- The own texts of items.
-use Rattle.std.proofs.Common.{◌≡◌, ℕ, List, [], ◌∷◌, map, Option, refl, ap}
+use Rattle.std.proofs.Common.{◌≡◌, ℕ, List, [], ◌∷◌, map, Option, Some, refl, ap}
 use Rattle.std.specs.Prelude.{codes}
+use Rattle.value_model.specs.Val.{Val}
 use Rattle.ddp_messages.specs.ServerMessage as server
+use Rattle.session_model.specs.declared.items.SubFault.{SubFault}
+use Rattle.session_model.specs.Publication.{error_of}
 use Rattle.session_model.specs.declared.items.Item.{Item}
 use Rattle.session_model.specs.declared.items.Item.TheVariants as item
 use Rattle.session_model.specs.Texts.{server_text}
@@ -33,9 +36,13 @@ pub of_pong : (n : ℕ) (live : Option ALive) → [] ≡ text_of_item n live ite
 unfolding text_of_item
 of_pong n live = refl
 
-pub of_open : (n : ℕ) (live : Option ALive) (sub : ℕ) (id name : List ℕ) → [] ≡ text_of_item n live (item.Open sub id name)
+pub of_open : (n : ℕ) (live : Option ALive) (sub : ℕ) (id name : List ℕ) (params : List Val) → [] ≡ text_of_item n live (item.Open sub id name params)
 unfolding text_of_item
-of_open n live sub id name = refl
+of_open n live sub id name params = refl
+
+pub of_refuse : (n : ℕ) (live : Option ALive) (id : List ℕ) (fault : SubFault) (t : List ℕ) → t ≡ server_text (server.nosub id (Some (error_of fault))) → t ∷ [] ≡ text_of_item n live (item.Refuse id fault)
+unfolding text_of_item
+of_refuse n live id fault t is = ap (λ x. x ∷ []) is
 
 pub of_advance : (n : ℕ) (live : Option ALive) (sub count : ℕ) → [] ≡ text_of_item n live (item.Advance sub count)
 unfolding text_of_item

@@ -5,7 +5,10 @@ pub mod Fields
 pub mod Stored
 pub mod Worlds
 pub mod Printed
+pub mod Journals
+pub mod Turning
 pub mod Answered
 pub mod Items
 pub mod Told
 pub mod Levels
+pub mod Fronts

@@ -1,16 +1,24 @@
--- Lines of documents, one after another.
+-- Lines, one after another.
 use Rattle.std.proofs.Common.{◌≡◌, ℕ, List, [], ◌∷◌, ◌++◌, map, ap, sym, ◌∙◌}
 use Rattle.std.proofs.lemmas.List.{append_assoc, map-append}
-use Rattle.value_model.specs.Val.{Entries}
-use Rattle.ejson_value.specs.declared.key.Key.{Key}
-use Rattle.ejson_value.specs.Rows.{Rows}
-use Rattle.world_model.specs.Lines.{doc_line}
-use Rattle.replay_core.specs.Text.{line_text}
+use Rattle.value_model.specs.Val.{Val}
+use Rattle.world_model.specs.Lines.{Line, value_line, line_text, values}
 
-pub next_doc : (before lines lines' : List (List ℕ)) (done : Rows) (key : Key) (doc : Entries) → lines ≡ before ++ map line_text (map doc_line done) → lines' ≡ lines ++ line_text (doc_line (key, doc)) ∷ [] →
-    lines' ≡ before ++ map line_text (map doc_line (done ++ (key, doc) ∷ []))
-next_doc before lines lines' done key doc so_far made =
+-- one more line
+pub next_line : {A : Type 0} (f : A → Line) (before lines lines' : List (List ℕ)) (done : List A) (x : A) → lines ≡ before ++ map line_text (map f done) → lines' ≡ lines ++ line_text (f x) ∷ [] →
+    lines' ≡ before ++ map line_text (map f (done ++ x ∷ []))
+next_line f before lines lines' done x so_far made =
     made
-    ∙ (ap (λ ls. ls ++ line_text (doc_line (key, doc)) ∷ []) so_far
-    ∙ (append_assoc before (map line_text (map doc_line done)) (line_text (doc_line (key, doc)) ∷ [])
-    ∙ ap (λ ls. before ++ ls) (sym (ap (map line_text) (map-append doc_line done ((key, doc) ∷ [])) ∙ map-append line_text (map doc_line done) (doc_line (key, doc) ∷ [])))))
+    ∙ (ap (λ ls. ls ++ line_text (f x) ∷ []) so_far
+    ∙ (append_assoc before (map line_text (map f done)) (line_text (f x) ∷ [])
+    ∙ ap (λ ls. before ++ ls) (sym (ap (map line_text) (map-append f done (x ∷ [])) ∙ map-append line_text (map f done) (f x ∷ [])))))
+
+-- one more value
+pub next_value : {A : Type 0} (f : A → Val) (before lines lines' : List (List ℕ)) (done : List A) (x : A) → lines ≡ before ++ map line_text (values (map f done)) → lines' ≡ lines ++ line_text (value_line (f x)) ∷ [] →
+    lines' ≡ before ++ map line_text (values (map f (done ++ x ∷ [])))
+next_value f before lines lines' done x so_far made =
+    made
+    ∙ (ap (λ ls. ls ++ line_text (value_line (f x)) ∷ []) so_far
+    ∙ (append_assoc before (map line_text (values (map f done))) (line_text (value_line (f x)) ∷ [])
+    ∙ ap (λ ls. before ++ ls)
+    (sym (ap (λ vs. map line_text (values vs)) (map-append f done (x ∷ [])) ∙ (ap (map line_text) (map-append value_line (map f done) (f x ∷ [])) ∙ map-append line_text (values (map f done)) (value_line (f x) ∷ []))))))

@@ -5,7 +5,7 @@ use Rattle.std.specs.Borrow.{Bor}
 use Rattle.std.specs.Bool.{OnFalse}
 use Rattle.world_model.specs.declared.events.Act.TheVariants as act
 use Rattle.std.specs.Prelude.{◌||◌, option_copied, option_map, is_some, is_none, if◌then◌else◌}
-use Rattle.session_model.specs.App.{App}
+use Rattle.app_model.specs.App.{App}
 use Rattle.session_model.specs.History.{Entry, contents, can_insert, IsStored}
 use Rattle.session_model.specs.Journal.{live_of}
 use Rattle.session_model.specs.OutLaws.{shown-longer, within_from}
@@ -28,12 +28,15 @@ use Rattle.replay_core.specs.declared.world.World.TheInside.{Inside}
 
 app_stays : (w : World) (e : Event) → (step w e).app ≡ w.app
 app_stays w (event.Client name) = refl
-app_stays w (event.Sub who id name) = refl
+app_stays w (event.Sub who id name params) = refl
 app_stays w (event.Raw who t) = refl
 app_stays w (event.Insert key doc) = refl
 app_stays w (event.Do who a) = refl
+app_stays w (event.Load who id place) = refl
+app_stays w (event.Advance who id count) = refl
 app_stays w event.Settle = settled_keeps (λ v. v.app ≡ w.app) (λ a v p. p) w refl
 app_stays w (event.Show who) = refl
+app_stays w (event.Journal who) = refl
 
 run-append : (w : World) (events : List Event) (e : Event) → run w (events ++ e ∷ []) ≡ step (run w events) e
 run-append w [] e = refl
@@ -94,12 +97,12 @@ longer_session : (store : Stored) (more : List Entry) (c : Option Connection) �
     Stands (record store { history = store.history ++ more }) c
 longer_session store more None k s = tt
 longer_session store more (Some c) k s =
-    let live = live_of c.session.journal.items in
+    let live = live_of store.app c.session.journal.items in
     record {
       connected = s.connected;
       failed = s.failed;
       live = s.live;
-      shown = s.shown ∙ sym (shown-longer store.app store.history more live (within_from (length store.history) false None c.session.journal.items tt k.fits));
+      shown = s.shown ∙ sym (shown-longer store.history more live (within_from store.app (length store.history) false None c.session.journal.items tt k.fits));
     }
 
 -- an insert that nothing refuses

@@ -1,14 +1,13 @@
 -- What a client of the program and its session stand for.
-use Rattle.std.specs.Prelude.{ℕ, List, [], ◌∷◌, Option, None, option_map, false}
+use Rattle.std.specs.Prelude.{ℕ, List, [], ◌∷◌, ◌++◌, Option, None, Some, false}
+use Rattle.map_model.specs.Maps.{set}
+use Rattle.value_model.specs.Order.{text_cmp}
 use Rattle.ddp_messages.specs.ClientMessage as client
 use Rattle.session_model.specs.Texts.{client_text}
-use Rattle.world_model.specs.Client.{Client as AClient, Sub as ASub, connect_text}
-use Rattle.replay_core.specs.declared.connection.Sub.{Sub}
+use Rattle.world_model.specs.declared.subs.SubState.TheVariants as state
+use Rattle.world_model.specs.Client.{Client as AClient, connect_text}
 use Rattle.replay_core.specs.declared.connection.Client.{Client}
 use Rattle.replay_core.specs.declared.connection.Connection.{Connection}
-
-abbrev pub as_sub : Sub → ASub
-as_sub s = record { id = s.id; state = s.state }
 
 abbrev pub client_of : Connection → AClient
 client_of c = record {
@@ -25,7 +24,7 @@ client_of c = record {
   is_failed = c.client.is_failed;
   broken = c.client.broken;
   rows = c.client.rows;
-  sub = option_map as_sub c.client.sub;
+  subs = c.client.subs;
 }
 
 -- the client with what this one has
@@ -37,12 +36,16 @@ with_client c k = record c {
   is_failed = k.is_failed;
   broken = k.broken;
   rows = k.rows;
-  sub = option_map as_sub k.sub;
+  subs = k.subs;
 }
 
 -- the client with what one has at its beginning
 abbrev pub begun : List ℕ → AClient → AClient
-begun name c = record c { name = name; waiting = connect_text ∷ []; session = None; is_failed = false; broken = None; rows = []; sub = None }
+begun name c = record c { name = name; waiting = connect_text ∷ []; session = None; is_failed = false; broken = None; rows = []; subs = [] }
 
 abbrev pub pong_text : Option (List ℕ) → List ℕ
 pong_text id = client_text (client.pong id)
+
+-- the client once it asked for a subscription of this id by this text
+abbrev pub asking : AClient → List ℕ → List ℕ → AClient
+asking c id t = record c { waiting = c.waiting ++ t ∷ []; subs = set text_cmp c.subs id (Some state.Waiting) }

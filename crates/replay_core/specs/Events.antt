@@ -1,12 +1,12 @@
 -- The event that a line describes.
-use Rattle.std.specs.Prelude.{ℕ, List, length, Bool, true, false, Option, Some, None, option_and_then, option_map, is_some, nat_lt, nat_le, ◌&&◌, if◌then◌else◌, codes}
-use Rattle.value_model.specs.Val.{Val, text, list, object, Vals, no_vals, val, entries_of, fields_of, Entries}
+use Rattle.std.specs.Prelude.{ℕ, ℤ, List, [], length, Bool, true, false, Option, Some, None, option_and_then, option_map, nat_lt, nat_le, ◌&&◌, if◌then◌else◌, codes}
+use Rattle.std.specs.List.{list_all}
+use Rattle.value_model.specs.Val.{Val, int, text, list, object, Vals, list_of, no_vals, val, entries_of, fields_of, Entries}
 use Rattle.value_model.specs.Depth.{depth}
 use Rattle.value_model.specs.Doc.{get, remove}
 use Rattle.value_model.specs.Size.{is_name}
 use Rattle.ejson_codec.specs.Reading.{max_levels}
 use Rattle.ddp_messages.specs.Answers.{client_answer}
-use Rattle.session_model.specs.App.{App, publication}
 use Rattle.world_model.specs.Run.{asks_in}
 use Rattle.world_model.specs.declared.events.Act.{Act}
 use Rattle.world_model.specs.declared.events.Act.TheVariants as act
@@ -36,25 +36,50 @@ abbrev pub doc_alone : Vals → Option Entries
 doc_alone (val (object fs) rest) = if is_nil rest then Some (entries_of fs) else None
 doc_alone _ = None
 
--- no parameters, or an empty list of them
-abbrev pub has_no_params : Vals → Bool
-has_no_params no_vals = true
-has_no_params (val (list vs) rest) = is_nil rest && is_nil vs
-has_no_params _ = false
+-- each value has at most 32 levels
+abbrev pub have_few_levels : Vals → Bool
+have_few_levels vs = list_all (λ v. nat_le (depth v) max_levels) (list_of vs)
 
--- a subscription to a publication of the application, its id and the publication's name of at most 256 bytes (an application's names have at most 128)
-abbrev pub sub_with : App → List ℕ → List ℕ → List ℕ → Vals → Option Event
-sub_with app who id name params =
-    if has_no_params params && nat_lt (length id) 257 && nat_lt (length name) 257 && is_some (publication app name) then Some (event.Sub who id name) else None
+-- the parameters: none, or those of a list that stands alone, each of at most 32 levels
+abbrev pub params_in : Vals → Option (List Val)
+params_in no_vals = Some []
+params_in (val (list vs) rest) = if is_nil rest && have_few_levels vs then Some (list_of vs) else None
+params_in _ = None
 
--- `["sub",client,id,name]` and `["sub",client,id,name,[]]`, after the word
-abbrev pub sub_in : App → Vals → Option Event
-sub_in app vs =
+-- a subscription, its id of at most 256 bytes
+abbrev pub sub_with : List ℕ → List ℕ → List ℕ → Vals → Option Event
+sub_with who id name params = if nat_lt (length id) 257 then option_map (event.Sub who id name) (params_in params) else None
+
+-- `["sub",client,id,name]` and `["sub",client,id,name,parameters]`, after the word
+abbrev pub sub_in : Vals → Option Event
+sub_in vs =
     option_and_then (λ who.
     option_and_then (λ id.
-    option_and_then (λ name. sub_with app who.0 id.0 name.0 name.1) (text_first id.1))
+    option_and_then (λ name. sub_with who.0 id.0 name.0 name.1) (text_first id.1))
     (text_first who.1))
     (text_first vs)
+
+-- a whole number that stands alone, or nothing
+abbrev pub number_in : Vals → Option (Option ℤ)
+number_in no_vals = Some None
+number_in (val (int z) rest) = if is_nil rest then Some (Some z) else None
+number_in _ = None
+
+-- a client, an id and perhaps a whole number
+abbrev pub placed_in : Vals → Option (List ℕ × List ℕ × Option ℤ)
+placed_in vs =
+    option_and_then (λ who.
+    option_and_then (λ id.
+    option_map (λ number. (who.0, id.0, number)) (number_in id.1))
+    (text_first who.1))
+    (text_first vs)
+
+-- `["load",client,id]` and `["load",client,id,place]`; `["advance",client,id]` and `["advance",client,id,count]`
+abbrev pub load_at : List ℕ × List ℕ × Option ℤ → Event
+load_at p = event.Load p.0 p.1 p.2
+
+abbrev pub advance_by : List ℕ × List ℕ × Option ℤ → Event
+advance_by p = event.Advance p.0 p.1 p.2
 
 -- a text that asks for nothing. Subscriptions are asked for by `sub`
 abbrev pub raw_with : List ℕ → List ℕ → Option Event
@@ -108,17 +133,20 @@ abbrev pub step_in : List ℕ → Vals → Option Event
 step_in word vs = option_and_then (λ a. option_map (λ who. event.Do who a) (text_alone vs)) (act_of word)
 
 -- the event of this word and what follows it
-abbrev pub row_in : App → List ℕ → Vals → Option Event
-row_in app word vs =
+abbrev pub row_in : List ℕ → Vals → Option Event
+row_in word vs =
     if is_name word (codes "client") then option_map event.Client (text_alone vs)
-    else if is_name word (codes "sub") then sub_in app vs
+    else if is_name word (codes "sub") then sub_in vs
     else if is_name word (codes "raw") then raw_in vs
     else if is_name word (codes "admin") then admin_in vs
     else if is_name word (codes "settle") then (if is_nil vs then Some event.Settle else None)
+    else if is_name word (codes "load") then option_map load_at (placed_in vs)
+    else if is_name word (codes "advance") then option_map advance_by (placed_in vs)
     else if is_name word (codes "show") then option_map event.Show (text_alone vs)
+    else if is_name word (codes "journal") then option_map event.Journal (text_alone vs)
     else step_in word vs
 
 -- the event of a line
-abbrev pub event_in : App → Val → Option Event
-event_in app (list vs) = option_and_then (λ first. row_in app first.0 first.1) (text_first vs)
-event_in app _ = None
+abbrev pub event_in : Val → Option Event
+event_in (list vs) = option_and_then (λ first. row_in first.0 first.1) (text_first vs)
+event_in _ = None

@@ -1,5 +1,4 @@
 pub mod Faults
-pub mod App
 pub mod Difference
 pub mod Events
 pub mod Store
@@ -10,4 +9,3 @@ pub mod Sessions
 pub mod Connections
 pub mod Worlds
 pub mod Left
-pub mod Text

@@ -33,6 +33,6 @@ abbrev pub taken_message : Bool → Option Val → ClientMessage → Taken
 taken_message connected shown (connect version support) = if connected then refused_for (codes "Already connected") shown else at_once (connected_by version)
 taken_message connected shown (ping id) = once_connected connected shown (at_once (item.Ping id))
 taken_message connected shown (pong id) = once_connected connected shown (at_once item.Pong)
-taken_message connected shown (sub id name params) = once_connected connected shown (to_queue (record { id = id; name = name }))
+taken_message connected shown (sub id name params) = once_connected connected shown (to_queue (record { id = id; name = name; params = params }))
 taken_message connected shown (unsub id) = once_connected connected shown (refused_for (codes "Bad request") shown)
 taken_message connected shown (method id name params seed) = once_connected connected shown (refused_for (codes "Bad request") shown)

@@ -1,26 +1,26 @@
 //! A client with its session and the links between them.
-ghost use Rattle.std.specs.Prelude.{◌≡◌, ◌++◌, ◌∷◌, [], ℕ, List, length, IfOk, OnOk, OnErr, Some, None, option_map};
+ghost use Rattle.std.specs.Prelude.{◌≡◌, ◌∷◌, [], IfOk, OnOk, OnErr, Some, None};
 ghost use Rattle.map_model.specs.Differences.{with_fields, without, all_taken, changed as changes};
 ghost use Rattle.value_model.specs.Order.{text_cmp};
 ghost use Rattle.ejson_value.specs.Key.{key_cmp};
 ghost use Rattle.ejson_value.specs.Messages.{said};
-ghost use Rattle.ddp_messages.specs.ClientMessage.{client_view};
 ghost use Rattle.ddp_messages.specs.ServerMessage.{server_view};
 ghost use Rattle.session_model.specs.Journal.{live_of};
-ghost use Rattle.session_model.specs.Texts.{client_text};
 ghost use Rattle.world_model.specs.Client.{Client as AClient, connect_text, new_client};
-ghost use Rattle.world_model.specs.Acts.{moves_up, receives, handles, loads, advances, sends, takes};
-ghost use Rattle.world_model.specs.Taking.{ended_by, turned, readied, told, told_unless, told_text, message_refusal};
+ghost use Rattle.world_model.specs.Acts.{moves_up, receives, handles, loads, advances, loads_named, advances_named, sends, takes};
+ghost use Rattle.world_model.specs.Taking.{ended_by, readied, told, told_unless, told_text, message_refusal};
 ghost use Rattle.replay_core.specs.Store.{Stored};
 ghost use Rattle.replay_core.specs.Sessions.{IsTrueTo, Does};
-ghost use Rattle.replay_core.specs.Connections.{as_sub, client_of, with_client, pong_text, begun};
+ghost use Rattle.replay_core.specs.Connections.{client_of, with_client, pong_text, begun};
 
 use crate::hearing::{MALFORMED, NO_OBJECT, refusal};
 use crate::queue::Queue;
 use crate::session::Session;
 use crate::store::Store;
+use crate::subs::Subs;
 use ddp_messages::{FromClient, FromServer, MsgFault};
-use ejson_value::{Contents, DataMsg, Doc, Fault, Key, Mem, Names, Text, copy};
+use ejson_value::{Contents, DataMsg, Doc, Fault, Key, Mem, Names, Text, Whole, copy};
+use session_model::requests::Request;
 use std::alloc::Global;
 use world_model::subs::SubState;
 
@@ -30,15 +30,8 @@ const LINK_LIMIT: usize = 256;
 /// How many bytes a text may have that a client reads.
 const MAX_SERVER_TEXT: usize = 4_194_304;
 
-/// A subscription as its client knows it.
-#[derive(Debug, Drop)]
-pub(crate) struct Sub {
-    pub(crate) id: Text,
-    pub(crate) state: SubState,
-}
-
 /// A client: the texts that wait in it, the name of its session, its documents and its
-/// subscription.
+/// subscriptions.
 #[derive(Debug, Drop)]
 pub(crate) struct Client {
     pub(crate) name: Text,
@@ -49,7 +42,7 @@ pub(crate) struct Client {
     /// The number of the refusal of the text that broke the client.
     pub(crate) broken: Option<u64>,
     pub(crate) rows: Contents,
-    pub(crate) sub: Option<Sub>,
+    pub(crate) subs: Subs,
 }
 
 /// A client, its session and the two links.
@@ -129,26 +122,12 @@ fn change(rows: &mut Contents, key: &Key, fields: &Doc, cleared: &[Text]) -> Res
     }
 }
 
-// The subscription, where it has this id, is in this state now.
-fn turn(sub: &mut Option<Sub>, id: &Text, state: SubState)
-    ensures { option_map as_sub sub.new ≡ turned state id.now (option_map as_sub sub.old) }
-{
-    match sub {
-        Some(sub) => {
-            if sub.id.as_str() == id.as_str() {
-                sub.state = state;
-            }
-        }
-        None => {}
-    }
-}
-
 // The subscriptions of these ids are ready.
-fn turn_ready(sub: &mut Option<Sub>, ids: &Names)
-    ensures { option_map as_sub sub.new ≡ readied ids.now (option_map as_sub sub.old) }
+fn turn_ready(subs: &mut Subs, ids: &Names)
+    ensures { subs.new ≡ readied ids.now subs.old }
 {
     for id in ids.as_slice() {
-        turn(sub, id, SubState::Ready);
+        subs.turn(id, SubState::Ready);
     }
 }
 
@@ -189,6 +168,16 @@ fn connect(alloc: Global) -> Result<Text, Mem>
     connect.text(alloc)
 }
 
+fn copied(request: &Request) -> Result<Request, Mem>
+    ensures { IfOk result (λ copy. copy ≡ request.now) }
+{
+    Ok(Request {
+        id: request.id.copy()?,
+        name: request.name.copy()?,
+        params: request.params.copy()?,
+    })
+}
+
 impl Client {
     /// A client at its beginning: its `connect` waits.
     fn new(alloc: Global, name: &Text) -> Result<Client, Mem>
@@ -203,7 +192,7 @@ impl Client {
             is_failed: false,
             broken: None,
             rows: Contents::new(alloc),
-            sub: None,
+            subs: Subs::new(alloc),
         })
     }
 
@@ -227,11 +216,11 @@ impl Client {
             }
             FromServer::Nosub { id, error } => {
                 let state = ended_by(error)?;
-                turn(&mut self.sub, id, state);
+                self.subs.turn(id, state);
                 Ok(())
             }
             FromServer::Ready { subs } => {
-                turn_ready(&mut self.sub, subs);
+                turn_ready(&mut self.subs, subs);
                 Ok(())
             }
             FromServer::Data(message) => take_data(&mut self.rows, message),
@@ -342,9 +331,8 @@ impl Connection {
         let Some(request) = self.session.queue.first() else {
             return Ok(false);
         };
-        let id = request.id.copy()?;
-        let name = request.name.copy()?;
-        self.session.open(store, id, name)?;
+        let request = copied(request)?;
+        self.session.answer(store, request)?;
         self.session.queue.drop_first();
         Ok(true)
     }
@@ -352,7 +340,7 @@ impl Connection {
     /// The session loads its subscription.
     pub(crate) fn load(&mut self, store: &Store) -> Result<bool, Mem>
         requires { IsTrueTo store.now self.old.session }
-        ensures ok { IfOk result (λ done. Does done (client_of self.old) (client_of self.new) (loads store.now.app store.now.history (client_of self.old) (live_of self.old.session.journal.items))) }
+        ensures ok { IfOk result (λ done. Does done (client_of self.old) (client_of self.new) (loads store.now.app store.now.history (client_of self.old) (live_of store.now.app self.old.session.journal.items))) }
         ensures err { OnErr result (client_of self.new ≡ client_of self.old) }
         ensures stands { IsTrueTo store.now self.new.session }
     {
@@ -360,10 +348,43 @@ impl Connection {
         Ok(done)
     }
 
+    /// The session loads the subscription of this id, at this place or at the end of the history.
+    pub(crate) fn load_named(
+        &mut self,
+        store: &Store,
+        id: &Text,
+        place: Option<Whole>,
+    ) -> Result<bool, Mem>
+        requires { IsTrueTo store.now self.old.session }
+        ensures ok { IfOk result (λ done. Does done (client_of self.old) (client_of self.new) (loads_named store.now.app store.now.history (client_of self.old) id.now place (live_of store.now.app self.old.session.journal.items))) }
+        ensures err { OnErr result (client_of self.new ≡ client_of self.old) }
+        ensures stands { IsTrueTo store.now self.new.session }
+    {
+        let done = self.session.load_named(store, id, place)?;
+        Ok(done)
+    }
+
+    /// The session leads the subscription of this id on, by so many inserts or to the end of the
+    /// history.
+    pub(crate) fn advance_named(
+        &mut self,
+        store: &Store,
+        id: &Text,
+        count: Option<Whole>,
+    ) -> Result<bool, Mem>
+        requires { IsTrueTo store.now self.old.session }
+        ensures ok { IfOk result (λ done. Does done (client_of self.old) (client_of self.new) (advances_named store.now.app store.now.history (client_of self.old) id.now count (live_of store.now.app self.old.session.journal.items))) }
+        ensures err { OnErr result (client_of self.new ≡ client_of self.old) }
+        ensures stands { IsTrueTo store.now self.new.session }
+    {
+        let done = self.session.advance_named(store, id, count)?;
+        Ok(done)
+    }
+
     /// The session leads its subscription on to the end of the history.
     pub(crate) fn advance(&mut self, store: &Store) -> Result<bool, Mem>
         requires { IsTrueTo store.now self.old.session }
-        ensures ok { IfOk result (λ done. Does done (client_of self.old) (client_of self.new) (advances store.now.app store.now.history (client_of self.old) (live_of self.old.session.journal.items))) }
+        ensures ok { IfOk result (λ done. Does done (client_of self.old) (client_of self.new) (advances store.now.app store.now.history (client_of self.old) (live_of store.now.app self.old.session.journal.items))) }
         ensures err { OnErr result (client_of self.new ≡ client_of self.old) }
         ensures stands { IsTrueTo store.now self.new.session }
     {

@@ -1,10 +1,10 @@
 //! The texts of the messages that lead from some documents to others (Meteor's DDP.md, "Managing Data").
-ghost use Rattle.std.specs.Prelude.{◌≡◌, ◌||◌, ◌++◌, ℕ, map, IfOk, OnOk, Some, is_some, option_map, if◌then◌else◌, ◌∷◌, [], option_to_list};
+ghost use Rattle.std.specs.Prelude.{◌≡◌, ◌||◌, ◌++◌, map, IfOk, OnOk, Some, is_some, option_map, if◌then◌else◌, ◌∷◌, [], option_to_list};
 ghost use Rattle.std.specs.Ordering.{eq_by_cmp};
 ghost use Rattle.std.specs.List.{list_any};
 ghost use Rattle.std.specs.List.Sorted.{IsStrictlySortedBy};
-ghost use Rattle.map_model.specs.Maps.{at, IsSorted};
-ghost use Rattle.map_model.specs.Differences.{is_there, new_fields, cleared, changed_unless_same, between};
+ghost use Rattle.map_model.specs.Maps.{at};
+ghost use Rattle.map_model.specs.Differences.{is_there, new_fields, cleared, between};
 ghost use Rattle.value_model.specs.Order.{text_cmp, compare};
 ghost use Rattle.value_model.specs.Doc.{put};
 ghost use Rattle.ejson_value.specs.View.{view};

@@ -5,7 +5,6 @@ ghost use Rattle.world_model.specs.Run.{IsEvent};
 ghost use Rattle.replay_core.specs.Events.{event_in};
 ghost use Rattle.replay_core.specs.Faults.{GivesEvent};
 
-use crate::app::App;
 use crate::fault::LineFault;
 use crate::grammar::event_in;
 use ejson_value::Value;
@@ -14,7 +13,7 @@ use std::marker::Model;
 use world_model::events::Event as Happening;
 
 /// An event of the program, as a line describes it. A contract sees it as what happens: an id of a
-/// subscription and the name of its publication have at most 256 bytes, a document is one that a
+/// subscription has at most 256 bytes and its parameters at most 32 levels, a document is one that a
 /// store keeps, and a text that is sent as it stands asks for nothing.
 #[derive(Debug, Drop)]
 pub struct Event {
@@ -39,15 +38,16 @@ impl Model for Event {
 }
 
 impl Event {
-    /// The event that the line describes, of an application: `["client",c]`, `["sub",c,id,name]` and
-    /// `["sub",c,id,name,[]]` of a publication of the application, `["raw",c,text]` of a text that
-    /// asks for nothing, `["admin",["insert",collection,doc]]` with the id as the document's field
-    /// `_id`, `["settle"]`, `["show",c]`, and for a single step `["up",c]`, `["recv",c]`,
-    /// `["handle",c]`, `["send",c]` and `["take",c]`.
-    pub fn read(alloc: Global, app: &App, line: &Value) -> Result<Event, LineFault>
-        ensures { GivesEvent result (event_in app.now (view line.now)) }
+    /// The event that the line describes: `["client",c]`, `["sub",c,id,name]` and
+    /// `["sub",c,id,name,parameters]`, `["raw",c,text]` of a text that asks for nothing,
+    /// `["admin",["insert",collection,doc]]` with the id as the document's field `_id`, `["settle"]`,
+    /// `["show",c]`, `["journal",c]`, `["load",c,id]` and `["load",c,id,place]`,
+    /// `["advance",c,id]` and `["advance",c,id,count]`, and for a single step `["up",c]`,
+    /// `["recv",c]`, `["handle",c]`, `["send",c]` and `["take",c]`.
+    pub fn read(alloc: Global, line: &Value) -> Result<Event, LineFault>
+        ensures { GivesEvent result (event_in (view line.now)) }
     {
-        match event_in(alloc, app, line)? {
+        match event_in(alloc, line)? {
             Some(happening) => Ok(Event { happening }),
             None => Err(LineFault::NotAnEvent),
         }

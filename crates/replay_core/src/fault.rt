@@ -2,27 +2,6 @@
 use ejson_value::Mem;
 use thiserror::Error;
 
-/// Why a line was not read as an application.
-#[derive(Clone, Copy, Debug, PartialEq, Eq, Error)]
-pub enum AppFault {
-    /// The line describes no application.
-    #[error("the line describes no application")]
-    Bad,
-    #[error("out of memory")]
-    Memory,
-}
-
-impl From<Mem> for AppFault {
-    ghost use Rattle.std.specs.Prelude.{◌≡◌};
-    ghost use Rattle.replay_core.specs.declared.fault.AppFault.TheVariants.{Memory};
-
-    ghost from_gives = { λ _ e. e ≡ Memory };
-
-    fn from(_: Mem) -> AppFault {
-        AppFault::Memory
-    }
-}
-
 /// Why a line was not read as an event.
 #[derive(Clone, Copy, Debug, PartialEq, Eq, Error)]
 pub enum LineFault {

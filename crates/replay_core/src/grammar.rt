@@ -1,5 +1,6 @@
 //! What the lines of events look like.
 ghost use Rattle.std.specs.Prelude.{◌≡◌, length, nat_lt, IfOk, IfSome, MatchOption, Some, None, nat_le, if◌then◌else◌, option_copied, option_map};
+ghost use Rattle.std.specs.List.{list_all};
 ghost use Rattle.value_model.specs.Val.{vals_of, val, no_vals};
 ghost use Rattle.value_model.specs.Depth.{depth};
 ghost use Rattle.ejson_value.specs.View.{view, views};
@@ -7,12 +8,12 @@ ghost use Rattle.ejson_codec.specs.Reading.{max_levels};
 ghost use Rattle.world_model.specs.declared.events.Event.TheVariants as event;
 ghost use Rattle.ddp_messages.specs.ClientMessage.{client_view};
 ghost use Rattle.ddp_messages.specs.Answers.{client_answer};
+ghost use Rattle.ddp_messages.specs.Limits.{AreShallow};
 ghost use Rattle.world_model.specs.Run.{IsEvent, asks, asks_in};
-ghost use Rattle.replay_core.specs.Events.{text_first, is_nil, text_alone, list_alone, doc_alone, has_no_params, sub_with, sub_in, raw_with, raw_in, is_valid_id, is_shallow, insert_in, operation_in, admin_in, act_of, step_in, row_in, event_in};
+ghost use Rattle.replay_core.specs.Events.{text_first, is_nil, text_alone, list_alone, doc_alone, params_in, sub_with, sub_in, number_in, placed_in, load_at, advance_by, raw_with, raw_in, is_valid_id, is_shallow, insert_in, operation_in, admin_in, act_of, step_in, row_in, event_in};
 
-use crate::app::App;
 use ddp_messages::{FromClient, MsgFault};
-use ejson_value::{Doc, Key, Mem, Text, Value, depth};
+use ejson_value::{Doc, Items, Key, Mem, Text, Value, Whole, depth};
 use std::alloc::Global;
 use world_model::events::{Act, Event};
 
@@ -81,16 +82,36 @@ fn doc_alone(values: &[Value]) -> Option<&Doc>
     if is_nil(rest) { Some(doc) } else { None }
 }
 
-// Whether there are no parameters, or an empty list of them.
-fn has_no_params(values: &[Value]) -> bool
-    ensures { result ≡ has_no_params (vals_of (views values.now)) }
+// Whether each value has at most 32 levels.
+fn have_few_levels(values: &[Value]) -> bool
+    ensures { result ≡ list_all (λ v. nat_le (depth v) max_levels) (views values.now) }
+{
+    for value in values {
+        if !has_few_levels(value) {
+            return false;
+        }
+    }
+    true
+}
+
+// The parameters that stand alone; none where nothing stands.
+fn params_in(alloc: Global, values: &[Value]) -> Result<Option<Items>, Mem>
+    ensures found { IfOk result (λ params. params ≡ params_in (vals_of (views values.now))) }
+    ensures shallow { IfOk result (λ params. IfSome params AreShallow) }
 {
     let Some((first, rest)) = values.split_first() else {
-        return true;
+        return Ok(Some(Items::new(alloc)));
     };
-    match first {
-        Value::List(items) => is_nil(rest) && is_nil(items.as_slice()),
-        _ => false,
+    let Value::List(items) = first else {
+        return Ok(None);
+    };
+    if !is_nil(rest) {
+        return Ok(None);
+    }
+    if have_few_levels(items.as_slice()) {
+        Ok(Some(items.copy()?))
+    } else {
+        Ok(None)
     }
 }
 
@@ -103,28 +124,32 @@ fn is_short(text: &Text) -> bool
 
 // The subscription of these parts.
 fn sub_with(
-    app: &App,
+    alloc: Global,
     client: &Text,
     id: &Text,
     name: &Text,
     params: &[Value],
 ) -> Result<Option<Event>, Mem>
-    ensures found { IfOk result (λ e. e ≡ sub_with app.now client.now id.now name.now (vals_of (views params.now))) }
+    ensures found { IfOk result (λ e. e ≡ sub_with client.now id.now name.now (vals_of (views params.now))) }
     ensures events { IfOk result (λ e. IfSome e IsEvent) }
 {
-    if has_no_params(params) && is_short(id) && is_short(name) && app.publication(name).is_some() {
-        Ok(Some(Event::Sub {
-            client: client.copy()?,
-            id: id.copy()?,
-            name: name.copy()?,
-        }))
-    } else {
-        Ok(None)
+    if !is_short(id) {
+        return Ok(None);
     }
+    let Some(params) = params_in(alloc, params)? else {
+        return Ok(None);
+    };
+    params.known();
+    Ok(Some(Event::Sub {
+        client: client.copy()?,
+        id: id.copy()?,
+        name: name.copy()?,
+        params,
+    }))
 }
 
-fn read_sub(app: &App, values: &[Value]) -> Result<Option<Event>, Mem>
-    ensures found { IfOk result (λ e. e ≡ sub_in app.now (vals_of (views values.now))) }
+fn read_sub(alloc: Global, values: &[Value]) -> Result<Option<Event>, Mem>
+    ensures found { IfOk result (λ e. e ≡ sub_in (vals_of (views values.now))) }
     ensures events { IfOk result (λ e. IfSome e IsEvent) }
 {
     let Some((client, rest)) = text_first(values) else {
@@ -136,7 +161,68 @@ fn read_sub(app: &App, values: &[Value]) -> Result<Option<Event>, Mem>
     let Some((name, params)) = text_first(rest) else {
         return Ok(None);
     };
-    sub_with(app, client, id, name, params)
+    sub_with(alloc, client, id, name, params)
+}
+
+// The number that stands alone, or nothing.
+fn number_in(values: &[Value]) -> Option<Option<Whole>>
+    ensures { result ≡ number_in (vals_of (views values.now)) }
+{
+    let Some((first, rest)) = values.split_first() else {
+        return Some(None);
+    };
+    let Value::Int(number) = first else {
+        return None;
+    };
+    if is_nil(rest) {
+        Some(Some(*number))
+    } else {
+        None
+    }
+}
+
+// A client, an id and perhaps a number.
+fn placed_in(values: &[Value]) -> Option<(&Text, &Text, Option<Whole>)>
+    ensures { option_map (λ p. (p.0.now, p.1.now, p.2)) result ≡ placed_in (vals_of (views values.now)) }
+{
+    let Some((client, rest)) = text_first(values) else {
+        return None;
+    };
+    let Some((id, rest)) = text_first(rest) else {
+        return None;
+    };
+    match number_in(rest) {
+        Some(number) => Some((client, id, number)),
+        None => None,
+    }
+}
+
+fn read_load(values: &[Value]) -> Result<Option<Event>, Mem>
+    ensures found { IfOk result (λ e. e ≡ option_map load_at (placed_in (vals_of (views values.now)))) }
+    ensures events { IfOk result (λ e. IfSome e IsEvent) }
+{
+    let Some((client, id, at)) = placed_in(values) else {
+        return Ok(None);
+    };
+    Ok(Some(Event::Load {
+        client: client.copy()?,
+        id: id.copy()?,
+        at,
+    }))
+}
+
+fn read_advance(values: &[Value]) -> Result<Option<Event>, Mem>
+    ensures found { IfOk result (λ e. e ≡ option_map advance_by (placed_in (vals_of (views values.now)))) }
+    ensures events { IfOk result (λ e. IfSome e IsEvent) }
+{
+    let Some((client, id, count)) = placed_in(values) else {
+        return Ok(None);
+    };
+    Ok(Some(Event::Advance {
+        client: client.copy()?,
+        id: id.copy()?,
+        count,
+    }))
 }
 
 // Whether a session's client asks for something by the message.
@@ -307,6 +393,18 @@ fn read_show(values: &[Value]) -> Result<Option<Event>, Mem>
     }
 }
 
+fn read_journal(values: &[Value]) -> Result<Option<Event>, Mem>
+    ensures found { IfOk result (λ e. e ≡ option_map event.Journal (text_alone (vals_of (views values.now)))) }
+    ensures events { IfOk result (λ e. IfSome e IsEvent) }
+{
+    match text_alone(values) {
+        Some(client) => Ok(Some(Event::Journal {
+            client: client.copy()?,
+        })),
+        None => Ok(None),
+    }
+}
+
 // The step that the word names.
 fn act_of(word: &Text) -> Option<Act>
     ensures { result ≡ act_of word.now }
@@ -338,31 +436,34 @@ fn read_step(word: &Text, values: &[Value]) -> Result<Option<Event>, Mem>
 }
 
 // The event of this word and what follows it.
-fn read_row(alloc: Global, app: &App, word: &Text, values: &[Value]) -> Result<Option<Event>, Mem>
-    ensures found { IfOk result (λ e. e ≡ row_in app.now word.now (vals_of (views values.now))) }
+fn read_row(alloc: Global, word: &Text, values: &[Value]) -> Result<Option<Event>, Mem>
+    ensures found { IfOk result (λ e. e ≡ row_in word.now (vals_of (views values.now))) }
     ensures events { IfOk result (λ e. IfSome e IsEvent) }
 {
     match word.as_str() {
         "client" => read_client(values),
-        "sub" => read_sub(app, values),
+        "sub" => read_sub(alloc, values),
         "raw" => read_raw(alloc, values),
         "admin" => read_admin(alloc, values),
         "settle" if is_nil(values) => Ok(Some(Event::Settle)),
+        "load" => read_load(values),
+        "advance" => read_advance(values),
         "show" => read_show(values),
+        "journal" => read_journal(values),
         _ => read_step(word, values),
     }
 }
 
 /// The event that the line describes, if it describes one.
-pub(crate) fn event_in(alloc: Global, app: &App, line: &Value) -> Result<Option<Event>, Mem>
-    ensures found { IfOk result (λ e. e ≡ event_in app.now (view line.now)) }
+pub(crate) fn event_in(alloc: Global, line: &Value) -> Result<Option<Event>, Mem>
+    ensures found { IfOk result (λ e. e ≡ event_in (view line.now)) }
     ensures events { IfOk result (λ e. IfSome e IsEvent) }
 {
     let Value::List(items) = line else {
         return Ok(None);
     };
     match text_first(items.as_slice()) {
-        Some((word, rest)) => read_row(alloc, app, word, rest),
+        Some((word, rest)) => read_row(alloc, word, rest),
         None => Ok(None),
     }
 }

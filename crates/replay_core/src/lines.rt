@@ -1,19 +1,18 @@
 //! The lines that an event prints.
-ghost use Rattle.std.specs.Prelude.{◌≡◌, ◌++◌, ◌∷◌, [], ℕ, pos, length, map, codes, false, IfOk, OnOk, OnErr, option_map};
+ghost use Rattle.std.specs.Prelude.{◌≡◌, ◌++◌, ◌∷◌, [], pos, map, false, IfOk, OnOk, OnErr};
 ghost use Rattle.value_model.specs.Val.{text, int, list, vals_of};
-ghost use Rattle.ejson_value.specs.View.{view};
-ghost use Rattle.world_model.specs.Lines.{line, idle, idle_unless, refused, doc_line, state_words, sub_lines, show_lines, shown_to};
-ghost use Rattle.replay_core.specs.Text.{line_text};
-ghost use Rattle.replay_core.specs.Connections.{as_sub, client_of};
+ghost use Rattle.world_model.specs.Lines.{value_line, line_text, values, idle_unless, refused, doc_line, state_words, sub_line, show_lines};
+ghost use Rattle.replay_core.specs.Connections.{client_of};
 
-use crate::connection::{Connection, Sub};
+use crate::connection::Connection;
+use crate::subs::Subs;
 use ejson_codec::{Lines, text};
 use ejson_value::{Contents, Doc, Items, Key, Mem, Text, Value, Whole};
 use std::alloc::Global;
 use world_model::subs::SubState;
 
 // The word that says what a line is.
-fn worded(alloc: Global, word: &str) -> Result<Items, Mem>
+pub(crate) fn worded(alloc: Global, word: &str) -> Result<Items, Mem>
     ensures { IfOk result (λ items. items ≡ text word.now ∷ []) }
 {
     let mut items = Items::new(alloc);
@@ -21,15 +20,28 @@ fn worded(alloc: Global, word: &str) -> Result<Items, Mem>
     Ok(items)
 }
 
-fn push_line(alloc: Global, lines: &mut Lines, items: Items) -> Result<(), Mem>
-    ensures { OnOk result (lines.new ≡ lines.old ++ line_text (list (vals_of items)) ∷ []) }
+pub(crate) fn push_line(alloc: Global, lines: &mut Lines, items: Items) -> Result<(), Mem>
+    ensures { OnOk result (lines.new ≡ lines.old ++ line_text (value_line (list (vals_of items))) ∷ []) }
 {
     lines.push(text(alloc, &Value::List(items))?)
 }
 
+/// The number behind other words.
+pub(crate) fn push_number(items: &mut Items, number: u64) -> Result<(), Mem>
+    ensures { OnOk result (items.new ≡ items.old ++ int (pos number) ∷ []) }
+{
+    let Ok(number) = i64::try_from(number) else {
+        return Err(Mem);
+    };
+    let Some(number) = Whole::of(number) else {
+        return Err(Mem);
+    };
+    items.push(Value::Int(number))
+}
+
 /// The line `["idle"]`, unless the event was enabled.
 pub(crate) fn idle_unless(alloc: Global, done: bool) -> Result<Lines, Mem>
-    ensures lines { IfOk result (λ lines. lines ≡ map line_text (idle_unless done)) }
+    ensures lines { IfOk result (λ lines. lines ≡ map line_text (values (idle_unless done))) }
     ensures err { OnErr result (done ≡ false) }
 {
     let mut lines = Lines::new(alloc);
@@ -42,20 +54,17 @@ pub(crate) fn idle_unless(alloc: Global, done: bool) -> Result<Lines, Mem>
 
 /// The line `["refused",code]`.
 pub(crate) fn refused(alloc: Global, code: u16) -> Result<Lines, Mem>
-    ensures { IfOk result (λ lines. lines ≡ map line_text (refused code ∷ [])) }
+    ensures { IfOk result (λ lines. lines ≡ map line_text (values (refused code ∷ []))) }
 {
     let mut items = worded(alloc, "refused")?;
-    let Some(number) = Whole::of(i64::from(code)) else {
-        return Err(Mem);
-    };
-    items.push(Value::Int(number))?;
+    push_number(&mut items, u64::from(code))?;
     let mut lines = Lines::new(alloc);
     push_line(alloc, &mut lines, items)?;
     Ok(lines)
 }
 
 fn push_doc(alloc: Global, lines: &mut Lines, key: &Key, doc: &Doc) -> Result<(), Mem>
-    ensures { OnOk result (lines.new ≡ lines.old ++ line_text (doc_line (key.now, doc.now)) ∷ []) }
+    ensures { OnOk result (lines.new ≡ lines.old ++ line_text (value_line (doc_line (key.now, doc.now))) ∷ []) }
 {
     let mut items = worded(alloc, "doc")?;
     items.push(Value::Text(key.collection.copy()?))?;
@@ -64,15 +73,12 @@ fn push_doc(alloc: Global, lines: &mut Lines, key: &Key, doc: &Doc) -> Result<()
     push_line(alloc, lines, items)
 }
 
-fn push_sub(alloc: Global, lines: &mut Lines, sub: Option<&Sub>) -> Result<(), Mem>
-    ensures { OnOk result (lines.new ≡ lines.old ++ map line_text (sub_lines (option_map (λ s. as_sub s.now) sub.entry))) }
+fn push_sub(alloc: Global, lines: &mut Lines, id: &Text, state: &SubState) -> Result<(), Mem>
+    ensures { OnOk result (lines.new ≡ lines.old ++ line_text (value_line (sub_line (id.now, state.now))) ∷ []) }
 {
-    let Some(sub) = sub else {
-        return Ok(());
-    };
     let mut items = worded(alloc, "sub")?;
-    items.push(Value::Text(sub.id.copy()?))?;
-    push_state(alloc, &mut items, &sub.state)?;
+    items.push(Value::Text(id.copy()?))?;
+    push_state(alloc, &mut items, state)?;
     push_line(alloc, lines, items)
 }
 
@@ -97,24 +103,33 @@ fn push_state(alloc: Global, items: &mut Items, state: &SubState) -> Result<(), 
     }
 }
 
-/// What the client has: its documents by collection and id, then its subscription.
+/// What the client has: its documents by collection and id, then its subscriptions by id.
 pub(crate) fn show(alloc: Global, connection: &Connection) -> Result<Lines, Mem>
-    ensures { IfOk result (λ lines. lines ≡ map line_text (show_lines (client_of connection.now))) }
+    ensures { IfOk result (λ lines. lines ≡ map line_text (values (show_lines (client_of connection.now)))) }
 {
     let mut lines = Lines::new(alloc);
     let mut items = worded(alloc, "show")?;
     items.push(Value::Text(connection.client.name.copy()?))?;
     push_line(alloc, &mut lines, items)?;
     push_docs(alloc, &mut lines, &connection.client.rows)?;
-    push_sub(alloc, &mut lines, connection.client.sub.as_ref())?;
+    push_subs(alloc, &mut lines, &connection.client.subs)?;
     Ok(lines)
 }
 
 fn push_docs(alloc: Global, lines: &mut Lines, rows: &Contents) -> Result<(), Mem>
-    ensures { OnOk result (lines.new ≡ lines.old ++ map line_text (map doc_line rows.now)) }
+    ensures { OnOk result (lines.new ≡ lines.old ++ map line_text (values (map doc_line rows.now))) }
 {
     for (key, doc) in rows.iter() {
         push_doc(alloc, lines, key, doc)?;
+    }
+    Ok(())
+}
+
+fn push_subs(alloc: Global, lines: &mut Lines, subs: &Subs) -> Result<(), Mem>
+    ensures { OnOk result (lines.new ≡ lines.old ++ map line_text (values (map sub_line subs.now))) }
+{
+    for (id, state) in subs.iter() {
+        push_sub(alloc, lines, id, state)?;
     }
     Ok(())
 }

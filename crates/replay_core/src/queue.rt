@@ -1,10 +1,12 @@
 //! Queues of one kind of thing.
 ghost use Rattle.std.specs.Prelude.{◌≡◌, ◌∷◌, ◌++◌, [], length, IfOk, OnOk, OnErr, option_copied, option_to_list, is_some};
-ghost use Rattle.replay_core.specs.Queue.{first_of, rest_of};
+ghost use Rattle.std.specs.VecDeque.Iter.{deque_iter_rest};
+ghost use Rattle.replay_core.specs.Queue.{first_of, rest_of, front_of};
 
 use ejson_value::Mem;
 use std::alloc::Global;
 use std::collections::VecDeque;
+use std::collections::vec_deque::Iter;
 use std::marker::Model;
 
 /// A queue. A contract sees it as the list of its elements, the first one first.
@@ -44,6 +46,13 @@ impl<T> Queue<T> {
 }
 
 impl<T: Drop> Queue<T> {
+    /// The elements, the first one first.
+    pub(crate) fn iter(&self) -> Iter<'_, T>
+        ensures { deque_iter_rest result ≡ self.now }
+    {
+        self.items.iter()
+    }
+
     pub(crate) fn push(&mut self, item: T) -> Result<(), Mem>
         ensures ok { OnOk result (self.new ≡ self.old ++ item ∷ []) }
         ensures err { OnErr result (self.new ≡ self.old) }
@@ -57,6 +66,13 @@ impl<T: Drop> Queue<T> {
         ensures { self.new ≡ rest_of self.old }
     {
         drop(self.items.pop_front());
+    }
+
+    /// Drops the last element, if there is one.
+    pub(crate) fn drop_last(&mut self)
+        ensures { self.new ≡ front_of self.old }
+    {
+        drop(self.items.pop_back());
     }
 
     /// Takes the first element out, if there is one.

@@ -1,15 +1,15 @@
 //! The store: its documents and its history.
-ghost use Rattle.std.specs.Prelude.{◌≡◌, ◌==◌, ◌++◌, ◌∷◌, [], length, filter, IfOk, OnOk, OnErr, Some, option_copied, is_none, if◌then◌else◌};
+ghost use Rattle.std.specs.Prelude.{◌≡◌, ◌++◌, ◌∷◌, [], length, map, IfOk, OnOk, OnErr, option_copied};
 ghost use Rattle.map_model.specs.Maps.{at, set};
-ghost use Rattle.value_model.specs.Size.{is_name};
 ghost use Rattle.ejson_value.specs.Key.{key_cmp};
-ghost use Rattle.session_model.specs.App.{has_collection};
-ghost use Rattle.session_model.specs.History.{contents, can_insert, applied};
-ghost use Rattle.session_model.specs.Publication.{collection_of, published};
-ghost use Rattle.world_model.specs.Run.{inserted};
+ghost use Rattle.session_model.specs.History.{contents, contents_at};
+ghost use Rattle.session_model.specs.Publication.{queried};
+ghost use Rattle.replay_core.specs.Store.{put_answer};
+ghost use Rattle.replay_core.specs.Stands.{entry_of};
 
-use crate::app::App;
-use ejson_value::{Contents, Doc, Key, Mem, Text};
+use app_model::App;
+use ejson_value::{Contents, Doc, Key, Mem, Publish, Publishes};
+use publication::{Cursors, query};
 use std::alloc::Global;
 use std::marker::Model;
 
@@ -42,36 +42,59 @@ impl Model for Store {
     ghost invariant = { IsTrueStore };
 }
 
-// The documents of the collection.
-fn collection_of(alloc: Global, name: &Text, contents: &Contents) -> Result<Contents, Mem>
-    ensures { IfOk result (λ rows. rows ≡ collection_of name.now contents.now) }
+// The documents after these inserts.
+fn contents_of(alloc: Global, history: &[Insert]) -> Result<Contents, Mem>
+    ensures { IfOk result (λ rows. rows ≡ contents (map entry_of history.now)) }
 {
     let mut rows = Contents::new(alloc);
-    for (key, doc) in contents.iter() {
-        put_if_in(&mut rows, name, key, doc)?;
+    for entry in history {
+        rows.put(entry.key.copy()?, entry.doc.copy()?)?;
     }
     Ok(rows)
 }
 
-// Puts a document of the collection.
-fn put_if_in(rows: &mut Contents, name: &Text, key: &Key, doc: &Doc) -> Result<(), Mem>
-    ensures { OnOk result (rows.new ≡ (if is_name key.now.collection name.now then set key_cmp rows.old key.now (Some doc.now) else rows.old)) }
+// Puts what a query answers for a key.
+fn put_publish(rows: &mut Contents, publish: &Publish) -> Result<(), Mem>
+    ensures { OnOk result (rows.new ≡ set key_cmp rows.old publish.now.key publish.now.new) }
 {
-    if key.collection.as_str() == name.as_str() {
-        rows.put(key.copy()?, doc.copy()?)?;
+    match &publish.new {
+        Some(doc) => rows.put(publish.key.copy()?, doc.copy()?),
+        None => {
+            drop(rows.remove(&publish.key));
+            Ok(())
+        }
     }
-    Ok(())
+}
+
+// The documents that a query answers.
+fn answered(alloc: Global, answer: &Publishes) -> Result<Contents, Mem>
+    ensures { IfOk result (λ rows. rows ≡ put_answer [] answer.now) }
+{
+    let mut rows = Contents::new(alloc);
+    for publish in answer.as_slice() {
+        put_publish(&mut rows, publish)?;
+    }
+    Ok(rows)
+}
+
+// The documents that the cursors publish of the contents.
+fn queried(alloc: Global, cursors: &Cursors, contents: &Contents) -> Result<Contents, Mem>
+    ensures { IfOk result (λ rows. rows ≡ queried cursors.now contents.now) }
+{
+    let answer = query(alloc, cursors, contents)?;
+    contents.known();
+    answered(alloc, &answer)
 }
 
 impl Store {
-    pub(crate) fn new(alloc: Global, app: &App) -> Result<Store, Mem>
-        ensures { IfOk result (λ store. store ≡ record { app = app.now; history = [] }) }
+    pub(crate) fn new(alloc: Global, app: App) -> Store
+        ensures { result ≡ record { app = app; history = [] } }
     {
-        Ok(Store {
-            app: app.copy()?,
+        Store {
+            app,
             history: Vec::new(alloc),
             contents: Contents::new(alloc),
-        })
+        }
     }
 
     pub(crate) fn allocator(&self) -> Global {
@@ -98,15 +121,16 @@ impl Store {
         self.contents.get(key)
     }
 
-    /// The documents that the publication of this name publishes.
-    pub(crate) fn published(&self, name: &Text) -> Result<Contents, Mem>
-        ensures { IfOk result (λ rows. rows ≡ published self.now.app name.now (contents self.now.history)) }
+    /// The documents that the cursors published after so many inserts, or now if there are no more.
+    pub(crate) fn published(&self, cursors: &Cursors, place: u64) -> Result<Contents, Mem>
+        ensures { IfOk result (λ rows. rows ≡ queried cursors.now (contents_at self.now.history place)) }
     {
         let alloc = self.allocator();
-        match self.app.publication(name) {
-            Some(collection) => collection_of(alloc, collection, &self.contents),
-            None => Ok(Contents::new(alloc)),
+        if place >= self.history.len() as u64 {
+            return queried(alloc, cursors, &self.contents);
         }
+        let contents = contents_of(alloc, &self.history[..place as usize])?;
+        queried(alloc, cursors, &contents)
     }
 
     /// Inserts the document, which nothing refuses.

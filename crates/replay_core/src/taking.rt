@@ -137,8 +137,8 @@ fn taken_message(
         FromClient::Pong { .. } => {
             once_connected(alloc, connected, text, Taken::AtOnce(Item::Pong))
         }
-        FromClient::Sub { id, name, .. } => {
-            let request = Request { id, name };
+        FromClient::Sub { id, name, params } => {
+            let request = Request { id, name, params };
             once_connected(alloc, connected, text, Taken::ToQueue(request))
         }
         FromClient::Unsub { .. } | FromClient::Method { .. } => {

@@ -3,9 +3,9 @@ ghost use Rattle.std.specs.Prelude.{IfOk};
 ghost use Rattle.replay_core.specs.Store.{Stored};
 ghost use Rattle.replay_core.specs.Sessions.{IsTrueTo};
 
-use crate::app::App;
 use crate::connection::Connection;
 use crate::store::Store;
+use app_model::App;
 use ejson_codec::parse;
 use ejson_value::Text;
 use std::alloc::Global;
@@ -24,7 +24,7 @@ const NOT_TAKEN: &str = "not taken";
 // A store with no documents.
 fn empty_store(alloc: Global) -> Result<Store, Fail> {
     let app = App::read(alloc, &parse(alloc, &Text::from_str(alloc, APP)?)?)?;
-    Ok(Store::new(alloc, &app)?)
+    Ok(Store::new(alloc, app))
 }
 
 // A client whose session is new.

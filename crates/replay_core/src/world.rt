@@ -1,33 +1,32 @@
 //! A world: one store, one server and its client.
-ghost use Rattle.std.specs.Prelude.{◌≡◌, ◌+◌, ◌<◌, [], false, true, length, map, IfOk, OnOk, OnErr, is_none, option_map};
+ghost use Rattle.std.specs.Prelude.{◌≡◌, ◌+◌, ◌<◌, false, true, map, IfOk, OnOk, OnErr, is_none, option_map};
 ghost use Rattle.std.specs.Bool.{OnFalse};
 ghost use Rattle.ddp_messages.specs.Answers.{client_answer};
-ghost use Rattle.ddp_messages.specs.Limits.{IsShort};
+ghost use Rattle.ddp_messages.specs.Limits.{IsShort, AreShallow};
 ghost use Rattle.session_model.specs.History.{contents, IsStored};
-ghost use Rattle.world_model.specs.Acts.{acts, journal_limit};
+ghost use Rattle.world_model.specs.Acts.{acts, loading, leading, journal_limit};
 ghost use Rattle.world_model.specs.World.{start, done, can, after_act, can_by};
 ghost use Rattle.world_model.specs.Settle.{times_of, times, many, round, is_stuck, settled};
-ghost use Rattle.world_model.specs.Run.{after_client, after_sub, sub_text, can_subscribe, subscribes, can_send, after_raw, asks_in, after_named, can_named, is_called, inserted, step, made, IsEvent, Reachable, HoldsOf, IsAtRest, IsSettled, IsTrueWorld};
-ghost use Rattle.world_model.specs.Lines.{subscribed, refusal, shown_to, lines_of};
+ghost use Rattle.world_model.specs.Run.{after_client, after_sub, sub_text, can_subscribe, subscribes, can_send, after_raw, asks_in, after_named, can_named, after_by, can_by_name, is_called, inserted, step, made, IsEvent, Reachable, HoldsOf, IsAtRest, IsSettled, IsTrueWorld};
+ghost use Rattle.world_model.specs.Lines.{line_text, values, subscribed, refusal, shown_to, journal_of, lines_of};
 ghost use Rattle.replay_core.specs.Store.{Stored};
 ghost use Rattle.replay_core.specs.Sessions.{IsTrueTo, Does};
-ghost use Rattle.replay_core.specs.Connections.{client_of};
+ghost use Rattle.replay_core.specs.Connections.{client_of, asking};
 ghost use Rattle.replay_core.specs.Worlds.{Stands};
 ghost use Rattle.replay_core.specs.Left.{StepsLead, IsLeft};
-ghost use Rattle.replay_core.specs.Text.{line_text};
 
-use crate::app::App;
-use crate::connection::{Connection, Sub};
+use crate::connection::Connection;
 use crate::event::Event;
+use crate::journal::journal;
 use crate::lines::{idle_unless, refused, show};
 use crate::store::Store;
+use app_model::App;
 use ddp_messages::FromClient;
 use ejson_codec::Lines;
-use ejson_value::{Doc, Items, Key, Mem, Text};
+use ejson_value::{Doc, Items, Key, Mem, Text, Whole};
 use std::alloc::Global;
 use std::marker::Model;
 use world_model::events::{Act, Event as Happening};
-use world_model::subs::SubState;
 
 /// A world. A contract sees its application, the history of its store and its client.
 #[derive(Debug, Drop)]
@@ -69,51 +68,59 @@ fn begin(alloc: Global, connection: &mut Option<Connection>, name: &Text) -> Res
     }
 }
 
-// A client subscribes once it is connected, once, to a publication of the application.
-fn can_subscribe(connection: &Connection, app: &App, who: &Text, name: &Text) -> bool
-    ensures { result ≡ can_subscribe app.now (client_of connection.now) who.now name.now }
+// A client subscribes once it is connected, while no other subscription of it is waiting or ready.
+fn can_subscribe(connection: &Connection, who: &Text) -> bool
+    ensures { result ≡ can_subscribe (client_of connection.now) who.now }
 {
     connection.client.name.as_str() == who.as_str()
         && connection.client.session.is_some()
         && connection.client.broken.is_none()
-        && connection.client.sub.is_none()
-        && app.publication(name).is_some()
+        && connection.client.subs.are_over()
 }
 
-// The text of a `sub` without parameters.
-fn sub_text(alloc: Global, id: &Text, name: &Text) -> Result<Text, Mem>
-    ensures { IfOk result (λ text. text ≡ sub_text id.now name.now) }
+// The text of a `sub`.
+fn sub_text(alloc: Global, id: &Text, name: &Text, params: &Items) -> Result<Text, Mem>
+    ensures { IfOk result (λ text. text ≡ sub_text id.now name.now params.now) }
 {
     let sub = FromClient::Sub {
         id: id.copy()?,
         name: name.copy()?,
-        params: Items::new(alloc),
+        params: params.copy()?,
     };
     sub.text(alloc)
+}
+
+// The client asks for a subscription by this text: the text waits, and so does the subscription.
+fn ask(connection: &mut Connection, id: Text, text: Text) -> Result<(), Mem>
+    ensures ok { OnOk result (client_of connection.new ≡ asking (client_of connection.old) id text) }
+    ensures err { OnErr result (client_of connection.new ≡ client_of connection.old) }
+    ensures stands { (store : Stored) → IsTrueTo store connection.old.session → IsTrueTo store connection.new.session }
+{
+    connection.client.waiting.push(text)?;
+    let asked = connection.client.subs.ask(id);
+    if asked.is_err() {
+        connection.client.waiting.drop_last();
+    }
+    asked
 }
 
 fn subscribe_one(
     alloc: Global,
     connection: &mut Connection,
-    app: &App,
     who: &Text,
     id: &Text,
     name: &Text,
+    params: &Items,
 ) -> Result<bool, Mem>
-    ensures ok { IfOk result (λ done. Does done (client_of connection.old) (client_of connection.new) (subscribes app.now (client_of connection.old) who.now id.now name.now)) }
+    ensures ok { IfOk result (λ done. Does done (client_of connection.old) (client_of connection.new) (subscribes (client_of connection.old) who.now id.now name.now params.now)) }
     ensures err { OnErr result (client_of connection.new ≡ client_of connection.old) }
     ensures stands { (store : Stored) → IsTrueTo store connection.old.session → IsTrueTo store connection.new.session }
 {
-    if !can_subscribe(connection, app, who, name) {
+    if !can_subscribe(connection, who) {
         return Ok(false);
     }
-    let text = sub_text(alloc, id, name)?;
-    let sub = Sub {
-        id: id.copy()?,
-        state: SubState::Waiting,
-    };
-    connection.client.waiting.push(text)?;
-    connection.client.sub = Some(sub);
+    let text = sub_text(alloc, id, name, params)?;
+    ask(connection, id.copy()?, text)?;
     Ok(true)
 }
 
@@ -121,19 +128,19 @@ fn subscribe_one(
 fn subscribe(
     alloc: Global,
     connection: &mut Option<Connection>,
-    app: &App,
     who: &Text,
     id: &Text,
     name: &Text,
+    params: &Items,
 ) -> Result<bool, Mem>
-    ensures done { IfOk result (λ done. done ≡ subscribed app.now (option_map client_of connection.old) who.now name.now) }
-    ensures ok { OnOk result (option_map client_of connection.new ≡ after_sub app.now who.now id.now name.now (option_map client_of connection.old)) }
+    ensures done { IfOk result (λ done. done ≡ subscribed (option_map client_of connection.old) who.now) }
+    ensures ok { OnOk result (option_map client_of connection.new ≡ after_sub who.now id.now name.now params.now (option_map client_of connection.old)) }
     ensures err { OnErr result (option_map client_of connection.new ≡ option_map client_of connection.old) }
     ensures stands { (store : Stored) → Stands store connection.old → Stands store connection.new }
 {
     match connection {
         Some(connection) => {
-            let done = subscribe_one(alloc, connection, app, who, id, name)?;
+            let done = subscribe_one(alloc, connection, who, id, name, params)?;
             Ok(done)
         }
         None => Ok(false),
@@ -197,6 +204,58 @@ fn make(connection: &mut Option<Connection>, store: &Store, step: Act) -> Result
     }
 }
 
+// The session of the client of this name loads the subscription. Whether it could.
+fn load(
+    connection: &mut Option<Connection>,
+    store: &Store,
+    who: &Text,
+    id: &Text,
+    place: Option<Whole>,
+) -> Result<bool, Mem>
+    requires { Stands store.now connection.old }
+    ensures can { IfOk result (λ done. done ≡ can_by_name who.now (loading store.now.app store.now.history id.now place) (option_map client_of connection.old)) }
+    ensures ok { OnOk result (option_map client_of connection.new ≡ after_by who.now (loading store.now.app store.now.history id.now place) (option_map client_of connection.old)) }
+    ensures err { OnErr result (option_map client_of connection.new ≡ option_map client_of connection.old) }
+    ensures stands { Stands store.now connection.new }
+{
+    match connection {
+        Some(connection) => {
+            if connection.client.name.as_str() != who.as_str() {
+                return Ok(false);
+            }
+            let done = connection.load_named(store, id, place)?;
+            Ok(done)
+        }
+        None => Ok(false),
+    }
+}
+
+// The session of the client of this name leads the subscription on. Whether it could.
+fn advance(
+    connection: &mut Option<Connection>,
+    store: &Store,
+    who: &Text,
+    id: &Text,
+    count: Option<Whole>,
+) -> Result<bool, Mem>
+    requires { Stands store.now connection.old }
+    ensures can { IfOk result (λ done. done ≡ can_by_name who.now (leading store.now.app store.now.history id.now count) (option_map client_of connection.old)) }
+    ensures ok { OnOk result (option_map client_of connection.new ≡ after_by who.now (leading store.now.app store.now.history id.now count) (option_map client_of connection.old)) }
+    ensures err { OnErr result (option_map client_of connection.new ≡ option_map client_of connection.old) }
+    ensures stands { Stands store.now connection.new }
+{
+    match connection {
+        Some(connection) => {
+            if connection.client.name.as_str() != who.as_str() {
+                return Ok(false);
+            }
+            let done = connection.advance_named(store, id, count)?;
+            Ok(done)
+        }
+        None => Ok(false),
+    }
+}
+
 // How often a round makes the step at most.
 fn times_of(connection: &Connection, act: Act) -> usize
     ensures { result ≡ times_of (client_of connection.now) act }
@@ -213,13 +272,13 @@ fn times_of(connection: &Connection, act: Act) -> usize
 
 impl World {
     /// The world of the application at its beginning.
-    pub fn new(alloc: Global, app: &App) -> Result<World, Mem>
-        ensures { IfOk result (λ w. w ≡ start app.now) }
+    pub fn new(alloc: Global, app: App) -> World
+        ensures { result ≡ start app }
     {
-        Ok(World {
-            store: Store::new(alloc, app)?,
+        World {
+            store: Store::new(alloc, app),
             connection: None,
-        })
+        }
     }
 
     // A client of this name begins.
@@ -234,16 +293,17 @@ impl World {
     }
 
     // The client subscribes.
-    fn sub(&mut self, who: &Text, id: &Text, name: &Text) -> Result<bool, Mem>
+    fn sub(&mut self, who: &Text, id: &Text, name: &Text, params: &Items) -> Result<bool, Mem>
         requires id { IsShort id.now }
-        requires name { IsShort name.now }
-        ensures done { IfOk result (λ done. done ≡ subscribed self.old.app self.old.client who.now name.now) }
-        ensures ok { OnOk result (self.new ≡ record self.old { client = after_sub self.old.app who.now id.now name.now self.old.client }) }
+        requires params { AreShallow params.now }
+        ensures done { IfOk result (λ done. done ≡ subscribed self.old.client who.now) }
+        ensures ok { OnOk result (self.new ≡ record self.old { client = after_sub who.now id.now name.now params.now self.old.client }) }
         ensures err { OnErr result (self.new ≡ self.old) }
         ensures idle { IfOk result (λ done. OnFalse done (self.new ≡ self.old)) }
     {
+        params.known();
         let alloc = self.store.allocator();
-        let done = subscribe(alloc, &mut self.connection, self.store.app(), who, id, name)?;
+        let done = subscribe(alloc, &mut self.connection, who, id, name, params)?;
         Ok(done)
     }
 
@@ -262,7 +322,7 @@ impl World {
     fn insert(&mut self, key: &Key, doc: &Doc) -> Result<Lines, Mem>
         requires { IsStored key.now doc.now }
         ensures ok { OnOk result (self.new ≡ record self.old { history = inserted self.old.app self.old.history (record { key = key.now; doc = doc.now }) }) }
-        ensures lines { IfOk result (λ lines. lines ≡ map line_text (refusal self.old.app (contents self.old.history) key.now)) }
+        ensures lines { IfOk result (λ lines. lines ≡ map line_text (values (refusal self.old.app (contents self.old.history) key.now))) }
         ensures err { OnErr result (self.new ≡ self.old) }
     {
         let alloc = self.store.allocator();
@@ -308,6 +368,26 @@ impl World {
         } else {
             Ok(false)
         }
+    }
+
+    // The session of the client of this name loads the subscription.
+    fn load(&mut self, who: &Text, id: &Text, place: Option<Whole>) -> Result<bool, Mem>
+        ensures can { IfOk result (λ done. done ≡ can_by_name who.now (loading self.old.app self.old.history id.now place) self.old.client) }
+        ensures ok { OnOk result (self.new ≡ record self.old { client = after_by who.now (loading self.old.app self.old.history id.now place) self.old.client }) }
+        ensures err { OnErr result (self.new ≡ self.old) }
+    {
+        let done = load(&mut self.connection, &self.store, who, id, place)?;
+        Ok(done)
+    }
+
+    // The session of the client of this name leads the subscription on.
+    fn advance(&mut self, who: &Text, id: &Text, count: Option<Whole>) -> Result<bool, Mem>
+        ensures can { IfOk result (λ done. done ≡ can_by_name who.now (leading self.old.app self.old.history id.now count) self.old.client) }
+        ensures ok { OnOk result (self.new ≡ record self.old { client = after_by who.now (leading self.old.app self.old.history id.now count) self.old.client }) }
+        ensures err { OnErr result (self.new ≡ self.old) }
+    {
+        let done = advance(&mut self.connection, &self.store, who, id, count)?;
+        Ok(done)
     }
 
     // How often a round makes the step at most.
@@ -368,8 +448,8 @@ impl World {
     pub fn settle(&mut self) -> Result<(), Mem>
         ensures settled { OnOk result (self.new ≡ settled self.old) }
         ensures stuck { OnOk result (is_stuck self.new ≡ true) }
-        ensures at_rest { OnOk result (HoldsOf self.new.client (IsAtRest self.new.history)) }
-        ensures quiescent { OnOk result (1 + made self.old < journal_limit → HoldsOf self.new.client (IsSettled self.new.history)) }
+        ensures at_rest { OnOk result (HoldsOf self.new.client (IsAtRest self.new.app self.new.history)) }
+        ensures quiescent { OnOk result (1 + made self.old < journal_limit → HoldsOf self.new.client (IsSettled self.new.app self.new.history)) }
         ensures steps { StepsLead self.old self.new }
         ensures true_world { IsTrueWorld self.new }
     {
@@ -381,7 +461,7 @@ impl World {
 
     // What the client of this name has, as lines.
     fn show(&self, who: &Text) -> Result<Lines, Mem>
-        ensures { IfOk result (λ lines. lines ≡ map line_text (shown_to who.now self.now.client)) }
+        ensures { IfOk result (λ lines. lines ≡ map line_text (values (shown_to who.now self.now.client))) }
     {
         let alloc = self.store.allocator();
         match &self.connection {
@@ -389,6 +469,18 @@ impl World {
                 show(alloc, connection)
             }
             _ => idle_unless(alloc, false),
+        }
+    }
+
+    // What the session of the client of this name did, as lines.
+    fn journal(&self, who: &Text) -> Result<Lines, Mem>
+        ensures { IfOk result (λ lines. lines ≡ map line_text (journal_of self.now.app self.now.history who.now self.now.client)) }
+    {
+        match &self.connection {
+            Some(connection) if connection.client.name.as_str() == who.as_str() => {
+                journal(&self.store, connection)
+            }
+            _ => idle_unless(self.store.allocator(), false),
         }
     }
 
@@ -404,8 +496,13 @@ impl World {
                 let done = self.client(name)?;
                 idle_unless(alloc, done)
             }
-            Happening::Sub { client, id, name } => {
-                let done = self.sub(client, id, name)?;
+            Happening::Sub {
+                client,
+                id,
+                name,
+                params,
+            } => {
+                let done = self.sub(client, id, name, params)?;
                 idle_unless(alloc, done)
             }
             Happening::Raw { client, text } => {
@@ -417,11 +514,20 @@ impl World {
                 let done = self.make_for(client, *act)?;
                 idle_unless(alloc, done)
             }
+            Happening::Load { client, id, at } => {
+                let done = self.load(client, id, *at)?;
+                idle_unless(alloc, done)
+            }
+            Happening::Advance { client, id, count } => {
+                let done = self.advance(client, id, *count)?;
+                idle_unless(alloc, done)
+            }
             Happening::Settle => {
                 self.settle_all()?;
                 Ok(Lines::new(alloc))
             }
             Happening::Show { client } => self.show(client),
+            Happening::Journal { client } => self.journal(client),
         }
     }
 

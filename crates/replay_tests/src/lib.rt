@@ -1,18 +1,17 @@
 //! Tables of events and what each prints. The expected lines follow from the rules of events, not from the program.
 #![tactic(auto)]
 
-ghost use Rattle.std.specs.Prelude.{◌≡◌};
-
 #[cfg(test)]
 mod tests {
+    use app_model::App;
     use ejson_codec::parse;
     use ejson_value::{Doc, Items, Text, Value};
-    use replay_core::{App, AppFault, Event, LineFault, World};
+    use replay_core::{Event, LineFault, World};
     use std::alloc::Global;
     use std::test::Fail;
 
     const LINE: &str =
-        r#"{"collections":["tasks"],"methods":{},"publications":{"all":[{"collection":"tasks"}]}}"#;
+        r#"{"collections":["tasks"],"methods":{},"publications":{"all":[{"collection":"tasks"}],"some":[{"collection":"tasks","fields":{"a":1},"selector":{"n":{"$param":0}}}]}}"#;
 
     fn value(alloc: Global, text: &str) -> Result<Value, Fail> {
         Ok(parse(alloc, &Text::from_str(alloc, text)?)?)
@@ -23,8 +22,8 @@ mod tests {
     }
 
     // Whether the line describes an event.
-    fn is_event(alloc: Global, app: &App, line: &Value) -> Result<bool, Fail> {
-        match Event::read(alloc, app, line) {
+    fn is_event(alloc: Global, line: &Value) -> Result<bool, Fail> {
+        match Event::read(alloc, line) {
             Ok(_) => Ok(true),
             Err(LineFault::NotAnEvent) => Ok(false),
             Err(LineFault::Memory) => Err(LineFault::Memory.into()),
@@ -34,12 +33,11 @@ mod tests {
     // Adds the line, and behind it each line that its event prints, after `> `.
     fn add_printed(
         alloc: Global,
-        app: &App,
         world: &mut World,
         line: &str,
         text: &mut String,
     ) -> Result<(), Fail> {
-        let event = Event::read(alloc, app, &value(alloc, line)?)?;
+        let event = Event::read(alloc, &value(alloc, line)?)?;
         let lines = world.event(&event)?;
         text.push_str(line)?;
         text.push('\n')?;
@@ -53,51 +51,22 @@ mod tests {
 
     // The events of a transcript, run in a new world, each with what it prints behind it.
     fn transcript(alloc: Global, script: &str) -> Result<String, Fail> {
-        let app = app(alloc)?;
-        let mut world = World::new(alloc, &app)?;
+        let mut world = World::new(alloc, app(alloc)?);
         let mut text = String::new(alloc);
         for line in script.lines() {
             if !line.starts_with('>') {
-                add_printed(alloc, &app, &mut world, line, &mut text)?;
+                add_printed(alloc, &mut world, line, &mut text)?;
             }
         }
         Ok(text)
-    }
-
-    const NO_APPLICATIONS: &str = r#"{}
-[]
-{"collections":["a","a"],"methods":{},"publications":{}}
-{"collections":[""],"methods":{},"publications":{}}
-{"collections":["a"],"methods":{"m":{}},"publications":{}}
-{"collections":["a"],"methods":{},"publications":{"p":[{"collection":"b"}]}}
-{"collections":["a"],"methods":{},"publications":{"p":[]}}
-{"collections":["a"],"methods":{},"publications":{},"more":0}
-"#;
-
-    #[test]
-    fn applications(rt: HostRuntime) -> Result<(), Fail> {
-        let alloc = rt.alloc();
-        let app = app(alloc)?;
-        let name = Text::from_str(alloc, "all")?;
-        let tasks = Text::from_str(alloc, "tasks")?;
-        let copy = app.copy()?;
-        assert!(rt; copy.has_collection(&tasks));
-        assert!(rt; !copy.has_collection(&name));
-        assert_eq!(rt; copy.publication(&name).map(|c| c.as_str()), Some("tasks"));
-        for bad in NO_APPLICATIONS.lines() {
-            assert_eq!(rt;
-                App::read(alloc, &value(alloc, bad)?).err(),
-                Some(AppFault::Bad),
-                "{bad}"
-            );
-        }
-        Ok(())
     }
 
     const EVENTS: &str = r#"["client","a"]
 ["sub","a","1","all"]
 ["sub","a","1","all",[]]
 ["sub","","","all"]
+["sub","a","1","none"]
+["sub","a","1","all",[1,{"$date":0},[{}]]]
 ["admin",["insert","none",{"_id":"t1"}]]
 ["admin",["insert","tasks",{"_id":"t1","n":{"a":[1,{"$date":0}]}}]]
 ["settle"]
@@ -107,14 +76,19 @@ mod tests {
 ["handle","a"]
 ["send","a"]
 ["take","a"]
+["load","a","1"]
+["load","a","1",0]
+["load","a","1",-9007199254740991]
+["advance","a","1"]
+["advance","a","1",9007199254740991]
+["journal","a"]
 "#;
 
     #[test]
     fn lines_that_are_events(rt: HostRuntime) -> Result<(), Fail> {
         let alloc = rt.alloc();
-        let app = app(alloc)?;
         for line in EVENTS.lines() {
-            assert!(rt; is_event(alloc, &app, &value(alloc, line)?)?, "{line}");
+            assert!(rt; is_event(alloc, &value(alloc, line)?)?, "{line}");
         }
         Ok(())
     }
@@ -127,8 +101,6 @@ null
 ["client",1]
 ["client","a","b"]
 ["sub","a","1"]
-["sub","a","1","none"]
-["sub","a","1","all",[1]]
 ["sub","a","1","all",{}]
 ["sub","a","1","all",[],[]]
 ["sub","a",1,"all"]
@@ -147,17 +119,21 @@ null
 ["show"]
 ["up"]
 ["up",1]
-["load","a","1"]
 ["load","a"]
+["load","a","1",{}]
+["load","a","1","0"]
+["load","a","1",0,0]
 ["advance","a"]
+["advance","a","1",[1]]
+["journal"]
+["journal","a","1"]
 "#;
 
     #[test]
     fn lines_that_are_none(rt: HostRuntime) -> Result<(), Fail> {
         let alloc = rt.alloc();
-        let app = app(alloc)?;
         for line in NO_EVENTS.lines() {
-            assert!(rt; !is_event(alloc, &app, &value(alloc, line)?)?, "{line}");
+            assert!(rt; !is_event(alloc, &value(alloc, line)?)?, "{line}");
         }
         Ok(())
     }
@@ -188,12 +164,8 @@ null
     #[test]
     fn texts_that_ask(rt: HostRuntime) -> Result<(), Fail> {
         let alloc = rt.alloc();
-        let app = app(alloc)?;
         for message in ASKING.lines() {
-            assert!(rt;
-                !is_event(alloc, &app, &raw_line(alloc, message)?)?,
-                "{message}"
-            );
+            assert!(rt; !is_event(alloc, &raw_line(alloc, message)?)?, "{message}");
         }
         Ok(())
     }
@@ -221,12 +193,8 @@ null
     #[test]
     fn texts_that_ask_for_nothing(rt: HostRuntime) -> Result<(), Fail> {
         let alloc = rt.alloc();
-        let app = app(alloc)?;
         for message in NOT_ASKING.lines() {
-            assert!(rt;
-                is_event(alloc, &app, &raw_line(alloc, message)?)?,
-                "{message}"
-            );
+            assert!(rt; is_event(alloc, &raw_line(alloc, message)?)?, "{message}");
         }
         Ok(())
     }
@@ -259,10 +227,32 @@ null
     #[test]
     fn levels_of_documents(rt: HostRuntime) -> Result<(), Fail> {
         let alloc = rt.alloc();
-        let app = app(alloc)?;
         for (levels, fits) in [(1, true), (31, true), (32, true), (33, false), (34, false)] {
             let line = insert_line(alloc, nested(alloc, levels)?)?;
-            assert_eq!(rt; is_event(alloc, &app, &line)?, fits, "{levels} levels");
+            assert_eq!(rt; is_event(alloc, &line)?, fits, "{levels} levels");
+        }
+        Ok(())
+    }
+
+    // The subscription with the document as its parameter.
+    fn sub_line(alloc: Global, doc: Doc) -> Result<Value, Fail> {
+        let mut params = Items::new(alloc);
+        params.push(Value::Object(doc))?;
+        let mut line = Items::new(alloc);
+        for part in ["sub", "a", "1", "all"] {
+            line.push(text(alloc, part)?)?;
+        }
+        line.push(Value::List(params))?;
+        Ok(Value::List(line))
+    }
+
+    // A parameter has at most 32 levels.
+    #[test]
+    fn levels_of_parameters(rt: HostRuntime) -> Result<(), Fail> {
+        let alloc = rt.alloc();
+        for (levels, fits) in [(1, true), (31, true), (32, true), (33, false), (34, false)] {
+            let line = sub_line(alloc, nested(alloc, levels)?)?;
+            assert_eq!(rt; is_event(alloc, &line)?, fits, "{levels} levels");
         }
         Ok(())
     }
@@ -281,7 +271,6 @@ null
     #[test]
     fn lengths_of_ids(rt: HostRuntime) -> Result<(), Fail> {
         let alloc = rt.alloc();
-        let app = app(alloc)?;
         let sub = (r#"["sub","a",""#, r#"","all"]"#);
         let insert = (r#"["admin",["insert","tasks",{"_id":""#, r#""}]]"#);
         for (length, is_sub, is_insert) in [
@@ -291,14 +280,10 @@ null
             (257, false, false),
         ] {
             let line = with_length(alloc, sub, length)?;
-            assert_eq!(rt;
-                is_event(alloc, &app, &line)?,
-                is_sub,
-                "sub, {length} bytes"
-            );
+            assert_eq!(rt; is_event(alloc, &line)?, is_sub, "sub, {length} bytes");
             let line = with_length(alloc, insert, length)?;
             assert_eq!(rt;
-                is_event(alloc, &app, &line)?,
+                is_event(alloc, &line)?,
                 is_insert,
                 "insert, {length} bytes"
             );
@@ -499,6 +484,143 @@ null
 > ["sub","1","ready"]
 "#;
 
+    // A `sub` of no publication and one with wrong parameters are refused, and can be asked for again.
+    const REFUSED_SUBS: &str = r#"["admin",["insert","tasks",{"_id":"t1","n":1}]]
+["client","a"]
+["settle"]
+["sub","a","1","none"]
+["sub","a","1","none"]
+> ["idle"]
+["settle"]
+["show","a"]
+> ["show","a"]
+> ["sub","1","refused","404"]
+["sub","a","0","some"]
+["show","a"]
+> ["show","a"]
+> ["sub","0","waiting"]
+> ["sub","1","refused","404"]
+["sub","a","2","all"]
+> ["idle"]
+["settle"]
+["show","a"]
+> ["show","a"]
+> ["sub","0","refused","400"]
+> ["sub","1","refused","404"]
+["sub","a","1","none"]
+["show","a"]
+> ["show","a"]
+> ["sub","0","refused","400"]
+> ["sub","1","waiting"]
+["settle"]
+["sub","a","1","all"]
+["settle"]
+["show","a"]
+> ["show","a"]
+> ["doc","tasks","t1",{"n":1}]
+> ["sub","0","refused","400"]
+> ["sub","1","ready"]
+["sub","a","2","all"]
+> ["idle"]
+["journal","a"]
+> ["journal","S1"]
+> ["connect"]
+> ["out",{"msg":"connected","session":"S1"}]
+> ["nosub","1"]
+> ["out",{"error":{"error":"404","errorType":"Meteor.Error","message":"Subscription not found [404]","reason":"Subscription not found"},"id":"1","msg":"nosub"}]
+> ["nosub","0"]
+> ["out",{"error":{"error":"400","errorType":"Meteor.Error","message":"Bad parameters [400]","reason":"Bad parameters"},"id":"0","msg":"nosub"}]
+> ["nosub","1"]
+> ["out",{"error":{"error":"404","errorType":"Meteor.Error","message":"Subscription not found [404]","reason":"Subscription not found"},"id":"1","msg":"nosub"}]
+> ["open",0,"1"]
+> ["load",0,1]
+> ["out",{"collection":"tasks","fields":{"n":1},"id":"t1","msg":"added"}]
+> ["out",{"msg":"ready","subs":["1"]}]
+["journal","b"]
+> ["idle"]
+"#;
+
+    // The publication `some` has a selector with a parameter, and publishes one field.
+    const SELECTED: &str = r#"["admin",["insert","tasks",{"_id":"t1","n":1,"a":1}]]
+["admin",["insert","tasks",{"_id":"t2","n":2,"a":2}]]
+["client","a"]
+["settle"]
+["sub","a","1","some",[2]]
+["settle"]
+["show","a"]
+> ["show","a"]
+> ["doc","tasks","t2",{"a":2}]
+> ["sub","1","ready"]
+["admin",["insert","tasks",{"_id":"t3","n":2}]]
+["admin",["insert","tasks",{"_id":"t4","a":2}]]
+["settle"]
+["show","a"]
+> ["show","a"]
+> ["doc","tasks","t2",{"a":2}]
+> ["doc","tasks","t3",{}]
+> ["sub","1","ready"]
+"#;
+
+    // A subscription is loaded and led on at places of the history.
+    const PLACES: &str = r#"["admin",["insert","tasks",{"_id":"t1","n":1}]]
+["admin",["insert","tasks",{"_id":"t2","n":2}]]
+["load","a","1"]
+> ["idle"]
+["client","a"]
+["settle"]
+["load","a","1"]
+> ["idle"]
+["sub","a","1","all"]
+["up","a"]
+["recv","a"]
+["handle","a"]
+["load","a","2",0]
+> ["idle"]
+["load","b","1",0]
+> ["idle"]
+["load","a","1",3]
+> ["idle"]
+["load","a","1",-1]
+> ["idle"]
+["advance","a","1"]
+> ["idle"]
+["load","a","1",1]
+["load","a","1"]
+> ["idle"]
+["advance","a","1",0]
+> ["idle"]
+["advance","a","1",-1]
+> ["idle"]
+["advance","a","1",2]
+> ["idle"]
+["advance","a","2",1]
+> ["idle"]
+["advance","b","1",1]
+> ["idle"]
+["advance","a","1",1]
+["advance","a","1"]
+> ["idle"]
+["journal","a"]
+> ["journal","S1"]
+> ["connect"]
+> ["out",{"msg":"connected","session":"S1"}]
+> ["open",0,"1"]
+> ["load",0,1]
+> ["out",{"collection":"tasks","fields":{"n":1},"id":"t1","msg":"added"}]
+> ["out",{"msg":"ready","subs":["1"]}]
+> ["advance",0,1]
+> ["out",{"collection":"tasks","fields":{"n":2},"id":"t2","msg":"added"}]
+["show","a"]
+> ["show","a"]
+> ["sub","1","waiting"]
+["settle"]
+["show","a"]
+> ["show","a"]
+> ["doc","tasks","t1",{"n":1}]
+> ["doc","tasks","t2",{"n":2}]
+> ["sub","1","ready"]
+"#;
+
     #[test]
     fn inserts(rt: HostRuntime) -> Result<(), Fail> {
         assert_eq!(rt; transcript(rt.alloc(), INSERTS)?.as_str(), INSERTS);
@@ -547,27 +669,46 @@ null
         Ok(())
     }
 
-    // Once a world is settled, no step is enabled.
-    const SETTLED: &str = r#"["up","a"]
-["recv","a"]
-["handle","a"]
-["send","a"]
-["take","a"]
-"#;
+    #[test]
+    fn refused_subs(rt: HostRuntime) -> Result<(), Fail> {
+        assert_eq!(rt;
+            transcript(rt.alloc(), REFUSED_SUBS)?.as_str(),
+            REFUSED_SUBS
+        );
+        Ok(())
+    }
 
+    #[test]
+    fn selected_documents(rt: HostRuntime) -> Result<(), Fail> {
+        assert_eq!(rt; transcript(rt.alloc(), SELECTED)?.as_str(), SELECTED);
+        Ok(())
+    }
+
+    #[test]
+    fn places(rt: HostRuntime) -> Result<(), Fail> {
+        assert_eq!(rt; transcript(rt.alloc(), PLACES)?.as_str(), PLACES);
+        Ok(())
+    }
+
+    // Once a world is settled, no step is enabled.
     #[test]
     fn settled_worlds(rt: HostRuntime) -> Result<(), Fail> {
         let alloc = rt.alloc();
-        let app = app(alloc)?;
-        let mut world = World::new(alloc, &app)?;
-        let begin = Event::read(alloc, &app, &value(alloc, r#"["client","a"]"#)?)?;
+        let mut world = World::new(alloc, app(alloc)?);
+        let begin = Event::read(alloc, &value(alloc, r#"["client","a"]"#)?)?;
         begin.known();
         drop(world.event(&begin)?);
         world.settle()?;
         world.known();
-        for line in SETTLED.lines() {
+        for line in [
+            r#"["up","a"]"#,
+            r#"["recv","a"]"#,
+            r#"["handle","a"]"#,
+            r#"["send","a"]"#,
+            r#"["take","a"]"#,
+        ] {
             let mut text = String::new(alloc);
-            add_printed(alloc, &app, &mut world, line, &mut text)?;
+            add_printed(alloc, &mut world, line, &mut text)?;
             assert!(rt; text.as_str().ends_with("\n> [\"idle\"]\n"), "{line}");
         }
         Ok(())

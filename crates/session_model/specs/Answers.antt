@@ -45,7 +45,7 @@ taken_as d None = refused_for (codes "Bad request") (offending_of d)
 taken_as d (Some (connect version support)) = at_once (connected_by version)
 taken_as d (Some (ping id)) = at_once (item.Ping id)
 taken_as d (Some (pong id)) = at_once item.Pong
-taken_as d (Some (sub id name params)) = to_queue (record { id = id; name = name })
+taken_as d (Some (sub id name params)) = to_queue (record { id = id; name = name; params = params })
 taken_as d (Some (unsub id)) = refused_for (codes "Bad request") (offending_of d)
 taken_as d (Some (method id name params seed)) = refused_for (codes "Bad request") (offending_of d)
 

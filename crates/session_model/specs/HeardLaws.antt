@@ -20,7 +20,8 @@ use Rattle.ddp_messages.specs.ServerMessage.{ServerMessage}
 use Rattle.ddp_messages.specs.ServerMessage as server
 use Rattle.session_model.specs.declared.items.Item.{Item}
 use Rattle.session_model.specs.declared.items.Item.TheVariants as item
-use Rattle.session_model.specs.App.{App}
+use Rattle.app_model.specs.App.{App}
+use Rattle.session_model.specs.Publication.{error_of}
 use Rattle.session_model.specs.History.{Entry, IsStored, AreEntries}
 use Rattle.session_model.specs.Texts.{server_text, or_unknown, message_in, messages_in}
 use Rattle.session_model.specs.Journal.{Live, live_after, shown, connected_after, CanFollow, FitsFrom, Fits}
@@ -78,10 +79,10 @@ collected_readable f all (k ∷ ks) = keyed_readable k (f k) (collect f ks) (all
 
 changes_readable : (app : App) (h : List Entry) (live : Option Live) (i : Item) → AreEntries h → AreReadable (map about (changes_of app h live i))
 changes_readable app h live i all =
-    let a = shown app h live in
-    let b = shown app h (live_after live i) in
+    let a = shown h live in
+    let b = shown h (live_after app live i) in
     collected_readable (λ k. between text_cmp (eq_by_cmp compare) (at key_cmp a k) (at key_cmp b k))
-    (λ k. step_readable k (at key_cmp a k) (at key_cmp b k) (stored_shown app h live all k) (stored_shown app h (live_after live i) all k)) (keys_of (union key_cmp a b))
+    (λ k. step_readable k (at key_cmp a k) (at key_cmp b k) (stored_shown h live all k) (stored_shown h (live_after app live i) all k)) (keys_of (union key_cmp a b))
 
 -- ---- texts that read
 
@@ -120,52 +121,54 @@ abbrev pub IsLiveShort : Option Live → Type 0
 IsLiveShort None = Unit {0}
 IsLiveShort (Some live) = IsShort live.id
 
-pub short_after : (n : ℕ) (connected : Bool) (live : Option Live) (i : Item) → CanFollow n connected live i → IsLiveShort live → IsLiveShort (live_after live i)
-short_after n connected live item.Connect f s = s
-short_after n connected live item.Fail f s = s
-short_after n connected live (item.Ping id) f s = s
-short_after n connected live item.Pong f s = s
-short_after n connected live (item.Bad answer) f s = s
-short_after n connected live (item.Open sub id name) f s = f.2
-short_after n connected None (item.Load sub at) f s = tt
-short_after n connected (Some l) (item.Load sub at) f s = s
-short_after n connected None (item.Advance sub count) f s = tt
-short_after n connected (Some l) (item.Advance sub count) f s = s
+pub short_after : (app : App) (n : ℕ) (connected : Bool) (live : Option Live) (i : Item) → CanFollow app n connected live i → IsLiveShort live → IsLiveShort (live_after app live i)
+short_after app n connected live item.Connect f s = s
+short_after app n connected live item.Fail f s = s
+short_after app n connected live (item.Ping id) f s = s
+short_after app n connected live item.Pong f s = s
+short_after app n connected live (item.Bad answer) f s = s
+short_after app n connected live (item.Open sub id name params) f s = f.2
+short_after app n connected live (item.Refuse id fault) f s = s
+short_after app n connected None (item.Load sub at) f s = tt
+short_after app n connected (Some l) (item.Load sub at) f s = s
+short_after app n connected None (item.Advance sub count) f s = tt
+short_after app n connected (Some l) (item.Advance sub count) f s = s
 
-own_reads : (number n : ℕ) (connected : Bool) (live : Option Live) (i : Item) → CanFollow n connected live i → IsLiveShort live →
+own_reads : (app : App) (number n : ℕ) (connected : Bool) (live : Option Live) (i : Item) → CanFollow app n connected live i → IsLiveShort live →
     AreRead (own_text number live i) × (messages_in (own_text number live i) ≡ own_message number live i)
-own_reads number n connected live item.Connect f s = all_read (server.connected (session_name number) ∷ []) ((tt, tt), tt)
-own_reads number n connected live item.Fail f s = all_read (own_message number live item.Fail) ((tt, tt), tt)
-own_reads number n connected live (item.Ping id) f s = all_read (server.pong id ∷ []) ((tt, tt), tt)
-own_reads number n connected live item.Pong f s = (tt, refl)
-own_reads number n connected live (item.Bad answer) f s =
+own_reads app number n connected live item.Connect f s = all_read (server.connected (session_name number) ∷ []) ((tt, tt), tt)
+own_reads app number n connected live item.Fail f s = all_read (own_message number live item.Fail) ((tt, tt), tt)
+own_reads app number n connected live (item.Ping id) f s = all_read (server.pong id ∷ []) ((tt, tt), tt)
+own_reads app number n connected live item.Pong f s = (tt, refl)
+own_reads app number n connected live (item.Bad answer) f s =
     let m = server.refused f.reason f.offending in
     (((answered answer m (ap server_answer f.written ∙ server_text_back m f.values f.shallow)).0, tt), refl)
-own_reads number n connected live (item.Open sub id name) f s = (tt, refl)
-own_reads number n connected None (item.Load sub at) f s = absurd f
-own_reads number n connected (Some l) (item.Load sub at) f s = all_read (server.ready (l.id ∷ []) ∷ []) ((tt, (s, tt)), tt)
-own_reads number n connected live (item.Advance sub count) f s = (tt, refl)
+own_reads app number n connected live (item.Open sub id name params) f s = (tt, refl)
+own_reads app number n connected live (item.Refuse id fault) f s = all_read (server.nosub id (Some (error_of fault)) ∷ []) ((tt, f.2), tt)
+own_reads app number n connected None (item.Load sub at) f s = absurd f
+own_reads app number n connected (Some l) (item.Load sub at) f s = all_read (server.ready (l.id ∷ []) ∷ []) ((tt, (s, tt)), tt)
+own_reads app number n connected live (item.Advance sub count) f s = (tt, refl)
 
-item_reads : (app : App) (number n : ℕ) (h : List Entry) (connected : Bool) (live : Option Live) (i : Item) → AreEntries h → CanFollow n connected live i → IsLiveShort live →
+item_reads : (app : App) (number n : ℕ) (h : List Entry) (connected : Bool) (live : Option Live) (i : Item) → AreEntries h → CanFollow app n connected live i → IsLiveShort live →
     AreRead (texts_of app number h live i) × (messages_in (texts_of app number h live i) ≡ messages_of app number h live i)
 item_reads app number n h connected live i all f s =
     let ms = map about (changes_of app h live i) in
     let own = own_text number live i in
     let a = all_read ms (changes_readable app h live i all) in
-    let b = own_reads number n connected live i f s in
+    let b = own_reads app number n connected live i f s in
     (AreRead-append (map server_text ms) own a.0 b.0, map-append message_in (map server_text ms) own ∙ ap₂ (λ xs ys. xs ++ ys) a.1 b.1)
 
-pub out_from_reads : (app : App) (number n : ℕ) (h : List Entry) (connected : Bool) (live : Option Live) (items : List Item) → AreEntries h → FitsFrom n connected live items → IsLiveShort live →
+pub out_from_reads : (app : App) (number n : ℕ) (h : List Entry) (connected : Bool) (live : Option Live) (items : List Item) → AreEntries h → FitsFrom app n connected live items → IsLiveShort live →
     AreRead (out_texts_from app number h live items) × (messages_in (out_texts_from app number h live items) ≡ out_from app number h live items)
 out_from_reads app number n h connected live [] all f s = (tt, refl)
 out_from_reads app number n h connected live (i ∷ items) all f s =
     let ts = texts_of app number h live i in
-    let rest = out_texts_from app number h (live_after live i) items in
+    let rest = out_texts_from app number h (live_after app live i) items in
     let a = item_reads app number n h connected live i all f.0 s in
-    let b = out_from_reads app number n h (connected_after connected i) (live_after live i) items all f.1 (short_after n connected live i f.0 s) in
+    let b = out_from_reads app number n h (connected_after connected i) (live_after app live i) items all f.1 (short_after app n connected live i f.0 s) in
     (AreRead-append ts rest a.0 b.0, map-append message_in ts rest ∙ ap₂ (λ xs ys. xs ++ ys) a.1 b.1)
 
 -- The texts of a journal read as its messages.
-pub out_reads : (app : App) (number n : ℕ) (h : List Entry) (items : List Item) → AreEntries h → Fits n items →
+pub out_reads : (app : App) (number n : ℕ) (h : List Entry) (items : List Item) → AreEntries h → Fits app n items →
     AreRead (out_texts app number h items) × (messages_in (out_texts app number h items) ≡ out app number h items)
 out_reads app number n h items all f = out_from_reads app number n h false None items all f tt

@@ -1,5 +1,5 @@
 -- The history of the store: what was inserted, oldest first. The store is the fold of its history.
-use Rattle.std.specs.Prelude.{ℕ, ◌<◌, length, List, [], ◌∷◌, Some, Bool, ◌&&◌, is_none, take, IsTrue}
+use Rattle.std.specs.Prelude.{ℕ, ◌<◌, length, List, [], ◌∷◌, Some, Bool, ◌&&◌, is_none, take, IsTrue, IfSome}
 use Rattle.map_model.specs.Maps.{at, set}
 use Rattle.value_model.specs.Val.{Entries, object, fields_of}
 use Rattle.value_model.specs.Valid.{IsDocument}
@@ -7,7 +7,7 @@ use Rattle.ddp_messages.specs.Limits.{IsShallow}
 use Rattle.ejson_value.specs.declared.key.Key.{Key}
 use Rattle.ejson_value.specs.Key.{key_cmp}
 use Rattle.ejson_value.specs.Rows.{Rows}
-use Rattle.session_model.specs.App.{App, has_collection}
+use Rattle.app_model.specs.App.{App, has_collection}
 
 -- an insert of a document at a key
 pub record Entry : Type 0 where
@@ -49,3 +49,7 @@ IsStored key doc = (0 < length key.id) × IsDocument doc × IsShallow (object (f
 abbrev pub AreEntries : List Entry → Type 0
 AreEntries [] = Unit {0}
 AreEntries (entry ∷ entries) = IsStored entry.key entry.doc × AreEntries entries
+
+-- every document of the rows is as those of a store
+abbrev pub AreStored : Rows → Type 0
+AreStored rows = (key : Key) → IfSome (at key_cmp rows key) (IsStored key)

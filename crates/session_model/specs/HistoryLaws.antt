@@ -2,19 +2,15 @@
 use Rattle.std.specs.Prelude.{◌≡◌, ℕ, zero, suc, ◌≤◌, List, [], ◌∷◌, ◌++◌, length, take, Bool, true, false, cond, Option, Some, None, IfSome, refl}
 use Rattle.std.proofs.Common.{ap, sym, subst, arith}
 use Rattle.std.specs.Ordering.{eq_by_cmp}
-use Rattle.std.proofs.lemmas.Map.Entries.{option_filter}
 use Rattle.map_model.specs.Maps.{at, IsSorted}
-use Rattle.map_model.specs.MapLaws.{sorted-nil, sorted-set, at-set, at-filter, sorted-filter, key_is}
+use Rattle.map_model.specs.MapLaws.{sorted-nil, sorted-set, at-set, key_is}
 use Rattle.map_model.specs.Differences.{AreDocs}
 use Rattle.value_model.specs.Val.{Entries}
 use Rattle.value_model.specs.Order.{text_cmp}
-use Rattle.value_model.specs.Size.{is_name}
 use Rattle.ejson_value.specs.declared.key.Key.{Key}
 use Rattle.ejson_value.specs.Key.{key_cmp, key_order}
 use Rattle.ejson_value.specs.Rows.{Rows}
-use Rattle.session_model.specs.App.{App, publication}
-use Rattle.session_model.specs.History.{Entry, applied, after, contents, contents_at, IsStored, AreEntries}
-use Rattle.session_model.specs.Publication.{published, published_by}
+use Rattle.session_model.specs.History.{Entry, applied, after, contents, contents_at, IsStored, AreEntries, AreStored}
 
 pub after-append : (rows : Rows) (es fs : List Entry) → after rows (es ++ fs) ≡ after (after rows es) fs
 after-append rows [] fs = refl
@@ -39,10 +35,6 @@ sorted_after rows (e ∷ es) s = sorted_after (applied rows e) es (sorted-set ke
 pub sorted_contents : (h : List Entry) → IsSorted key_cmp (contents h)
 sorted_contents h = sorted_after [] h (sorted-nil key_cmp)
 
--- every document of the rows is as those of a store
-abbrev pub AreStored : Rows → Type 0
-AreStored rows = (k : Key) → IfSome (at key_cmp rows k) (IsStored k)
-
 stored_put : (rows : Rows) (e : Entry) → IsSorted key_cmp rows → AreStored rows → IsStored e.key e.doc → AreStored (applied rows e)
 stored_put rows e s all one q =
     subst (λ o. IfSome o (IsStored q)) (sym (at-set key_order rows e.key (Some e.doc) q s)) (by (eq_by_cmp key_cmp q e.key) refl)
@@ -66,26 +58,6 @@ AreEntries-take (suc n) (e ∷ h) all = (all.0, AreEntries-take n h all.1)
 pub AreEntries-append : (h : List Entry) (e : Entry) → AreEntries h → IsStored e.key e.doc → AreEntries (h ++ e ∷ [])
 AreEntries-append [] e all one = (one, tt)
 AreEntries-append (f ∷ h) e all one = (all.0, AreEntries-append h e all.1 one)
-
-filtered : (P : Entries → Type 0) (o : Option Entries) (keep : Entries → Bool) → IfSome o P → IfSome (option_filter keep o) P
-filtered P None keep h = tt
-filtered P (Some d) keep h = elim (keep d) as (λ b. IfSome (cond b (Some d) None) P) [ true ↦ h | false ↦ tt ]
-
--- what is published of contents is contents too
-pub sorted_published : (app : App) (name : List ℕ) (rows : Rows) → IsSorted key_cmp rows → IsSorted key_cmp (published app name rows)
-sorted_published app name rows s = by (publication app name)
-  where
-    by : (o : Option (List ℕ)) → IsSorted key_cmp (published_by o rows)
-    by None = sorted-nil key_cmp
-    by (Some c) = sorted-filter key_order (λ row. is_name row.0.collection c) rows s
-
-pub stored_published : (app : App) (name : List ℕ) (rows : Rows) → IsSorted key_cmp rows → AreStored rows → AreStored (published app name rows)
-stored_published app name rows s d q = by (publication app name)
-  where
-    by : (o : Option (List ℕ)) → IfSome (at key_cmp (published_by o rows) q) (IsStored q)
-    by None = tt
-    by (Some c) =
-        subst (λ o. IfSome o (IsStored q)) (sym (at-filter key_order (λ row. is_name row.0.collection c) rows q s)) (filtered (IsStored q) (at key_cmp rows q) (λ v. is_name q.collection c) (d q))
 
 -- the documents of a store are maps
 rising : (key : Key) (o : Option Entries) → IfSome o (IsStored key) → IfSome o (IsSorted text_cmp)

@@ -1,23 +1,25 @@
 -- The live subscription of a session, as its journal says.
-use Rattle.std.specs.Prelude.{◌≡◌, ℕ, ◌+◌, ◌<◌, ◌≤◌, List, [], ◌∷◌, Bool, true, false, Option, Some, None}
+use Rattle.std.specs.Prelude.{◌≡◌, ℕ, ◌+◌, ◌<◌, ◌≤◌, List, [], ◌∷◌, ◌++◌, Bool, true, false, Option, Some, None}
+use Rattle.ejson_value.specs.declared.fault.Fault.{Fault}
 use Rattle.ejson_value.specs.Rows.{Rows}
 use Rattle.session_model.specs.declared.items.Item.{Item}
 use Rattle.session_model.specs.declared.items.Item.TheVariants as item
-use Rattle.session_model.specs.App.{App}
+use Rattle.app_model.specs.App.{App}
+use Rattle.publication.specs.Cursors.{ACursors}
 use Rattle.session_model.specs.History.{Entry, contents_at}
-use Rattle.session_model.specs.Publication.{published}
+use Rattle.session_model.specs.Publication.{making, IsMade, cursors_in, queried, error_of}
 use Rattle.ddp_messages.specs.Limits.{IsShort}
 use Rattle.session_model.specs.Answers.{IsRefusal}
 
--- an open subscription, and how many entries of the history its documents take in; None until it is loaded
+-- an open subscription: the cursors of its publication with its parameters, and how many entries of the history its documents take in; None until it is loaded
 pub record Live : Type 0 where
   pub sub : ℕ
   pub id : List ℕ
-  pub name : List ℕ
+  pub cursors : ACursors
   pub cursor : Option ℕ
 
-abbrev pub opened : ℕ → List ℕ → List ℕ → Live
-opened sub id name = record { sub = sub; id = id; name = name; cursor = None }
+abbrev pub opened : ℕ → List ℕ → ACursors → Live
+opened sub id cursors = record { sub = sub; id = id; cursors = cursors; cursor = None }
 
 abbrev pub loaded : ℕ → Option Live → Option Live
 loaded at None = None
@@ -32,23 +34,29 @@ advanced count None = None
 advanced count (Some live) = Some (record live { cursor = moved count live.cursor })
 
 -- the live subscription after one more item
-abbrev pub live_after : Option Live → Item → Option Live
-live_after live item.Connect = live
-live_after live item.Fail = live
-live_after live (item.Ping id) = live
-live_after live item.Pong = live
-live_after live (item.Bad answer) = live
-live_after live (item.Open sub id name) = Some (opened sub id name)
-live_after live (item.Load sub at) = loaded at live
-live_after live (item.Advance sub count) = advanced count live
+abbrev pub live_after : App → Option Live → Item → Option Live
+live_after app live item.Connect = live
+live_after app live item.Fail = live
+live_after app live (item.Ping id) = live
+live_after app live item.Pong = live
+live_after app live (item.Bad answer) = live
+live_after app live (item.Open sub id name params) = Some (opened sub id (cursors_in (making app name params)))
+live_after app live (item.Refuse id fault) = live
+live_after app live (item.Load sub at) = loaded at live
+live_after app live (item.Advance sub count) = advanced count live
 
 -- the live subscription after these items
-abbrev pub live_from : Option Live → List Item → Option Live
-live_from live [] = live
-live_from live (i ∷ items) = live_from (live_after live i) items
+abbrev pub live_from : App → Option Live → List Item → Option Live
+live_from app live [] = live
+live_from app live (i ∷ items) = live_from app (live_after app live i) items
 
-abbrev pub live_of : List Item → Option Live
-live_of journal = live_from None journal
+abbrev pub live_of : App → List Item → Option Live
+live_of app journal = live_from app None journal
+
+-- the id of an open subscription
+abbrev pub opened_ids : Option Live → List (List ℕ)
+opened_ids None = []
+opened_ids (Some live) = live.id ∷ []
 
 -- the id of a subscription that is loaded
 abbrev pub loaded_by : List ℕ → Option ℕ → List (List ℕ)
@@ -60,13 +68,13 @@ loaded_ids None = []
 loaded_ids (Some live) = loaded_by live.id live.cursor
 
 -- what a subscription shows: its published documents at its cursor, none until it is loaded
-abbrev pub shown_at : App → List Entry → List ℕ → Option ℕ → Rows
-shown_at app history name None = []
-shown_at app history name (Some cursor) = published app name (contents_at history cursor)
+abbrev pub shown_at : List Entry → ACursors → Option ℕ → Rows
+shown_at history cursors None = []
+shown_at history cursors (Some cursor) = queried cursors (contents_at history cursor)
 
-abbrev pub shown : App → List Entry → Option Live → Rows
-shown app history None = []
-shown app history (Some live) = shown_at app history live.name live.cursor
+abbrev pub shown : List Entry → Option Live → Rows
+shown history None = []
+shown history (Some live) = shown_at history live.cursors live.cursor
 
 -- whether the session is connected after one more item
 abbrev pub connected_after : Bool → Item → Bool
@@ -75,7 +83,8 @@ connected_after connected item.Fail = connected
 connected_after connected (item.Ping id) = connected
 connected_after connected item.Pong = connected
 connected_after connected (item.Bad answer) = connected
-connected_after connected (item.Open sub id name) = connected
+connected_after connected (item.Open sub id name params) = connected
+connected_after connected (item.Refuse id fault) = connected
 connected_after connected (item.Load sub at) = connected
 connected_after connected (item.Advance sub count) = connected
 
@@ -86,24 +95,76 @@ connected_from connected (i ∷ items) = connected_from (connected_after connect
 abbrev pub is_connected : List Item → Bool
 is_connected journal = connected_from false journal
 
--- A session connects once, and takes no other message before. A subscription can be loaded, once it is open, at most at the end of a history of
--- this length; it can go on once it is loaded; one is open at a time.
-abbrev pub CanFollow : ℕ → Bool → Option Live → Item → Type 0
-CanFollow length connected live item.Connect = connected ≡ false
-CanFollow length connected live item.Fail = connected ≡ false
-CanFollow length connected live (item.Ping id) = connected ≡ true
-CanFollow length connected live item.Pong = connected ≡ true
-CanFollow length connected live (item.Bad answer) = IsRefusal answer
-CanFollow length connected live (item.Open sub id name) = (connected ≡ true) × (live ≡ None) × IsShort id
-CanFollow length connected None (item.Load sub at) = ⊥
-CanFollow length connected (Some live) (item.Load sub at) = (connected ≡ true) × (live.cursor ≡ None) × (at ≤ length)
-CanFollow length connected None (item.Advance sub count) = ⊥
-CanFollow length connected (Some live) (item.Advance sub count) = (connected ≡ true) × ((cursor : ℕ) × (live.cursor ≡ Some cursor) × (0 < count) × (cursor + count ≤ length))
+-- A session connects once, and takes no other message before. A subscription can be opened where the cursors of its publication can be made; it can be
+-- loaded, once it is open, at most at the end of a history of this length; it can go on once it is loaded; one is open at a time, and no `sub` is handled then.
+abbrev pub CanFollow : App → ℕ → Bool → Option Live → Item → Type 0
+CanFollow app length connected live item.Connect = connected ≡ false
+CanFollow app length connected live item.Fail = connected ≡ false
+CanFollow app length connected live (item.Ping id) = connected ≡ true
+CanFollow app length connected live item.Pong = connected ≡ true
+CanFollow app length connected live (item.Bad answer) = IsRefusal answer
+CanFollow app length connected live (item.Open sub id name params) = (connected ≡ true) × (live ≡ None) × IsShort id × IsMade (making app name params)
+CanFollow app length connected live (item.Refuse id fault) = (connected ≡ true) × (live ≡ None) × IsShort id
+CanFollow app length connected None (item.Load sub at) = ⊥
+CanFollow app length connected (Some live) (item.Load sub at) = (connected ≡ true) × (live.cursor ≡ None) × (at ≤ length)
+CanFollow app length connected None (item.Advance sub count) = ⊥
+CanFollow app length connected (Some live) (item.Advance sub count) = (connected ≡ true) × ((cursor : ℕ) × (live.cursor ≡ Some cursor) × (0 < count) × (cursor + count ≤ length))
 
 -- each item could follow those before it
-abbrev pub FitsFrom : ℕ → Bool → Option Live → List Item → Type 0
-FitsFrom length connected live [] = Unit {0}
-FitsFrom length connected live (i ∷ items) = CanFollow length connected live i × FitsFrom length (connected_after connected i) (live_after live i) items
+abbrev pub FitsFrom : App → ℕ → Bool → Option Live → List Item → Type 0
+FitsFrom app length connected live [] = Unit {0}
+FitsFrom app length connected live (i ∷ items) = CanFollow app length connected live i × FitsFrom app length (connected_after connected i) (live_after app live i) items
 
-abbrev pub Fits : ℕ → List Item → Type 0
-Fits length journal = FitsFrom length false None journal
+abbrev pub Fits : App → ℕ → List Item → Type 0
+Fits app length journal = FitsFrom app length false None journal
+
+-- ---- what became of the `sub`s that were handled
+
+-- the id of the `sub` that an item handles
+abbrev pub handled_by : Item → List (List ℕ)
+handled_by item.Connect = []
+handled_by item.Fail = []
+handled_by (item.Ping id) = []
+handled_by item.Pong = []
+handled_by (item.Bad answer) = []
+handled_by (item.Open sub id name params) = id ∷ []
+handled_by (item.Refuse id fault) = id ∷ []
+handled_by (item.Load sub at) = []
+handled_by (item.Advance sub count) = []
+
+abbrev pub handled : List Item → List (List ℕ)
+handled [] = []
+handled (i ∷ items) = handled_by i ++ handled items
+
+-- the `sub` that an item refuses, and the error that answers it
+abbrev pub refused_by : Item → List (List ℕ × Option Fault)
+refused_by item.Connect = []
+refused_by item.Fail = []
+refused_by (item.Ping id) = []
+refused_by item.Pong = []
+refused_by (item.Bad answer) = []
+refused_by (item.Open sub id name params) = []
+refused_by (item.Refuse id fault) = (id, Some (error_of fault)) ∷ []
+refused_by (item.Load sub at) = []
+refused_by (item.Advance sub count) = []
+
+abbrev pub refusals : List Item → List (List ℕ × Option Fault)
+refusals [] = []
+refusals (i ∷ items) = refused_by i ++ refusals items
+
+-- the item, where it answers a `sub`
+abbrev pub sub_item : Item → List Item
+sub_item item.Connect = []
+sub_item item.Fail = []
+sub_item (item.Ping id) = []
+sub_item item.Pong = []
+sub_item (item.Bad answer) = []
+sub_item (item.Open sub id name params) = item.Open sub id name params ∷ []
+sub_item (item.Refuse id fault) = item.Refuse id fault ∷ []
+sub_item (item.Load sub at) = []
+sub_item (item.Advance sub count) = []
+
+-- the items that answer a `sub`
+abbrev pub sub_items : List Item → List Item
+sub_items [] = []
+sub_items (i ∷ items) = sub_item i ++ sub_items items

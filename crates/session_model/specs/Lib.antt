@@ -1,10 +1,11 @@
-pub mod App
 pub mod History
 pub mod Publication
 pub mod Texts
 pub mod Answers
 pub mod Journal
 pub mod Out
+pub mod ProjectedLaws
+pub mod PublicationLaws
 pub mod HistoryLaws
 pub mod OutLaws
 pub mod HeardLaws

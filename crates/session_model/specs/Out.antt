@@ -5,6 +5,7 @@ use Rattle.map_model.specs.Differences.{Step, added, changed, removed, diff}
 use Rattle.value_model.specs.Val.{Val}
 use Rattle.value_model.specs.Order.{text_cmp, compare}
 use Rattle.std.specs.Ordering.{eq_by_cmp}
+use Rattle.ejson_value.specs.declared.fault.Fault.{Fault}
 use Rattle.ejson_value.specs.declared.key.Key.{Key}
 use Rattle.ejson_value.specs.Key.{key_cmp}
 use Rattle.ejson_value.specs.Rows.{Rows}
@@ -15,7 +16,8 @@ use Rattle.ddp_messages.specs.ServerMessage.{ServerMessage}
 use Rattle.ddp_messages.specs.ServerMessage as server
 use Rattle.session_model.specs.declared.items.Item.{Item}
 use Rattle.session_model.specs.declared.items.Item.TheVariants as item
-use Rattle.session_model.specs.App.{App}
+use Rattle.app_model.specs.App.{App}
+use Rattle.session_model.specs.Publication.{error_of}
 use Rattle.session_model.specs.History.{Entry}
 use Rattle.session_model.specs.Texts.{server_text, message_in}
 use Rattle.session_model.specs.Journal.{Live, live_after, shown}
@@ -48,7 +50,8 @@ own_message number live item.Fail = server.failed (codes "1") ∷ []
 own_message number live (item.Ping id) = server.pong id ∷ []
 own_message number live item.Pong = []
 own_message number live (item.Bad answer) = message_in answer ∷ []
-own_message number live (item.Open sub id name) = []
+own_message number live (item.Open sub id name params) = []
+own_message number live (item.Refuse id fault) = server.nosub id (Some (error_of fault)) ∷ []
 own_message number live (item.Load sub at) = ready_of live
 own_message number live (item.Advance sub count) = []
 
@@ -59,13 +62,14 @@ own_text number live item.Fail = map server_text (own_message number live item.F
 own_text number live (item.Ping id) = map server_text (own_message number live (item.Ping id))
 own_text number live item.Pong = []
 own_text number live (item.Bad answer) = answer ∷ []
-own_text number live (item.Open sub id name) = []
+own_text number live (item.Open sub id name params) = []
+own_text number live (item.Refuse id fault) = map server_text (own_message number live (item.Refuse id fault))
 own_text number live (item.Load sub at) = map server_text (own_message number live (item.Load sub at))
 own_text number live (item.Advance sub count) = []
 
 -- what an item changes of what is shown
 abbrev pub changes_of : App → List Entry → Option Live → Item → List (Key × Step (List ℕ) Val)
-changes_of app history live i = difference (shown app history live) (shown app history (live_after live i))
+changes_of app history live i = difference (shown history live) (shown history (live_after app live i))
 
 -- the messages of an item, which follows a journal with this live subscription
 abbrev pub messages_of : App → ℕ → List Entry → Option Live → Item → List ServerMessage
@@ -76,11 +80,11 @@ texts_of app number history live i = map server_text (map about (changes_of app 
 
 abbrev pub out_from : App → ℕ → List Entry → Option Live → List Item → List ServerMessage
 out_from app number history live [] = []
-out_from app number history live (i ∷ items) = messages_of app number history live i ++ out_from app number history (live_after live i) items
+out_from app number history live (i ∷ items) = messages_of app number history live i ++ out_from app number history (live_after app live i) items
 
 abbrev pub out_texts_from : App → ℕ → List Entry → Option Live → List Item → List (List ℕ)
 out_texts_from app number history live [] = []
-out_texts_from app number history live (i ∷ items) = texts_of app number history live i ++ out_texts_from app number history (live_after live i) items
+out_texts_from app number history live (i ∷ items) = texts_of app number history live i ++ out_texts_from app number history (live_after app live i) items
 
 -- the messages of a journal
 abbrev pub out : App → ℕ → List Entry → List Item → List ServerMessage
@@ -127,3 +131,22 @@ data_of (m ∷ messages) = data_in m ++ data_of messages
 abbrev pub ready_ids : List ServerMessage → List (List ℕ)
 ready_ids [] = []
 ready_ids (m ∷ messages) = ready_in m ++ ready_ids messages
+
+-- the id of a subscription that a message ends, with the error, if it has one
+abbrev pub nosubs_in : ServerMessage → List (List ℕ × Option Fault)
+nosubs_in (server.connected session) = []
+nosubs_in (server.failed version) = []
+nosubs_in (server.ping id) = []
+nosubs_in (server.pong id) = []
+nosubs_in (server.nosub id fault) = (id, fault) ∷ []
+nosubs_in (server.ready subs) = []
+nosubs_in (server.about m) = []
+nosubs_in (server.finished id fault value) = []
+nosubs_in (server.updated methods) = []
+nosubs_in (server.refused reason offending) = []
+nosubs_in server.unknown = []
+
+-- the subscriptions that the messages end
+abbrev pub nosubs_of : List ServerMessage → List (List ℕ × Option Fault)
+nosubs_of [] = []
+nosubs_of (m ∷ messages) = nosubs_in m ++ nosubs_of messages

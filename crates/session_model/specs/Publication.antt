@@ -1,17 +1,53 @@
--- What a publication publishes of contents: the documents of its collection (Meteor's guide, "Publications and data loading").
-use Rattle.std.specs.Prelude.{ℕ, List, [], filter, Option, Some, None}
-use Rattle.value_model.specs.Size.{is_name}
+-- What a `sub` is answered, and what cursors publish of contents (Meteor's guide, "Publications and data loading").
+use Rattle.std.specs.Prelude.{◌≡◌, ℕ, List, [], Option, Some, None, Result, Ok, Err, codes}
+use Rattle.value_model.specs.Val.{Val}
+use Rattle.ejson_value.specs.declared.fault.Fault.{Fault}
 use Rattle.ejson_value.specs.Rows.{Rows}
-use Rattle.session_model.specs.App.{App, publication}
+use Rattle.app_model.specs.Rules.{Rules}
+use Rattle.app_model.specs.App.{App, publication}
+use Rattle.publication.specs.declared.fault.CursorFault.{CursorFault}
+use Rattle.publication.specs.Cursors.{ACursors, cursors_made}
+use Rattle.publication.specs.Putting.{put_all}
+use Rattle.session_model.specs.declared.items.SubFault.{SubFault}
+use Rattle.session_model.specs.declared.items.SubFault.TheVariants as fault
 
--- the documents of a collection
-abbrev pub collection_of : List ℕ → Rows → Rows
-collection_of name rows = filter (λ row. is_name row.0.collection name) rows
+abbrev pub Making : Type 0
+Making = Result ACursors SubFault
 
-abbrev pub published_by : Option (List ℕ) → Rows → Rows
-published_by None rows = []
-published_by (Some name) rows = collection_of name rows
+abbrev pub or_bad : Result ACursors CursorFault → Making
+or_bad (Ok cursors) = Ok cursors
+or_bad (Err e) = Err fault.BadParameters
 
--- the documents that the publication of this name publishes, queried anew; none where the application has no such publication
-abbrev pub published : App → List ℕ → Rows → Rows
-published app name rows = published_by (publication app name) rows
+abbrev pub made_by : List Val → Option Rules → Making
+made_by params None = Err fault.NotFound
+made_by params (Some rules) = or_bad (cursors_made params rules)
+
+-- the cursors of the publication of this name with these parameters, or why a `sub` of it is refused
+abbrev pub making : App → List ℕ → List Val → Making
+making app name params = made_by params (publication app name)
+
+-- the cursors can be made
+abbrev pub IsMade : Making → Type 0
+IsMade made = (cursors : ACursors) × (made ≡ Ok cursors)
+
+abbrev pub cursors_in : Making → ACursors
+cursors_in (Ok cursors) = cursors
+cursors_in (Err e) = []
+
+-- every document that cursors publish of contents, queried anew: the one list that `IsQuery` describes
+abbrev pub queried : ACursors → Rows → Rows
+queried cursors rows = put_all [] cursors rows
+
+-- ---- errors
+
+abbrev pub code_of : SubFault → List ℕ
+code_of fault.NotFound = codes "404"
+code_of fault.BadParameters = codes "400"
+
+abbrev pub reason_of : SubFault → List ℕ
+reason_of fault.NotFound = codes "Subscription not found"
+reason_of fault.BadParameters = codes "Bad parameters"
+
+-- the error that a refused `sub` is answered by (DDP.md, "Errors"; codes and reasons are ours)
+abbrev pub error_of : SubFault → Fault
+error_of f = record { code = code_of f; reason = reason_of f }

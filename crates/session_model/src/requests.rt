@@ -1,9 +1,11 @@
 //! What waits in a session's queue.
-use ejson_value::Text;
+use ejson_value::{Items, Text};
 
-/// A subscription that a session has still to open.
+/// A `sub` that a session has still to handle.
 #[derive(Debug, Drop)]
 pub struct Request {
     pub id: Text,
+    /// The name of the publication.
     pub name: Text,
+    pub params: Items,
 }

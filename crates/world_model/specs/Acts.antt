@@ -1,10 +1,12 @@
 -- The steps that a client and its session make by themselves. Each answers the client afterwards, or none where the step is not enabled.
-use Rattle.std.specs.Prelude.{ℕ, ◌-◌, List, [], ◌∷◌, ◌++◌, length, Bool, true, false, not, Option, Some, None, is_none, nat_lt, ◌&&◌}
+use Rattle.std.specs.Prelude.{ℕ, ℤ, pos, negsuc, ◌+◌, ◌-◌, List, [], ◌∷◌, ◌++◌, length, Bool, true, false, not, Option, Some, None, Ok, Err, is_none, nat_lt, nat_le, ◌&&◌, if◌then◌else◌}
 use Rattle.std.specs.List.{list_any}
+use Rattle.value_model.specs.Size.{is_name}
 use Rattle.session_model.specs.declared.requests.Request.{Request}
 use Rattle.session_model.specs.declared.items.Item.{Item}
 use Rattle.session_model.specs.declared.items.Item.TheVariants as item
-use Rattle.session_model.specs.App.{App}
+use Rattle.app_model.specs.App.{App}
+use Rattle.session_model.specs.Publication.{Making, making}
 use Rattle.session_model.specs.History.{Entry}
 use Rattle.session_model.specs.Journal.{Live, live_of, is_connected}
 use Rattle.session_model.specs.Answers.{Taken, at_once, to_queue, taken_text}
@@ -39,7 +41,8 @@ is_fail item.Fail = true
 is_fail (item.Ping id) = false
 is_fail item.Pong = false
 is_fail (item.Bad answer) = false
-is_fail (item.Open sub id name) = false
+is_fail (item.Open sub id name params) = false
+is_fail (item.Refuse id fault) = false
 is_fail (item.Load sub at) = false
 is_fail (item.Advance sub count) = false
 
@@ -50,7 +53,7 @@ has_failed journal = list_any is_fail journal
 abbrev pub with_item : App → List Entry → Client → Item → Client
 with_item app history c i = record c {
   journal = c.journal ++ i ∷ [];
-  outbox = c.outbox ++ texts_of app c.number history (live_of c.journal) i;
+  outbox = c.outbox ++ texts_of app c.number history (live_of app c.journal) i;
 }
 
 abbrev pub moves_up : Client → List (List ℕ) → Option Client
@@ -68,9 +71,14 @@ receives app history c (t ∷ ts) =
     guarded (not (has_failed c.journal) && has_room c)
     (after_taking app history (record c { upward = ts; received = c.received ++ t ∷ [] }) (taken_text (is_connected c.journal) t))
 
+-- a `sub` opens a subscription where the cursors of its publication can be made, and is refused otherwise
+abbrev pub answering : Request → Making → Item
+answering r (Ok cursors) = item.Open 0 r.id r.name r.params
+answering r (Err fault) = item.Refuse r.id fault
+
 abbrev pub handles : App → List Entry → Client → List Request → Option Client
 handles app history c [] = None
-handles app history c (r ∷ rs) = guarded (has_room c) (with_item app history (record c { queue = rs }) (item.Open 0 r.id r.name))
+handles app history c (r ∷ rs) = guarded (has_room c) (with_item app history (record c { queue = rs }) (answering r (making app r.name r.params)))
 
 -- a subscription is loaded at the end of the history, once
 abbrev pub loads_at : App → List Entry → Client → Live → Option ℕ → Option Client
@@ -104,7 +112,45 @@ abbrev pub acts : App → List Entry → Client → Act → Option Client
 acts app history c act.Up = moves_up c c.waiting
 acts app history c act.Recv = receives app history c c.upward
 acts app history c act.Handle = handles app history c c.queue
-acts app history c act.Load = loads app history c (live_of c.journal)
-acts app history c act.Advance = advances app history c (live_of c.journal)
+acts app history c act.Load = loads app history c (live_of app c.journal)
+acts app history c act.Advance = advances app history c (live_of app c.journal)
 acts app history c act.Send = sends c c.outbox
 acts app history c act.Take = takes c c.downward
+
+-- ---- loading and leading on as events of their own
+
+abbrev pub loads_placed : App → List Entry → Client → Live → Option ℕ → ℕ → Option Client
+loads_placed app history c live None n = guarded (nat_le n (length history) && has_room c) (with_item app history c (item.Load live.sub n))
+loads_placed app history c live (Some cursor) n = None
+
+-- A subscription is loaded at a place of the history, by default at its end. Nothing was shown before one is opened, so no place is too early.
+abbrev pub loads_to : App → List Entry → Client → Live → Option ℤ → Option Client
+loads_to app history c live None = loads_at app history c live live.cursor
+loads_to app history c live (Some (pos n)) = loads_placed app history c live live.cursor n
+loads_to app history c live (Some (negsuc n)) = None
+
+abbrev pub loads_named : App → List Entry → Client → List ℕ → Option ℤ → Option Live → Option Client
+loads_named app history c id place None = None
+loads_named app history c id place (Some live) = if is_name live.id id then loads_to app history c live place else None
+
+abbrev pub advances_placed : App → List Entry → Client → Live → Option ℕ → ℕ → Option Client
+advances_placed app history c live None n = None
+advances_placed app history c live (Some cursor) n =
+    guarded (nat_lt 0 n && nat_le (cursor + n) (length history) && has_room c) (with_item app history c (item.Advance live.sub n))
+
+-- a loaded subscription goes so many entries on, by default to the end of the history
+abbrev pub advances_by : App → List Entry → Client → Live → Option ℤ → Option Client
+advances_by app history c live None = advances_from app history c live live.cursor
+advances_by app history c live (Some (pos n)) = advances_placed app history c live live.cursor n
+advances_by app history c live (Some (negsuc n)) = None
+
+abbrev pub advances_named : App → List Entry → Client → List ℕ → Option ℤ → Option Live → Option Client
+advances_named app history c id count None = None
+advances_named app history c id count (Some live) = if is_name live.id id then advances_by app history c live count else None
+
+-- the session loads the subscription of this id; it leads it on
+abbrev pub loading : App → List Entry → List ℕ → Option ℤ → Client → Option Client
+loading app history id place c = loads_named app history c id place (live_of app c.journal)
+
+abbrev pub leading : App → List Entry → List ℕ → Option ℤ → Client → Option Client
+leading app history id count c = advances_named app history c id count (live_of app c.journal)

@@ -1,9 +1,11 @@
 -- A client is broken by a text that is too long, and by no other text of its session.
-use Rattle.std.specs.Prelude.{◌≡◌, ℕ, List, [], ◌∷◌, ◌++◌, length, Bool, true, false, cond, not, ◌&&◌, ◌-◌, nat_lt, Option, Some, None, IfSome, is_none, unwrap_or, refl}
+use Rattle.std.specs.Prelude.{◌≡◌, ℕ, ℤ, pos, negsuc, ◌+◌, List, [], ◌∷◌, ◌++◌, length, Bool, true, false, cond, not, ◌&&◌, nat_lt, nat_le, Option, Some, None, IfSome, is_none, unwrap_or, refl}
 use Rattle.std.proofs.Common.{sym, subst, inl, inr}
 use Rattle.ddp_messages.specs.Answers.{server_answer}
 use Rattle.session_model.specs.declared.requests.Request.{Request}
-use Rattle.session_model.specs.App.{App}
+use Rattle.app_model.specs.App.{App}
+use Rattle.value_model.specs.Val.{Val}
+use Rattle.value_model.specs.Size.{is_name}
 use Rattle.session_model.specs.History.{Entry, AreEntries}
 use Rattle.session_model.specs.Texts.{message_in}
 use Rattle.session_model.specs.Answers.{Taken, at_once, to_queue, taken_text}
@@ -13,15 +15,15 @@ use Rattle.world_model.specs.declared.events.Act.{Act}
 use Rattle.world_model.specs.declared.events.Act.TheVariants as act
 use Rattle.world_model.specs.declared.events.Event.{Event}
 use Rattle.world_model.specs.declared.events.Event.TheVariants as event
-use Rattle.world_model.specs.Client.{Client, Sub}
+use Rattle.world_model.specs.Client.{Client, Subs}
 use Rattle.world_model.specs.Taking.{max_server_text, message_refusal, told_unless, told_answer, breaks}
-use Rattle.world_model.specs.Acts.{guarded, has_room, has_failed, link_limit, moves_up, after_taking, receives, handles, loads, loads_at, advances, advances_from, sends, takes, acts}
+use Rattle.world_model.specs.Acts.{guarded, has_room, has_failed, link_limit, moves_up, after_taking, receives, handles, loads, loads_at, advances, advances_from, sends, takes, acts, loads_placed, loads_to, loads_named, advances_placed, advances_by, advances_named, loading, leading}
 use Rattle.world_model.specs.World.{World, start, after_act, done}
 use Rattle.world_model.specs.Run.{HoldsOf, step, run, AreEvents, Reachable, IsLongAlone, sub_text, can_subscribe, subscribes, after_sub, after_client, can_send, with_text, is_called}
 use Rattle.world_model.specs.Kept.{IsKept}
 use Rattle.world_model.specs.KeptLaws.{guarded_holds, next_reads, is_none_true, second_true}
 use Rattle.world_model.specs.FitLaws.{next_accepted}
-use Rattle.world_model.specs.RunLaws.{IsKeptWorld, done_keeps, settled_keeps, step_keeps, start_kept}
+use Rattle.world_model.specs.RunLaws.{by_holds, IsKeptWorld, done_keeps, settled_keeps, step_keeps, start_kept}
 
 module _ (app : App) (h : List Entry) where
   up_long : (c : Client) (ts : List (List ℕ)) → IsLongAlone c → IfSome (moves_up c ts) IsLongAlone
@@ -72,17 +74,53 @@ module _ (app : App) (h : List Entry) where
   take_long : AreEntries h → (c : Client) (ts : List (List ℕ)) → c.downward ≡ ts → IsKept app h c → IsLongAlone c → IfSome (takes c ts) IsLongAlone
   take_long entries c [] e k p = tt
   take_long entries c (t ∷ ts) e k p = guarded_holds IsLongAlone (not c.is_failed && is_none c.broken) _ (λ on.
-      let l = k.linked (is_none_true app h c.broken (second_true app h (not c.is_failed) (is_none c.broken) on)) in
+      let l = (is_none_true app h c.broken (second_true app h (not c.is_failed) (is_none c.broken) on)) in
       told_by (nat_lt max_server_text (length t)) c t ts (next_reads app h entries c t ts e k l).0 (next_accepted app h c t ts entries e k l) p)
 
   acts_long : AreEntries h → (c : Client) (a : Act) → IsKept app h c → IsLongAlone c → IfSome (acts app h c a) IsLongAlone
   acts_long entries c act.Up k p = up_long c c.waiting p
   acts_long entries c act.Recv k p = recv_long c c.upward p
   acts_long entries c act.Handle k p = handle_long c c.queue p
-  acts_long entries c act.Load k p = loads_long c (live_of c.journal) p
-  acts_long entries c act.Advance k p = advances_long c (live_of c.journal) p
+  acts_long entries c act.Load k p = loads_long c (live_of app c.journal) p
+  acts_long entries c act.Advance k p = advances_long c (live_of app c.journal) p
   acts_long entries c act.Send k p = send_long c c.outbox p
   acts_long entries c act.Take k p = take_long entries c c.downward refl k p
+
+  named_long : (b : Bool) (o : Option Client) → IfSome o IsLongAlone → IfSome (cond b o None) IsLongAlone
+  named_long true o p = p
+  named_long false o p = tt
+
+  load_placed_long : (c : Client) (live : Live) (cursor : Option ℕ) (n : ℕ) → IsLongAlone c → IfSome (loads_placed app h c live cursor n) IsLongAlone
+  load_placed_long c live (Some m) n p = tt
+  load_placed_long c live None n p = guarded_holds IsLongAlone (nat_le n (length h) && has_room c) _ (λ _. p)
+
+  load_to_long : (c : Client) (live : Live) (place : Option ℤ) → IsLongAlone c → IfSome (loads_to app h c live place) IsLongAlone
+  load_to_long c live None p = load_long c live live.cursor p
+  load_to_long c live (Some (pos n)) p = load_placed_long c live live.cursor n p
+  load_to_long c live (Some (negsuc n)) p = tt
+
+  load_named_long : (c : Client) (id : List ℕ) (place : Option ℤ) (live : Option Live) → IsLongAlone c → IfSome (loads_named app h c id place live) IsLongAlone
+  load_named_long c id place None p = tt
+  load_named_long c id place (Some live) p = named_long (is_name live.id id) (loads_to app h c live place) (load_to_long c live place p)
+
+  loading_long : (id : List ℕ) (place : Option ℤ) (c : Client) → IsLongAlone c → IfSome (loading app h id place c) IsLongAlone
+  loading_long id place c p = load_named_long c id place (live_of app c.journal) p
+
+  advance_placed_long : (c : Client) (live : Live) (cursor : Option ℕ) (n : ℕ) → IsLongAlone c → IfSome (advances_placed app h c live cursor n) IsLongAlone
+  advance_placed_long c live None n p = tt
+  advance_placed_long c live (Some m) n p = guarded_holds IsLongAlone (nat_lt 0 n && nat_le (m + n) (length h) && has_room c) _ (λ _. p)
+
+  advance_by_long : (c : Client) (live : Live) (count : Option ℤ) → IsLongAlone c → IfSome (advances_by app h c live count) IsLongAlone
+  advance_by_long c live None p = advance_long c live live.cursor p
+  advance_by_long c live (Some (pos n)) p = advance_placed_long c live live.cursor n p
+  advance_by_long c live (Some (negsuc n)) p = tt
+
+  advance_named_long : (c : Client) (id : List ℕ) (count : Option ℤ) (live : Option Live) → IsLongAlone c → IfSome (advances_named app h c id count live) IsLongAlone
+  advance_named_long c id count None p = tt
+  advance_named_long c id count (Some live) p = named_long (is_name live.id id) (advances_by app h c live count) (advance_by_long c live count p)
+
+  leading_long : (id : List ℕ) (count : Option ℤ) (c : Client) → IsLongAlone c → IfSome (leading app h id count c) IsLongAlone
+  leading_long id count c p = advance_named_long c id count (live_of app c.journal) p
 
 -- ---- worlds
 
@@ -104,13 +142,13 @@ client_long : (name : List ℕ) (o : Option Client) → HoldsOf o IsLongAlone �
 client_long name None p = inl refl
 client_long name (Some c) p = p
 
-subscribed_long : (c : Client) (t : List ℕ) (s : Option Sub) (b : Bool) → IsLongAlone c → IfSome (guarded b (record c { waiting = c.waiting ++ t ∷ []; sub = s })) IsLongAlone
+subscribed_long : (c : Client) (t : List ℕ) (s : Subs) (b : Bool) → IsLongAlone c → IfSome (guarded b (record c { waiting = c.waiting ++ t ∷ []; subs = s })) IsLongAlone
 subscribed_long c t s true p = p
 subscribed_long c t s false p = tt
 
-sub_long : (app : App) (who id name : List ℕ) (o : Option Client) → HoldsOf o IsLongAlone → HoldsOf (after_sub app who id name o) IsLongAlone
-sub_long app who id name None p = tt
-sub_long app who id name (Some c) p = chosen_long c (subscribes app c who id name) p (subscribed_long c (sub_text id name) _ (can_subscribe app c who name) p)
+sub_long : (who id name : List ℕ) (params : List Val) (o : Option Client) → HoldsOf o IsLongAlone → HoldsOf (after_sub who id name params o) IsLongAlone
+sub_long who id name params None p = tt
+sub_long who id name params (Some c) p = chosen_long c (subscribes c who id name params) p (subscribed_long c (sub_text id name params) _ (can_subscribe c who) p)
 
 text_long : (t : List ℕ) (o : Option Client) → HoldsOf o IsLongAlone → HoldsOf (with_text t o) IsLongAlone
 text_long t None p = tt
@@ -122,12 +160,15 @@ either_long false o p h k = h
 
 step_long : (w : World) (e : Event) → IsKeptWorld w → HoldsOf w.client IsLongAlone → HoldsOf (step w e).client IsLongAlone
 step_long w (event.Client name) k p = client_long name w.client p
-step_long w (event.Sub who id name) k p = sub_long w.app who id name w.client p
+step_long w (event.Sub who id name params) k p = sub_long who id name params w.client p
 step_long w (event.Raw who t) k p = either_long (can_send who w.client) w.client (with_text t w.client) p (text_long t w.client p)
 step_long w (event.Insert key doc) k p = p
 step_long w (event.Do who a) k p = either_long (is_called who w.client) w.client (after_act w.app w.history a w.client) p (act_long w.app w.history a w.client k.entries k.client p)
+step_long w (event.Load who id place) k p = by_holds IsLongAlone who (loading w.app w.history id place) w.client (loading_long w.app w.history id place) p
+step_long w (event.Advance who id count) k p = by_holds IsLongAlone who (leading w.app w.history id count) w.client (leading_long w.app w.history id count) p
 step_long w event.Settle k p = (settled_keeps IsLong done_long w (k, p)).1
 step_long w (event.Show who) k p = p
+step_long w (event.Journal who) k p = p
 
 run_long : (w : World) (events : List Event) → AreEvents events → IsKeptWorld w → HoldsOf w.client IsLongAlone → HoldsOf (run w events).client IsLongAlone
 run_long w [] all k p = p

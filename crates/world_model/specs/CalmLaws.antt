@@ -8,19 +8,17 @@ use Rattle.ddp_messages.specs.ServerMessage.{ServerMessage}
 use Rattle.ddp_messages.specs.ServerMessage as server
 use Rattle.session_model.specs.declared.items.Item.{Item}
 use Rattle.session_model.specs.declared.items.Item.TheVariants as item
-use Rattle.session_model.specs.App.{App}
+use Rattle.app_model.specs.App.{App}
 use Rattle.session_model.specs.History.{Entry}
+use Rattle.session_model.specs.Publication.{error_of}
 use Rattle.session_model.specs.Journal.{Live, live_after, connected_after, CanFollow, FitsFrom, Fits}
-use Rattle.session_model.specs.Out.{about, own_message, changes_of, messages_of, out_from, out, ready_in}
+use Rattle.session_model.specs.Out.{about, own_message, changes_of, messages_of, out_from, out}
 use Rattle.session_model.specs.OutLaws.{refusal_in}
-use Rattle.world_model.specs.Taking.{failed_in, answers_in, readied, sub_in}
-use Rattle.world_model.specs.Client.{Sub}
+use Rattle.world_model.specs.Taking.{failed_in, answers_in}
 
 pub record IsCalm (m : ServerMessage) : Type 0 where
   pub unfailed : (was : Bool) → failed_in was m ≡ was
   pub unanswered : answers_in m ≡ []
-  -- of subscriptions it tells at most that they are ready
-  pub readies : (sub : Option Sub) → sub_in sub m ≡ readied (ready_in m) sub
 
 abbrev pub AreCalm : List ServerMessage → Type 0
 AreCalm [] = Unit {0}
@@ -34,8 +32,8 @@ pub calm_at : (xs : List ServerMessage) (m : ServerMessage) (ys : List ServerMes
 calm_at [] m ys a = a.0
 calm_at (x ∷ xs) m ys a = calm_at xs m ys a.1
 
-calm : (m : ServerMessage) → ((was : Bool) → failed_in was m ≡ was) → answers_in m ≡ [] → ((sub : Option Sub) → sub_in sub m ≡ readied (ready_in m) sub) → IsCalm m
-calm m f a r = record { unfailed = f; unanswered = a; readies = r }
+calm : (m : ServerMessage) → ((was : Bool) → failed_in was m ≡ was) → answers_in m ≡ [] → IsCalm m
+calm m f a = record { unfailed = f; unanswered = a }
 
 pub calm_front : (xs ys : List ServerMessage) → AreCalm (xs ++ ys) → AreCalm xs
 calm_front [] ys a = tt
@@ -43,19 +41,20 @@ calm_front (x ∷ xs) ys a = (a.0, calm_front xs ys a.1)
 
 calm_data : (ds : List (Key × Step (List ℕ) Val)) → AreCalm (map about ds)
 calm_data [] = tt
-calm_data (d ∷ ds) = (calm (about d) (λ was. refl) refl (λ sub. refl), calm_data ds)
+calm_data (d ∷ ds) = (calm (about d) (λ was. refl) refl, calm_data ds)
 
 -- once the session is connected
-calm_own : (number n : ℕ) (live : Option Live) (i : Item) → CanFollow n true live i → AreCalm (own_message number live i)
-calm_own number n live item.Connect f = cc f
-calm_own number n live item.Fail f = cc f
-calm_own number n live (item.Ping id) f = (calm (server.pong id) (λ was. refl) refl (λ sub. refl), tt)
-calm_own number n live item.Pong f = tt
-calm_own number n live (item.Bad answer) f = (subst IsCalm (sym (refusal_in answer f)) (calm (server.refused f.reason f.offending) (λ was. refl) refl (λ sub. refl)), tt)
-calm_own number n live (item.Open sub id name) f = tt
-calm_own number n None (item.Load sub at) f = tt
-calm_own number n (Some l) (item.Load sub at) f = (calm (server.ready (l.id ∷ [])) (λ was. refl) refl (λ sub. refl), tt)
-calm_own number n live (item.Advance sub count) f = tt
+calm_own : (app : App) (number n : ℕ) (live : Option Live) (i : Item) → CanFollow app n true live i → AreCalm (own_message number live i)
+calm_own app number n live item.Connect f = cc f
+calm_own app number n live item.Fail f = cc f
+calm_own app number n live (item.Ping id) f = (calm (server.pong id) (λ was. refl) refl, tt)
+calm_own app number n live item.Pong f = tt
+calm_own app number n live (item.Bad answer) f = (subst IsCalm (sym (refusal_in answer f)) (calm (server.refused f.reason f.offending) (λ was. refl) refl), tt)
+calm_own app number n live (item.Open sub id name params) f = tt
+calm_own app number n live (item.Refuse id fault) f = (calm (server.nosub id (Some (error_of fault))) (λ was. refl) refl, tt)
+calm_own app number n None (item.Load sub at) f = tt
+calm_own app number n (Some l) (item.Load sub at) f = (calm (server.ready (l.id ∷ [])) (λ was. refl) refl, tt)
+calm_own app number n live (item.Advance sub count) f = tt
 
 pub stays_connected : (i : Item) → connected_after true i ≡ true
 stays_connected item.Connect = refl
@@ -63,20 +62,21 @@ stays_connected item.Fail = refl
 stays_connected (item.Ping id) = refl
 stays_connected item.Pong = refl
 stays_connected (item.Bad answer) = refl
-stays_connected (item.Open sub id name) = refl
+stays_connected (item.Open sub id name params) = refl
+stays_connected (item.Refuse id fault) = refl
 stays_connected (item.Load sub at) = refl
 stays_connected (item.Advance sub count) = refl
 
-calm_from : (app : App) (number n : ℕ) (h : List Entry) (live : Option Live) (items : List Item) → FitsFrom n true live items → AreCalm (out_from app number h live items)
+calm_from : (app : App) (number n : ℕ) (h : List Entry) (live : Option Live) (items : List Item) → FitsFrom app n true live items → AreCalm (out_from app number h live items)
 calm_from app number n h live [] f = tt
 calm_from app number n h live (i ∷ items) f =
-    AreCalm-append (messages_of app number h live i) (out_from app number h (live_after live i) items)
-    (AreCalm-append (map about (changes_of app h live i)) (own_message number live i) (calm_data (changes_of app h live i)) (calm_own number n live i f.0))
-    (calm_from app number n h (live_after live i) items (subst (λ b. FitsFrom n b (live_after live i) items) (stays_connected i) f.1))
+    AreCalm-append (messages_of app number h live i) (out_from app number h (live_after app live i) items)
+    (AreCalm-append (map about (changes_of app h live i)) (own_message number live i) (calm_data (changes_of app h live i)) (calm_own app number n live i f.0))
+    (calm_from app number n h (live_after app live i) items (subst (λ b. FitsFrom app n b (live_after app live i) items) (stays_connected i) f.1))
 
 -- a journal that begins with `connect`
-pub out_calm : (app : App) (number n : ℕ) (h : List Entry) (items : List Item) → Fits n (item.Connect ∷ items) → AreCalm (out app number h (item.Connect ∷ items))
+pub out_calm : (app : App) (number n : ℕ) (h : List Entry) (items : List Item) → Fits app n (item.Connect ∷ items) → AreCalm (out app number h (item.Connect ∷ items))
 out_calm app number n h items f =
     AreCalm-append (messages_of app number h None item.Connect) (out_from app number h None items)
-    (AreCalm-append (map about (changes_of app h None item.Connect)) (own_message number None item.Connect) (calm_data (changes_of app h None item.Connect)) (calm _ (λ was. refl) refl (λ sub. refl), tt))
+    (AreCalm-append (map about (changes_of app h None item.Connect)) (own_message number None item.Connect) (calm_data (changes_of app h None item.Connect)) (calm _ (λ was. refl) refl, tt))
     (calm_from app number n h None items f.1)

@@ -7,10 +7,9 @@ use Rattle.session_model.specs.declared.items.Item.{Item}
 use Rattle.session_model.specs.Texts.{client_text}
 use Rattle.world_model.specs.declared.subs.SubState.{SubState}
 
--- a subscription as its client knows it
-pub record Sub : Type 0 where
-  pub id : List ℕ
-  pub state : SubState
+-- a client's subscriptions by id, with what became of each
+abbrev pub Subs : Type 0
+Subs = List (List ℕ × SubState)
 
 pub record Client : Type 0 where
   pub name : List ℕ
@@ -31,7 +30,7 @@ pub record Client : Type 0 where
   pub broken : Option ℕ
   -- the documents that the client has
   pub rows : Rows
-  pub sub : Option Sub
+  pub subs : Subs
 
 -- a client's first text
 abbrev pub connect_text : List ℕ
@@ -53,5 +52,5 @@ new_client name = record {
   is_failed = false;
   broken = None;
   rows = [];
-  sub = None;
+  subs = [];
 }

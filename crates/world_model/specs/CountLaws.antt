@@ -1,5 +1,5 @@
 -- A journal is about as long as what was sent and stored.
-use Rattle.std.specs.Prelude.{◌≡◌, ℕ, suc, ◌+◌, ◌-◌, ◌≤◌, List, [], ◌∷◌, ◌++◌, length, Bool, true, false, cond, not, ◌&&◌, nat_lt, Option, Some, None, IfSome, is_none, unwrap_or, codes, refl}
+use Rattle.std.specs.Prelude.{◌≡◌, ℕ, ℤ, pos, negsuc, suc, ◌+◌, ◌-◌, ◌≤◌, List, [], ◌∷◌, ◌++◌, length, Bool, true, false, cond, not, ◌&&◌, nat_lt, nat_le, Option, Some, None, IfSome, is_none, unwrap_or, Ok, Err, codes, refl}
 use Rattle.std.proofs.Common.{ap, sym, subst, ◌∙◌, arith, append-nil}
 use Rattle.std.proofs.lemmas.List.{length-append}
 use Rattle.serde_json.specs.Data.{Data}
@@ -12,8 +12,10 @@ use Rattle.ddp_messages.specs.Fields.{name_of}
 use Rattle.session_model.specs.declared.requests.Request.{Request}
 use Rattle.session_model.specs.declared.items.Item.{Item}
 use Rattle.session_model.specs.declared.items.Item.TheVariants as item
-use Rattle.session_model.specs.App.{App}
+use Rattle.app_model.specs.App.{App}
+use Rattle.session_model.specs.Publication.{Making, making}
 use Rattle.session_model.specs.History.{Entry, AreEntries, contents, can_insert}
+use Rattle.value_model.specs.Val.{Val}
 use Rattle.session_model.specs.Texts.{message_in}
 use Rattle.session_model.specs.Answers.{Taken, at_once, to_queue, max_text, taken_as, taken_named, taken_tree, taken_text}
 use Rattle.session_model.specs.Journal.{Live, live_of, live_after, live_from, is_connected, connected_after, CanFollow, FitsFrom, moved}
@@ -23,12 +25,12 @@ use Rattle.world_model.specs.declared.events.Act.{Act}
 use Rattle.world_model.specs.declared.events.Act.TheVariants as act
 use Rattle.world_model.specs.declared.events.Event.{Event}
 use Rattle.world_model.specs.declared.events.Event.TheVariants as event
-use Rattle.world_model.specs.Client.{Client, Sub}
+use Rattle.world_model.specs.Client.{Client, Subs}
 use Rattle.world_model.specs.Taking.{max_server_text, message_refusal, told_unless, told_answer, breaks}
-use Rattle.world_model.specs.Acts.{guarded, has_room, has_failed, link_limit, moves_up, after_taking, receives, handles, loads, loads_at, advances, advances_from, sends, takes, acts}
+use Rattle.world_model.specs.Acts.{guarded, has_room, has_failed, link_limit, with_item, moves_up, after_taking, receives, answering, handles, loads, loads_at, advances, advances_from, sends, takes, acts, loads_placed, loads_to, loads_named, advances_placed, advances_by, advances_named, loading, leading}
 use Rattle.world_model.specs.World.{World, start, after_act, done}
 use Rattle.world_model.specs.Settle.{settled}
-use Rattle.world_model.specs.Run.{HoldsOf, step, run, AreEvents, Reachable, sub_text, can_subscribe, after_sub, after_client, sent, sent_by, made, can_send, with_text, is_called}
+use Rattle.world_model.specs.Run.{HoldsOf, step, run, AreEvents, Reachable, sub_text, can_subscribe, after_sub, after_client, sent, sent_by, made, can_send, with_text, is_called, after_by}
 use Rattle.world_model.specs.Kept.{IsKept}
 use Rattle.world_model.specs.CalmLaws.{IsCalm}
 use Rattle.world_model.specs.KeptLaws.{guarded_holds, next_reads, is_none_true, second_true}
@@ -41,7 +43,8 @@ answers item.Fail = 1
 answers (item.Ping id) = 1
 answers item.Pong = 1
 answers (item.Bad answer) = 1
-answers (item.Open sub id name) = 1
+answers (item.Open sub id name params) = 1
+answers (item.Refuse id fault) = 1
 answers (item.Load sub at) = 0
 answers (item.Advance sub count) = 0
 
@@ -97,6 +100,10 @@ one_taken connected t = one_if (nat_lt max_text (length t)) _ _ refl (one_tree c
 abbrev Counts : Client → Client → Type 0
 Counts c d = (sent d ≡ sent c) × (IsCounted c → IsCounted d)
 
+one_answering : (r : Request) (made : Making) → answers (answering r made) ≡ 1
+one_answering r (Ok cursors) = refl
+one_answering r (Err fault) = refl
+
 module _ (app : App) (h : List Entry) where
   up_counts : (c : Client) (ts : List (List ℕ)) → c.waiting ≡ ts → IfSome (moves_up c ts) (Counts c)
   up_counts c [] e = tt
@@ -121,7 +128,8 @@ module _ (app : App) (h : List Entry) where
   handle_counts : (c : Client) (rs : List Request) → c.queue ≡ rs → IfSome (handles app h c rs) (Counts c)
   handle_counts c [] e = tt
   handle_counts c (r ∷ rs) e = guarded_holds (Counts c) (has_room c) _ (λ _.
-      (refl, λ k. omega (arith, k, ap (λ (xs : List Request). length xs) e, answered-append c.journal (item.Open 0 r.id r.name ∷ []))))
+      let i = answering r (making app r.name r.params) in
+      (refl, λ k. omega (arith, k, ap (λ (xs : List Request). length xs) e, answered-append c.journal (i ∷ []), one_answering r (making app r.name r.params))))
 
   load_counts : (c : Client) (live : Live) (cursor : Option ℕ) → IfSome (loads_at app h c live cursor) (Counts c)
   load_counts c live (Some n) = tt
@@ -155,7 +163,7 @@ module _ (app : App) (h : List Entry) where
   take_counts : AreEntries h → (c : Client) (ts : List (List ℕ)) → c.downward ≡ ts → IsKept app h c → IfSome (takes c ts) (Counts c)
   take_counts entries c [] e k = tt
   take_counts entries c (t ∷ ts) e k = guarded_holds (Counts c) (not c.is_failed && is_none c.broken) _ (λ on.
-      let l = k.linked (is_none_true app h c.broken (second_true app h (not c.is_failed) (is_none c.broken) on)) in
+      let l = (is_none_true app h c.broken (second_true app h (not c.is_failed) (is_none c.broken) on)) in
       let r = next_reads app h entries c t ts e k l in
       told_by (nat_lt max_server_text (length t)) c t ts r.0 r.1)
 
@@ -163,10 +171,50 @@ module _ (app : App) (h : List Entry) where
   acts_count entries c act.Up k = up_counts c c.waiting refl
   acts_count entries c act.Recv k = recv_counts c c.upward refl
   acts_count entries c act.Handle k = handle_counts c c.queue refl
-  acts_count entries c act.Load k = loads_counts c (live_of c.journal)
-  acts_count entries c act.Advance k = advances_counts c (live_of c.journal)
+  acts_count entries c act.Load k = loads_counts c (live_of app c.journal)
+  acts_count entries c act.Advance k = advances_counts c (live_of app c.journal)
   acts_count entries c act.Send k = send_counts c c.outbox
   acts_count entries c act.Take k = take_counts entries c c.downward refl k
+
+  item_counts : (c : Client) (i : Item) → answers i ≡ 0 → Counts c (with_item app h c i)
+  item_counts c i none = (refl, λ k. omega (arith, k, none, answered-append c.journal (i ∷ [])))
+
+  named_counts : (c : Client) (b : Bool) (o : Option Client) → IfSome o (Counts c) → IfSome (cond b o None) (Counts c)
+  named_counts c true o p = p
+  named_counts c false o p = tt
+
+  load_placed_counts : (c : Client) (live : Live) (cursor : Option ℕ) (n : ℕ) → IfSome (loads_placed app h c live cursor n) (Counts c)
+  load_placed_counts c live (Some m) n = tt
+  load_placed_counts c live None n = guarded_holds (Counts c) (nat_le n (length h) && has_room c) _ (λ _. item_counts c (item.Load live.sub n) refl)
+
+  load_to_counts : (c : Client) (live : Live) (place : Option ℤ) → IfSome (loads_to app h c live place) (Counts c)
+  load_to_counts c live None = load_counts c live live.cursor
+  load_to_counts c live (Some (pos n)) = load_placed_counts c live live.cursor n
+  load_to_counts c live (Some (negsuc n)) = tt
+
+  load_named_counts : (c : Client) (id : List ℕ) (place : Option ℤ) (live : Option Live) → IfSome (loads_named app h c id place live) (Counts c)
+  load_named_counts c id place None = tt
+  load_named_counts c id place (Some live) = named_counts c (is_name live.id id) (loads_to app h c live place) (load_to_counts c live place)
+
+  loading_counts : (id : List ℕ) (place : Option ℤ) (c : Client) → IfSome (loading app h id place c) (Counts c)
+  loading_counts id place c = load_named_counts c id place (live_of app c.journal)
+
+  advance_placed_counts : (c : Client) (live : Live) (cursor : Option ℕ) (n : ℕ) → IfSome (advances_placed app h c live cursor n) (Counts c)
+  advance_placed_counts c live None n = tt
+  advance_placed_counts c live (Some m) n =
+      guarded_holds (Counts c) (nat_lt 0 n && nat_le (m + n) (length h) && has_room c) _ (λ _. item_counts c (item.Advance live.sub n) refl)
+
+  advance_by_counts : (c : Client) (live : Live) (count : Option ℤ) → IfSome (advances_by app h c live count) (Counts c)
+  advance_by_counts c live None = advance_counts c live live.cursor
+  advance_by_counts c live (Some (pos n)) = advance_placed_counts c live live.cursor n
+  advance_by_counts c live (Some (negsuc n)) = tt
+
+  advance_named_counts : (c : Client) (id : List ℕ) (count : Option ℤ) (live : Option Live) → IfSome (advances_named app h c id count live) (Counts c)
+  advance_named_counts c id count None = tt
+  advance_named_counts c id count (Some live) = named_counts c (is_name live.id id) (advances_by app h c live count) (advance_by_counts c live count)
+
+  leading_counts : (id : List ℕ) (count : Option ℤ) (c : Client) → IfSome (leading app h id count c) (Counts c)
+  leading_counts id count c = advance_named_counts c id count (live_of app c.journal)
 
 -- ---- worlds
 
@@ -196,17 +244,17 @@ done_counted n a w k =
 pub settled_counted : (w : World) → IsKeptWorld w → HoldsOf w.client IsCounted → IsCountedAs (made w) (settled w)
 settled_counted w k counted = settled_keeps (IsCountedAs (made w)) (done_counted (made w)) w (k, refl, counted)
 
-subscribed_counts : (c : Client) (t : List ℕ) (b : Bool) (s : Option Sub) → (sent_by (Some (unwrap_or (guarded b (record c { waiting = c.waiting ++ t ∷ []; sub = s })) c)) ≤ suc (sent c))
-    × (IsCounted c → HoldsOf (Some (unwrap_or (guarded b (record c { waiting = c.waiting ++ t ∷ []; sub = s })) c)) IsCounted)
+subscribed_counts : (c : Client) (t : List ℕ) (b : Bool) (s : Subs) → (sent_by (Some (unwrap_or (guarded b (record c { waiting = c.waiting ++ t ∷ []; subs = s })) c)) ≤ suc (sent c))
+    × (IsCounted c → HoldsOf (Some (unwrap_or (guarded b (record c { waiting = c.waiting ++ t ∷ []; subs = s })) c)) IsCounted)
 subscribed_counts c t true s = (omega (arith, length-append c.waiting (t ∷ [])), λ k. k)
 subscribed_counts c t false s = (omega arith, λ k. k)
 
 abbrev OneMore : World → World → Type 0
 OneMore w v = (made v ≤ suc (made w)) × (HoldsOf w.client IsCounted → HoldsOf v.client IsCounted)
 
-sub_more : (app : App) (who id name : List ℕ) (o : Option Client) → (sent_by (after_sub app who id name o) ≤ suc (sent_by o)) × (HoldsOf o IsCounted → HoldsOf (after_sub app who id name o) IsCounted)
-sub_more app who id name None = (omega arith, λ k. k)
-sub_more app who id name (Some c) = subscribed_counts c (sub_text id name) (can_subscribe app c who name) _
+sub_more : (who id name : List ℕ) (params : List Val) (o : Option Client) → (sent_by (after_sub who id name params o) ≤ suc (sent_by o)) × (HoldsOf o IsCounted → HoldsOf (after_sub who id name params o) IsCounted)
+sub_more who id name params None = (omega arith, λ k. k)
+sub_more who id name params (Some c) = subscribed_counts c (sub_text id name params) (can_subscribe c who) _
 
 client_more : (name : List ℕ) (o : Option Client) → (sent_by (after_client name o) ≤ suc (sent_by o)) × (HoldsOf o IsCounted → HoldsOf (after_client name o) IsCounted)
 client_more name None = (omega arith, λ k. refl)
@@ -224,6 +272,15 @@ named_more : (b : Bool) (o p : Option Client) → CountsOf o p → (sent_by (con
 named_more true o p c = (omega (arith, c.0), c.1)
 named_more false o p c = (omega arith, λ k. k)
 
+by_more : (who : List ℕ) (f : Client → Option Client) (o : Option Client) → ((c : Client) → IfSome (f c) (Counts c)) →
+    (sent_by (after_by who f o) ≤ suc (sent_by o)) × (HoldsOf o IsCounted → HoldsOf (after_by who f o) IsCounted)
+by_more who f None all = (omega arith, λ k. k)
+by_more who f (Some c) all =
+    let one = chosen_counts c (f c) (all c) in
+    elim (is_name c.name who)
+    as (λ b. (sent_by (cond b (Some (unwrap_or (f c) c)) (Some c)) ≤ suc (sent c)) × (IsCounted c → HoldsOf (cond b (Some (unwrap_or (f c) c)) (Some c)) IsCounted))
+    [ true ↦ (omega (arith, one.0), one.1) | false ↦ (omega arith, λ k. k) ]
+
 history_more : (b : Bool) (h : List Entry) (e : Entry) → length (cond b (h ++ e ∷ []) h) ≤ suc (length h)
 history_more true h e = omega (arith, length-append h (e ∷ []))
 history_more false h e = omega arith
@@ -231,14 +288,17 @@ history_more false h e = omega arith
 -- an event sends or stores one thing at most
 pub step_more : (w : World) (e : Event) → IsKeptWorld w → OneMore w (step w e)
 step_more w (event.Client name) k = let c = client_more name w.client in (omega (arith, c.0), c.1)
-step_more w (event.Sub who id name) k = let c = sub_more w.app who id name w.client in (omega (arith, c.0), c.1)
+step_more w (event.Sub who id name params) k = let c = sub_more who id name params w.client in (omega (arith, c.0), c.1)
 step_more w (event.Raw who t) k = let c = raw_more (can_send who w.client) t w.client in (omega (arith, c.0), c.1)
 step_more w (event.Insert key doc) k =
     let e : Entry = record { key = key; doc = doc } in (omega (arith, history_more (can_insert w.app (contents w.history) e) w.history e), λ c. c)
 step_more w (event.Do who a) k =
     let c = named_more (is_called who w.client) w.client (after_act w.app w.history a w.client) (act_counts w.app w.history a w.client k.entries k.client) in (omega (arith, c.0), c.1)
+step_more w (event.Load who id place) k = let c = by_more who (loading w.app w.history id place) w.client (loading_counts w.app w.history id place) in (omega (arith, c.0), c.1)
+step_more w (event.Advance who id count) k = let c = by_more who (leading w.app w.history id count) w.client (leading_counts w.app w.history id count) in (omega (arith, c.0), c.1)
 step_more w event.Settle k = (omega (arith, (settled_keeps (λ v. IsKeptWorld v × (made v ≡ made w)) (λ a v p. (done_keeps a v p.0, omega (arith, (act_counts v.app v.history a v.client p.0.entries p.0.client).0, p.1))) w (k, refl)).1), λ c. (settled_counted w k c).2)
 step_more w (event.Show who) k = (omega arith, λ c. c)
+step_more w (event.Journal who) k = (omega arith, λ c. c)
 
 pub run_more : (w : World) (events : List Event) → AreEvents events → IsKeptWorld w → HoldsOf w.client IsCounted → (made (run w events) ≤ made w + length events) × HoldsOf (run w events).client IsCounted
 run_more w [] all k c = (omega arith, c)
@@ -260,21 +320,22 @@ abbrev live_weight : Option Live → ℕ
 live_weight None = 0
 live_weight (Some live) = cursor_weight live.cursor
 
-weight_step : (n : ℕ) (connected : Bool) (live : Option Live) (i : Item) → CanFollow n connected live i → 1 + live_weight live ≤ answers i + live_weight (live_after live i)
-weight_step n connected live item.Connect f = omega arith
-weight_step n connected live item.Fail f = omega arith
-weight_step n connected live (item.Ping id) f = omega arith
-weight_step n connected live item.Pong f = omega arith
-weight_step n connected live (item.Bad answer) f = omega arith
-weight_step n connected live (item.Open sub id name) f = omega (arith, ap live_weight f.1)
-weight_step n connected None (item.Load sub at) f = absurd f
-weight_step n connected (Some l) (item.Load sub at) f = omega (arith, ap cursor_weight f.1)
-weight_step n connected None (item.Advance sub count) f = absurd f
-weight_step n connected (Some l) (item.Advance sub count) f = omega (arith, ap cursor_weight f.1.1, ap (λ o. cursor_weight (moved count o)) f.1.1, f.1.2)
+weight_step : (app : App) (n : ℕ) (connected : Bool) (live : Option Live) (i : Item) → CanFollow app n connected live i → 1 + live_weight live ≤ answers i + live_weight (live_after app live i)
+weight_step app n connected live item.Connect f = omega arith
+weight_step app n connected live item.Fail f = omega arith
+weight_step app n connected live (item.Ping id) f = omega arith
+weight_step app n connected live item.Pong f = omega arith
+weight_step app n connected live (item.Bad answer) f = omega arith
+weight_step app n connected live (item.Open sub id name params) f = omega (arith, ap live_weight f.1)
+weight_step app n connected live (item.Refuse id fault) f = omega arith
+weight_step app n connected None (item.Load sub at) f = absurd f
+weight_step app n connected (Some l) (item.Load sub at) f = omega (arith, ap cursor_weight f.1)
+weight_step app n connected None (item.Advance sub count) f = absurd f
+weight_step app n connected (Some l) (item.Advance sub count) f = omega (arith, ap cursor_weight f.1.1, ap (λ o. cursor_weight (moved count o)) f.1.1, f.1.2)
 
-weight_from : (n : ℕ) (connected : Bool) (live : Option Live) (items : List Item) → FitsFrom n connected live items → length items + live_weight live ≤ answered items + live_weight (live_from live items)
-weight_from n connected live [] f = omega arith
-weight_from n connected live (i ∷ items) f = omega (arith, weight_step n connected live i f.0, weight_from n (connected_after connected i) (live_after live i) items f.1)
+weight_from : (app : App) (n : ℕ) (connected : Bool) (live : Option Live) (items : List Item) → FitsFrom app n connected live items → length items + live_weight live ≤ answered items + live_weight (live_from app live items)
+weight_from app n connected live [] f = omega arith
+weight_from app n connected live (i ∷ items) f = omega (arith, weight_step app n connected live i f.0, weight_from app n (connected_after connected i) (live_after app live i) items f.1)
 
 weight_within : (n : ℕ) (live : Option Live) → IsWithin n live → live_weight live ≤ 1 + n
 weight_within n None w = omega arith
@@ -287,4 +348,4 @@ weight_within n (Some live) w = by live.cursor w
 -- An item for each text that was taken, a `load`, and an `advance` for each entry of the history at most.
 pub journal_is_short : (app : App) (h : List Entry) (c : Client) → IsKept app h c → IsCounted c → length c.journal ≤ 1 + (sent c + length h)
 journal_is_short app h c k counted =
-    omega (arith, counted, weight_from (length h) false None c.journal k.fits, weight_within (length h) (live_of c.journal) (within_from (length h) false None c.journal tt k.fits))
+    omega (arith, counted, weight_from app (length h) false None c.journal k.fits, weight_within (length h) (live_of app c.journal) (within_from app (length h) false None c.journal tt k.fits))

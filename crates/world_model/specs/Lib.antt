@@ -5,9 +5,11 @@ pub mod World
 pub mod Settle
 pub mod Run
 pub mod Lines
+pub mod LineLaws
 pub mod Kept
 pub mod TextLaws
 pub mod CalmLaws
+pub mod AskLaws
 pub mod KeptLaws
 pub mod RunLaws
 pub mod HeadlineLaws

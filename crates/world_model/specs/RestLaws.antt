@@ -1,6 +1,6 @@
 -- A session whose world is stuck is quiescent, or its client is broken, or its journal is full.
-use Rattle.std.specs.Prelude.{◌≡◌, ℕ, ◌+◌, ◌-◌, ◌<◌, ◌≤◌, List, [], ◌∷◌, ◌++◌, length, Bool, true, false, not, Option, Some, None, IsSome, is_some, is_none, nat_lt, ◌&&◌, ◌||◌, refl}
-use Rattle.std.proofs.Common.{ap, sym, subst, ◌∙◌, arith, append-nil, inl, inr}
+use Rattle.std.specs.Prelude.{◌≡◌, ℕ, ◌+◌, ◌<◌, ◌≤◌, List, [], ◌∷◌, ◌++◌, length, Bool, true, false, not, Option, Some, None, IsSome, is_some, is_none, nat_lt, ◌&&◌, ◌||◌, refl}
+use Rattle.std.proofs.Common.{ap, ap₂, sym, subst, ◌∙◌, arith, append-nil, inl, inr}
 use Rattle.std.specs.List.{list_all, list_any}
 use Rattle.std.proofs.lemmas.Bool.{ltb-false, lt-ltb}
 use Rattle.ddp_messages.specs.ServerMessage.{ServerMessage}
@@ -8,7 +8,7 @@ use Rattle.ddp_messages.specs.ServerMessage as server
 use Rattle.session_model.specs.declared.requests.Request.{Request}
 use Rattle.session_model.specs.declared.items.Item.{Item}
 use Rattle.session_model.specs.declared.items.Item.TheVariants as item
-use Rattle.session_model.specs.App.{App}
+use Rattle.app_model.specs.App.{App}
 use Rattle.session_model.specs.History.{Entry, AreEntries}
 use Rattle.session_model.specs.Texts.{messages_in}
 use Rattle.session_model.specs.Journal.{Live, live_of, live_after, CanFollow, Fits, FitsFrom}
@@ -22,7 +22,7 @@ use Rattle.world_model.specs.Acts.{guarded, has_room, is_fail, has_failed, link_
 use Rattle.world_model.specs.World.{World, can_by}
 use Rattle.world_model.specs.Settle.{order, is_stuck, settled}
 use Rattle.world_model.specs.Run.{IsAtEnd, IsQuiescent, IsAtRest, IsSettled, sent, sent_by, made, HoldsOf, Reachable}
-use Rattle.world_model.specs.Kept.{HasBegun, IsLinked, IsKept, session_after}
+use Rattle.world_model.specs.Kept.{HasBegun, IsKept, session_after}
 use Rattle.world_model.specs.CalmLaws.{stays_connected}
 use Rattle.world_model.specs.KeptLaws.{session_after-append}
 use Rattle.world_model.specs.RunLaws.{IsKeptWorld, done_keeps, settled_keeps, reachable_is_kept}
@@ -54,26 +54,27 @@ named_by app number h items =
     subst IsSome (sym (session_after-append None first (out_from app number h None items))) (named_after (session_after None first) (out_from app number h None items) refl)
 
 -- it has no refused version
-no_fail : (n : ℕ) (live : Option Live) (i : Item) → CanFollow n true live i → is_fail i ≡ false
-no_fail n live item.Connect f = refl
-no_fail n live item.Fail f = cc f
-no_fail n live (item.Ping id) f = refl
-no_fail n live item.Pong f = refl
-no_fail n live (item.Bad answer) f = refl
-no_fail n live (item.Open sub id name) f = refl
-no_fail n live (item.Load sub at) f = refl
-no_fail n live (item.Advance sub count) f = refl
+no_fail : (app : App) (n : ℕ) (live : Option Live) (i : Item) → CanFollow app n true live i → is_fail i ≡ false
+no_fail app n live item.Connect f = refl
+no_fail app n live item.Fail f = cc f
+no_fail app n live (item.Ping id) f = refl
+no_fail app n live item.Pong f = refl
+no_fail app n live (item.Bad answer) f = refl
+no_fail app n live (item.Open sub id name params) f = refl
+no_fail app n live (item.Refuse id fault) f = refl
+no_fail app n live (item.Load sub at) f = refl
+no_fail app n live (item.Advance sub count) f = refl
 
-none_failed : (n : ℕ) (live : Option Live) (items : List Item) → FitsFrom n true live items → list_any is_fail items ≡ false
-none_failed n live [] f = refl
-none_failed n live (i ∷ items) f =
-    ap (λ b. b || list_any is_fail items) (no_fail n live i f.0)
-    ∙ none_failed n (live_after live i) items (subst (λ b. FitsFrom n b (live_after live i) items) (stays_connected i) f.1)
+none_failed : (app : App) (n : ℕ) (live : Option Live) (items : List Item) → FitsFrom app n true live items → list_any is_fail items ≡ false
+none_failed app n live [] f = refl
+none_failed app n live (i ∷ items) f =
+    ap (λ b. b || list_any is_fail items) (no_fail app n live i f.0)
+    ∙ none_failed app n (live_after app live i) items (subst (λ b. FitsFrom app n b (live_after app live i) items) (stays_connected i) f.1)
 
-begun_unfailed : (n : ℕ) (journal : List Item) (received : List (List ℕ)) → HasBegun journal received → Fits n journal → has_failed journal ≡ false
-begun_unfailed n journal received (inl b) f = ap (list_any is_fail) b.0
-begun_unfailed n journal received (inr b) f =
-    ap (list_any is_fail) b.1 ∙ none_failed n None b.0 (subst (Fits n) b.1 f).1
+begun_unfailed : (app : App) (n : ℕ) (journal : List Item) (received : List (List ℕ)) → HasBegun journal received → Fits app n journal → has_failed journal ≡ false
+begun_unfailed app n journal received (inl b) f = ap (list_any is_fail) b.0
+begun_unfailed app n journal received (inr b) f =
+    ap (list_any is_fail) b.1 ∙ none_failed app n None b.0 (subst (Fits app n) b.1 f).1
 
 -- ---- what is stuck
 
@@ -149,46 +150,46 @@ has_connected : (c : Client) (more : List (List ℕ)) → c.received ++ (c.upwar
 has_connected c more e up waiting (inl b) = absurd (nil_received c.received c.waiting more (ap (λ u. c.received ++ (u ++ c.waiting)) (sym up) ∙ e) waiting b.1)
 has_connected c more e up waiting (inr b) = b
 
-quiescent_by : (app : App) (h : List Entry) (c : Client) → AreEntries h → (k : IsKept app h c) → c.broken ≡ None → (l : IsLinked app h c) → IsStuckClient app h c → c.downward ≡ [] → c.outbox ≡ [] →
-    has_room c ≡ true → IsQuiescent h c
-quiescent_by app h c entries k unbroken l s down out_empty room =
-    let ok = begun_unfailed (length h) c.journal c.received k.begun k.fits in
+quiescent_by : (app : App) (h : List Entry) (c : Client) → AreEntries h → (k : IsKept app h c) → c.broken ≡ None → IsStuckClient app h c → c.downward ≡ [] → c.outbox ≡ [] →
+    has_room c ≡ true → IsQuiescent app h c
+quiescent_by app h c entries k unbroken s down out_empty room =
+    let ok = begun_unfailed app (length h) c.journal c.received k.begun k.fits in
     let queue = not_handled app h c c.queue room s.handle in
     let upward = not_received app h c c.upward ok room s.recv in
     let free : length c.upward < link_limit = omega (arith, ap (λ (ms : List (List ℕ)). length ms) upward) in
     let waiting = not_moved c c.waiting free s.up in
     let b = has_connected c k.more k.first upward waiting k.begun in
-    let texts : l.taken ≡ out_texts app c.number h c.journal =
-    sym (append-nil l.taken) ∙ (ap (λ xs. l.taken ++ (xs ++ [])) (sym down) ∙ (ap (λ xs. l.taken ++ (c.downward ++ xs)) (sym out_empty) ∙ l.links)) in
-    let all : messages_in l.taken ≡ out app c.number h c.journal = ap messages_in texts ∙ (out_reads app c.number (length h) h c.journal entries k.fits).1 in
+    let none : k.untaken ≡ [] = k.on_way unbroken ∙ ap₂ (λ xs ys. xs ++ ys) down out_empty in
+    let texts : k.taken ≡ out_texts app c.number h c.journal = sym (append-nil k.taken) ∙ (ap (λ xs. k.taken ++ xs) (sym none) ∙ k.links) in
+    let all : messages_in k.taken ≡ out app c.number h c.journal = ap messages_in texts ∙ (out_reads app c.number (length h) h c.journal entries k.fits).1 in
     record {
-      connected = subst IsSome (sym (l.session ∙ (ap (session_after None) all ∙ ap (λ j. session_after None (out app c.number h j)) b.1))) (named_by app c.number h b.0);
+      connected = subst IsSome (sym (k.told.of_session ∙ (ap (session_after None) all ∙ ap (λ j. session_after None (out app c.number h j)) b.1))) (named_by app c.number h b.0);
       unbroken = unbroken;
       waiting = waiting;
       upward = upward;
       queue = queue;
       outbox = out_empty;
       downward = down;
-      at_end = live_at_end app h c (live_of c.journal) (within_from (length h) false None c.journal tt k.fits) room s.load s.advance;
+      at_end = live_at_end app h c (live_of app c.journal) (within_from app (length h) false None c.journal tt k.fits) room s.load s.advance;
     }
 
-linked_is_at_rest : (app : App) (h : List Entry) (c : Client) → AreEntries h → IsKept app h c → c.broken ≡ None → IsLinked app h c → IsStuckClient app h c → IsAtRest h c
-linked_is_at_rest app h c entries k unbroken l s =
-    let down = not_taken c c.downward l.unfailed unbroken s.take in
+unbroken_is_at_rest : (app : App) (h : List Entry) (c : Client) → AreEntries h → IsKept app h c → c.broken ≡ None → IsStuckClient app h c → IsAtRest app h c
+unbroken_is_at_rest app h c entries k unbroken s =
+    let down = not_taken c c.downward k.told.unfailed unbroken s.take in
     let free : length c.downward < link_limit = omega (arith, ap (λ (ms : List (List ℕ)). length ms) down) in
     let out_empty = not_sent c c.outbox free s.send in
     let small : length c.outbox < outbox_limit = omega (arith, ap (λ (ms : List (List ℕ)). length ms) out_empty) in
     by down out_empty (lt-ltb (length c.outbox) outbox_limit small) (nat_lt (length c.journal) journal_limit) refl
   where
-    by : c.downward ≡ [] → c.outbox ≡ [] → nat_lt (length c.outbox) outbox_limit ≡ true → (b : Bool) → nat_lt (length c.journal) journal_limit ≡ b → IsAtRest h c
-    by down out_empty small true e = inl (quiescent_by app h c entries k unbroken l s down out_empty (ap (λ a. a && nat_lt (length c.journal) journal_limit) small ∙ e))
+    by : c.downward ≡ [] → c.outbox ≡ [] → nat_lt (length c.outbox) outbox_limit ≡ true → (b : Bool) → nat_lt (length c.journal) journal_limit ≡ b → IsAtRest app h c
+    by down out_empty small true e = inl (quiescent_by app h c entries k unbroken s down out_empty (ap (λ a. a && nat_lt (length c.journal) journal_limit) small ∙ e))
     by down out_empty small false e = inr (inr (ltb-false (length c.journal) journal_limit e))
 
-pub stuck_is_at_rest : (app : App) (h : List Entry) (c : Client) → AreEntries h → IsKept app h c → IsStuckClient app h c → IsAtRest h c
+pub stuck_is_at_rest : (app : App) (h : List Entry) (c : Client) → AreEntries h → IsKept app h c → IsStuckClient app h c → IsAtRest app h c
 stuck_is_at_rest app h c entries k s = by c.broken refl
   where
-    by : (o : Option ℕ) → c.broken ≡ o → IsAtRest h c
-    by None e = linked_is_at_rest app h c entries k e (k.linked e) s
+    by : (o : Option ℕ) → c.broken ≡ o → IsAtRest app h c
+    by None e = unbroken_is_at_rest app h c entries k e s
     by (Some n) e = inr (inl (subst IsSome (sym e) refl))
 
 not_true : (b : Bool) → not b ≡ true → b ≡ false
@@ -219,18 +220,18 @@ client_stuck app h (Some c) e =
       take = not_true _ p7.0;
     }
 
-client_at_rest : (app : App) (h : List Entry) (o : Option Client) → AreEntries h → HoldsOf o (IsKept app h) → HoldsOf o (IsStuckClient app h) → HoldsOf o (IsAtRest h)
+client_at_rest : (app : App) (h : List Entry) (o : Option Client) → AreEntries h → HoldsOf o (IsKept app h) → HoldsOf o (IsStuckClient app h) → HoldsOf o (IsAtRest app h)
 client_at_rest app h None entries k s = tt
 client_at_rest app h (Some c) entries k s = stuck_is_at_rest app h c entries k s
 
-pub stuck_world_is_at_rest : (w : World) → IsKeptWorld w → is_stuck w ≡ true → HoldsOf w.client (IsAtRest w.history)
+pub stuck_world_is_at_rest : (w : World) → IsKeptWorld w → is_stuck w ≡ true → HoldsOf w.client (IsAtRest w.app w.history)
 stuck_world_is_at_rest w k e = client_at_rest w.app w.history w.client k.entries k.client (client_stuck w.app w.history w.client e)
 
 -- A settled world is at rest.
-pub settled_is_at_rest : (w : World) → IsKeptWorld w → HoldsOf (settled w).client (IsAtRest (settled w).history)
+pub settled_is_at_rest : (w : World) → IsKeptWorld w → HoldsOf (settled w).client (IsAtRest (settled w).app (settled w).history)
 settled_is_at_rest w k = stuck_world_is_at_rest (settled w) (settled_keeps IsKeptWorld done_keeps w k) (settled_is_stuck w k)
 
-pub reachable_settles : (w : World) → Reachable w → HoldsOf (settled w).client (IsAtRest (settled w).history)
+pub reachable_settles : (w : World) → Reachable w → HoldsOf (settled w).client (IsAtRest (settled w).app (settled w).history)
 reachable_settles w r = settled_is_at_rest w (reachable_is_kept w r)
 
 -- settling leaves the application and the history
@@ -240,16 +241,16 @@ same_app w = settled_keeps (λ v. v.app ≡ w.app) (λ a v e. e) w refl
 pub same_history : (w : World) → (settled w).history ≡ w.history
 same_history w = settled_keeps (λ v. v.history ≡ w.history) (λ a v e. e) w refl
 
-short_is_settled : (app : App) (h : List Entry) (c : Client) → IsKept app h c → IsCounted c → 1 + (sent c + length h) < journal_limit → IsAtRest h c → IsSettled h c
+short_is_settled : (app : App) (h : List Entry) (c : Client) → IsKept app h c → IsCounted c → 1 + (sent c + length h) < journal_limit → IsAtRest app h c → IsSettled app h c
 short_is_settled app h c k counted short (inl q) = inl q
 short_is_settled app h c k counted short (inr (inl b)) = inr b
 short_is_settled app h c k counted short (inr (inr full)) = absurd (omega (arith, journal_is_short app h c k counted, short, full))
 
-client_is_settled : (app : App) (h : List Entry) (o : Option Client) → HoldsOf o (IsKept app h) → HoldsOf o IsCounted → 1 + (sent_by o + length h) < journal_limit → HoldsOf o (IsAtRest h) → HoldsOf o (IsSettled h)
+client_is_settled : (app : App) (h : List Entry) (o : Option Client) → HoldsOf o (IsKept app h) → HoldsOf o IsCounted → 1 + (sent_by o + length h) < journal_limit → HoldsOf o (IsAtRest app h) → HoldsOf o (IsSettled app h)
 client_is_settled app h None k counted short rest = tt
 client_is_settled app h (Some c) k counted short rest = short_is_settled app h c k counted short rest
 
-pub short_world_settles : (w : World) → Reachable w → 1 + made w < journal_limit → HoldsOf (settled w).client (IsSettled (settled w).history)
+pub short_world_settles : (w : World) → Reachable w → 1 + made w < journal_limit → HoldsOf (settled w).client (IsSettled (settled w).app (settled w).history)
 short_world_settles w r short =
     let k = reachable_is_kept w r in
     let s = settled_counted w k (reachable_is_counted w r) in

@@ -1,40 +1,41 @@
 -- Every event keeps the world: a legal history, and what is kept of the client.
-use Rattle.std.specs.Prelude.{◌≡◌, ◌⊎◌, ℕ, zero, suc, ◌+◌, List, [], ◌∷◌, ◌++◌, length, Bool, true, false, cond, Option, Some, None, IfSome, IsTrue, is_some, is_none, unwrap_or, ◌&&◌, Result, Ok, Err, refl}
+use Rattle.std.specs.Prelude.{◌≡◌, ℕ, zero, suc, List, [], ◌∷◌, ◌++◌, length, Bool, true, false, cond, Option, Some, None, IfSome, IsTrue, is_some, is_none, unwrap_or, ◌&&◌, Result, Ok, Err, refl}
 use Rattle.std.proofs.Common.{ap, sym, subst, ◌∙◌, arith, append-nil, inl, inr}
-use Rattle.std.proofs.lemmas.List.{length-append, append_assoc, map-append}
-use Rattle.map_model.specs.Maps.{at}
+use Rattle.std.proofs.lemmas.List.{length-append, append_assoc}
+use Rattle.map_model.specs.Maps.{set}
+use Rattle.value_model.specs.Val.{Val, vals_of}
+use Rattle.value_model.specs.Valid.{AreValues}
+use Rattle.value_model.specs.Order.{text_cmp}
 use Rattle.value_model.specs.Size.{is_name}
 use Rattle.ejson_value.specs.Rows.{Rows}
 use Rattle.ddp_messages.specs.Answers.{client_answer}
 use Rattle.ddp_messages.specs.ClientMessage.{ClientMessage}
 use Rattle.ddp_messages.specs.ClientMessage as client
-use Rattle.ddp_messages.specs.Limits.{IsShort}
-use Rattle.ddp_messages.specs.ServerMessage.{ServerMessage}
+use Rattle.ddp_messages.specs.Limits.{IsShort, AreShallow}
 use Rattle.ddp_messages.specs.declared.fault.MsgFault.{MsgFault}
+use Rattle.session_model.specs.declared.requests.Request.{Request}
 use Rattle.session_model.specs.declared.items.Item.{Item}
-use Rattle.session_model.specs.declared.items.Item.TheVariants as item
-use Rattle.session_model.specs.App.{App, publication}
+use Rattle.app_model.specs.App.{App}
 use Rattle.session_model.specs.History.{Entry, applied, after, contents, can_insert, IsLegalFrom, IsLegal, IsStored, AreEntries}
 use Rattle.session_model.specs.HistoryLaws.{AreEntries-append}
 use Rattle.session_model.specs.Texts.{messages_in}
-use Rattle.session_model.specs.Journal.{live_of, Fits, loaded_ids}
-use Rattle.session_model.specs.Out.{out, out_texts, ready_in, ready_ids}
-use Rattle.session_model.specs.OutLaws.{out_texts-longer, FitsFrom-longer, ready_ids-append, ready_ids-out_from}
-use Rattle.session_model.specs.HeardLaws.{out_reads}
+use Rattle.session_model.specs.Journal.{Fits}
+use Rattle.session_model.specs.Out.{out}
+use Rattle.session_model.specs.OutLaws.{out_texts-longer, FitsFrom-longer}
 use Rattle.world_model.specs.declared.events.Act.{Act}
 use Rattle.world_model.specs.declared.events.Event.{Event}
 use Rattle.world_model.specs.declared.events.Event.TheVariants as event
 use Rattle.world_model.specs.declared.subs.SubState.TheVariants as state
-use Rattle.world_model.specs.Client.{Client, Sub, new_client, connect_text}
-use Rattle.world_model.specs.Taking.{readied}
-use Rattle.world_model.specs.Acts.{guarded, acts}
+use Rattle.world_model.specs.Client.{Client, new_client, connect_text}
+use Rattle.world_model.specs.Acts.{guarded, acts, loading, leading}
 use Rattle.world_model.specs.World.{World, start, after_act, done}
 use Rattle.world_model.specs.Settle.{many, times, each, order, rounds, blocks, settled, texts, work}
-use Rattle.world_model.specs.Run.{after_client, sub_text, can_subscribe, subscribes, after_sub, asks_in, can_send, with_text, after_raw, is_called, after_named, step, run, IsEvent, AreEvents, Reachable, HoldsOf, opened_ids, sub_ids}
-use Rattle.world_model.specs.Kept.{asked_in, asked, requested, session_after, sub_after, HasBegun, HasConnected, AreHeard, IsLinked, IsKept}
-use Rattle.world_model.specs.TextLaws.{connect_read, sub_read, sub_heard}
-use Rattle.world_model.specs.CalmLaws.{AreCalm, calm_front, out_calm}
-use Rattle.world_model.specs.KeptLaws.{acts_keep, asked-append, AreHeard-append, none_opened}
+use Rattle.world_model.specs.Run.{after_client, sub_text, can_subscribe, subscribes, after_sub, asks_in, can_send, with_text, after_raw, is_called, after_named, after_by, step, run, are_over, asked_in, asked, IsEvent, AreEvents, Reachable, HoldsOf, requested}
+use Rattle.world_model.specs.Kept.{HasBegun, IsAsking, IsKept}
+use Rattle.world_model.specs.TextLaws.{sub_read}
+use Rattle.world_model.specs.CalmLaws.{AreCalm, out_calm}
+use Rattle.world_model.specs.AskLaws.{none_asked, one_asked}
+use Rattle.world_model.specs.KeptLaws.{acts_keep, loading_keeps, leading_keeps, asked-append, requested-append}
 
 pub record IsKeptWorld (w : World) : Type 0 where
   pub legal : IsLegal w.app w.history
@@ -80,15 +81,17 @@ module _ (P : World → Type 0) (keeps : (a : Act) (w : World) → P w → P (do
 new_kept : (app : App) (h : List Entry) (name : List ℕ) → IsKept app h (new_client name)
 new_kept app h name = record {
   fits = tt;
-  linked = λ u. record { taken = []; links = refl; rows = refl; session = refl; sub = refl; unfailed = refl };
+  taken = [];
+  untaken = [];
+  links = refl;
+  on_way = λ u. refl;
   begun = inl (refl, refl);
   more = [];
   first = refl;
-  one_sub = ap (λ a. asked_in a ++ []) connect_read;
+  told = record { of_rows = refl; of_session = refl; unfailed = refl; asking = none_asked };
+  counted = refl;
   short = tt;
   queued = inl refl;
-  heard = (inl (ap asked_in connect_read), tt);
-  asking = inl (ap (λ a. asked_in a ++ []) connect_read);
 }
 
 client_began : (app : App) (h : List Entry) (name : List ℕ) (o : Option Client) → HoldsOf o (IsKept app h) → HoldsOf (after_client name o) (IsKept app h)
@@ -103,50 +106,13 @@ second_true : (a b : Bool) → (a && b) ≡ true → b ≡ true
 second_true true b e = e
 second_true false b e = cc
 
-no_sub : (o : Option Sub) → is_none o ≡ true → o ≡ None
-no_sub None e = refl
-no_sub (Some s) e = cc
-
--- ---- what the client was told of subscriptions
-
-readied-append : (xs ys : List (List ℕ)) (s : Option Sub) → readied (xs ++ ys) s ≡ readied ys (readied xs s)
-readied-append [] ys s = refl
-readied-append (x ∷ xs) ys s = readied-append xs ys _
-
-pub subs_told : (s : Option Sub) (ms : List ServerMessage) → AreCalm ms → sub_after s ms ≡ readied (ready_ids ms) s
-subs_told s [] a = refl
-subs_told s (m ∷ ms) a =
-    ap (λ t. sub_after t ms) (a.0.readies s)
-    ∙ (subs_told (readied (ready_in m) s) ms a.1 ∙ sym (readied-append (ready_in m) (ready_ids ms) s))
-
 empty_out : (app : App) (n : ℕ) (h : List Entry) (journal : List Item) → journal ≡ [] → AreCalm (out app n h journal)
 empty_out app n h journal e = subst (λ j. AreCalm (out app n h j)) (sym e) tt
 
 -- the messages of a journal are calm
-pub journal_calm : (app : App) (n : ℕ) (h : List Entry) (journal : List Item) (received : List (List ℕ)) → HasBegun journal received → Fits (length h) journal → AreCalm (out app n h journal)
+pub journal_calm : (app : App) (n : ℕ) (h : List Entry) (journal : List Item) (received : List (List ℕ)) → HasBegun journal received → Fits app (length h) journal → AreCalm (out app n h journal)
 journal_calm app n h journal received (inl b) f = empty_out app n h journal b.0
-journal_calm app n h journal received (inr b) f = subst (λ j. AreCalm (out app n h j)) (sym b.1) (out_calm app n (length h) h b.0 (subst (Fits (length h)) b.1 f))
-
--- what a client took, and what is still on its way, as messages
-pub heard : (app : App) (h : List Entry) (c : Client) → AreEntries h → IsKept app h c → (l : IsLinked app h c) →
-    messages_in l.taken ++ messages_in (c.downward ++ c.outbox) ≡ out app c.number h c.journal
-heard app h c entries k l = sym (map-append _ l.taken (c.downward ++ c.outbox)) ∙ (ap messages_in l.links ∙ (out_reads app c.number (length h) h c.journal entries k.fits).1)
-
-nil_before : {A : Type 0} (xs ys : List A) → xs ++ ys ≡ [] → xs ≡ []
-nil_before [] ys e = refl
-nil_before (x ∷ xs) ys e = cc
-
--- a client without a subscription was told of none
-none_told : (app : App) (h : List Entry) (c : Client) (s : Option Sub) → AreEntries h → (k : IsKept app h c) → (l : IsLinked app h c) → c.sub ≡ None → sub_after s (messages_in l.taken) ≡ s
-none_told app h c s entries k l none =
-    let ids = k.one_sub ∙ ap sub_ids none in
-    let live = none_opened (live_of c.journal) (nil_before (opened_ids (live_of c.journal)) (requested c.queue ++ (asked c.upward ++ asked c.waiting)) ids) in
-    let all = heard app h c entries k l in
-    let ready : ready_ids (messages_in l.taken) ++ ready_ids (messages_in (c.downward ++ c.outbox)) ≡ [] =
-    sym (ready_ids-append (messages_in l.taken) (messages_in (c.downward ++ c.outbox)))
-    ∙ (ap ready_ids all ∙ (ready_ids-out_from app c.number (length h) h false None c.journal k.fits ∙ ap loaded_ids live)) in
-    let quiet : AreCalm (messages_in l.taken) = calm_front (messages_in l.taken) (messages_in (c.downward ++ c.outbox)) (subst AreCalm (sym all) (journal_calm app c.number h c.journal c.received k.begun k.fits)) in
-    subs_told s (messages_in l.taken) quiet ∙ ap (λ ids. readied ids s) (nil_before (ready_ids (messages_in l.taken)) (ready_ids (messages_in (c.downward ++ c.outbox))) ready)
+journal_calm app n h journal received (inr b) f = subst (λ j. AreCalm (out app n h j)) (sym b.1) (out_calm app n (length h) h b.0 (subst (Fits app (length h)) b.1 f))
 
 -- ---- the events of a client
 
@@ -156,92 +122,45 @@ text_first c t more e =
     ap (λ rest. c.received ++ rest) (sym (append_assoc c.upward c.waiting (t ∷ [])))
     ∙ (sym (append_assoc c.received (c.upward ++ c.waiting) (t ∷ [])) ∙ ap (λ xs. xs ++ t ∷ []) e)
 
-text_asked : (c : Client) (t : List ℕ) (ids : List (List ℕ)) → asked_in (client_answer t) ≡ ids →
-    opened_ids (live_of c.journal) ++ (requested c.queue ++ (asked c.upward ++ asked (c.waiting ++ t ∷ [])))
-    ≡ (opened_ids (live_of c.journal) ++ (requested c.queue ++ (asked c.upward ++ asked c.waiting))) ++ ids
-text_asked c t ids e =
-    ap (λ xs. opened_ids (live_of c.journal) ++ (requested c.queue ++ (asked c.upward ++ xs))) (asked-append c.waiting (t ∷ []) ∙ ap (λ a. asked c.waiting ++ a) (append-nil (asked_in (client_answer t)) ∙ e))
-    ∙ inside (opened_ids (live_of c.journal)) (requested c.queue) (asked c.upward) (asked c.waiting) ids
-  where
-    inside : (a b d e f : List (List ℕ)) → a ++ (b ++ (d ++ (e ++ f))) ≡ (a ++ (b ++ (d ++ e))) ++ f
-    inside a b d e f = simp append_assoc
-
--- one more text that is heard waits
-text_heard : (c : Client) (t : List ℕ) → AreHeard (c.upward ++ c.waiting) → AreHeard (t ∷ []) → AreHeard (c.upward ++ (c.waiting ++ t ∷ []))
-text_heard c t all one = subst AreHeard (append_assoc c.upward c.waiting (t ∷ [])) (AreHeard-append (c.upward ++ c.waiting) (t ∷ []) all one)
-
-no_session : (o : Option (List ℕ)) → is_some o ≡ true → o ≡ None → ⊥
-no_session None e n = cc e
-no_session (Some s) e n = cc n
-
--- a client that knows its session is one of a connected session
-session_begun : (app : App) (h : List Entry) (c : Client) → IsKept app h c → is_none c.broken ≡ true → is_some c.session ≡ true → HasConnected c.journal
-session_begun app h c k unbroken known = by k.begun
-  where
-    l : IsLinked app h c
-    l = k.linked (no_break c.broken unbroken)
-      where
-        no_break : (o : Option ℕ) → is_none o ≡ true → o ≡ None
-        no_break None e = refl
-        no_break (Some n) e = cc e
-
-    by : HasBegun c.journal c.received → HasConnected c.journal
-    by (inl b) =
-        let taken : l.taken ≡ [] = nil_before l.taken (c.downward ++ c.outbox) (l.links ∙ ap (out_texts app c.number h) b.0) in
-        absurd (no_session c.session known (l.session ∙ ap (λ ts. session_after None (messages_in ts)) taken))
-    by (inr b) = b
-
--- what a client that subscribes is: it knows its session, isn't broken, and has no subscription
-record CanAsk (c : Client) : Type 0 where
-  pub session : is_some c.session ≡ true
-  pub unbroken : is_none c.broken ≡ true
-  pub none : c.sub ≡ None
-
-subscribe_keeps : (app : App) (h : List Entry) (c : Client) (id name : List ℕ) (b : Bool) → AreEntries h → IsShort id → IsShort name → (b ≡ true → CanAsk c) → IsKept app h c →
-    IfSome (guarded b (record c { waiting = c.waiting ++ sub_text id name ∷ []; sub = Some (record { id = id; state = state.Waiting }) })) (IsKept app h)
-subscribe_keeps app h c id name false entries short named can k = tt
-subscribe_keeps app h c id name true entries short named can k =
-    let s : Sub = record { id = id; state = state.Waiting } in
-    let t = sub_text id name in
-    let ask = can refl in
+subscribe_keeps : (app : App) (h : List Entry) (c : Client) (id name : List ℕ) (params : List Val) (b : Bool) → IsShort id → AreValues (vals_of params) → AreShallow params →
+    (b ≡ true → are_over c.subs ≡ true) → IsKept app h c →
+    IfSome (guarded b (record c { waiting = c.waiting ++ sub_text id name params ∷ []; subs = set text_cmp c.subs id (Some state.Waiting) })) (IsKept app h)
+subscribe_keeps app h c id name params false short values shallow over k = tt
+subscribe_keeps app h c id name params true short values shallow over k =
+    let t = sub_text id name params in
+    let r : Request = record { id = id; name = name; params = params } in
+    let asks : requested (asked (k.more ++ t ∷ [])) ≡ requested (asked k.more) ++ id ∷ [] =
+    ap requested (asked-append k.more (t ∷ []) ∙ ap (λ rs. asked k.more ++ rs) (append-nil (asked_in (client_answer t)) ∙ ap asked_in (sub_read id name params short values shallow)))
+    ∙ requested-append (asked k.more) (r ∷ []) in
     record {
       fits = k.fits;
-      linked = λ u.
-          let l = k.linked u in
-          record {
-            taken = l.taken;
-            links = l.links;
-            rows = l.rows;
-            session = l.session;
-            sub = sym (none_told app h c (Some s) entries k l ask.none);
-            unfailed = l.unfailed;
-          };
+      taken = k.taken;
+      untaken = k.untaken;
+      links = k.links;
+      on_way = k.on_way;
       begun = k.begun;
       more = k.more ++ t ∷ [];
       first = text_first c t k.more k.first;
-      one_sub = text_asked c t (id ∷ []) (ap asked_in (sub_read id name short)) ∙ ap (λ ids. ids ++ id ∷ []) (k.one_sub ∙ ap sub_ids ask.none);
+      told = record {
+        of_rows = k.told.of_rows;
+        of_session = k.told.of_session;
+        unfailed = k.told.unfailed;
+        asking =
+            subst (λ ids. IsAsking (set text_cmp c.subs id (Some state.Waiting)) (messages_in k.taken) ids) (sym asks)
+            (one_asked c.subs (messages_in k.taken) (requested (asked k.more)) id (over refl) k.told.asking);
+      };
+      counted = k.counted;
       short = k.short;
       queued = k.queued;
-      heard = text_heard c t k.heard (inr (sub_heard id name short named), tt);
-      asking = inr (session_begun app h c k ask.unbroken ask.session);
     }
 
-can_ask : (app : App) (c : Client) (who name : List ℕ) → can_subscribe app c who name ≡ true → CanAsk c
-can_ask app c who name e =
-    let p4 = first_true (is_name c.name who && is_some c.session && is_none c.broken && is_none c.sub) (is_some (publication app name)) e in
-    let p3 = first_true (is_name c.name who && is_some c.session && is_none c.broken) (is_none c.sub) p4 in
-    let p2 = first_true (is_name c.name who && is_some c.session) (is_none c.broken) p3 in
-    record {
-      session = second_true (is_name c.name who) (is_some c.session) p2;
-      unbroken = second_true (is_name c.name who && is_some c.session) (is_none c.broken) p3;
-      none = no_sub c.sub (second_true (is_name c.name who && is_some c.session && is_none c.broken) (is_none c.sub) p4);
-    }
-
-client_subscribed : (app : App) (h : List Entry) (who id name : List ℕ) (o : Option Client) → AreEntries h → IsShort id → IsShort name → HoldsOf o (IsKept app h) →
-    HoldsOf (after_sub app who id name o) (IsKept app h)
-client_subscribed app h who id name None entries short named k = tt
-client_subscribed app h who id name (Some c) entries short named k =
-    chosen (IsKept app h) c (subscribes app c who id name) k (subscribe_keeps app h c id name (can_subscribe app c who name) entries short named (can_ask app c who name) k)
+client_subscribed : (app : App) (h : List Entry) (who id name : List ℕ) (params : List Val) (o : Option Client) → IsShort id → AreValues (vals_of params) → AreShallow params → HoldsOf o (IsKept app h) →
+    HoldsOf (after_sub who id name params o) (IsKept app h)
+client_subscribed app h who id name params None short values shallow k = tt
+client_subscribed app h who id name params (Some c) short values shallow k =
+    chosen (IsKept app h) c (subscribes c who id name params) k
+    (subscribe_keeps app h c id name params (can_subscribe c who) short values shallow
+    (λ e. second_true (is_name c.name who && is_some c.session && is_none c.broken) (are_over c.subs) e) k)
 
 -- a text that asks for nothing
 asks_nothing : (r : Result ClientMessage MsgFault) → asks_in r ≡ false → asked_in r ≡ []
@@ -253,25 +172,31 @@ asks_nothing (Ok (client.unsub id)) e = refl
 asks_nothing (Ok (client.method id name params seed)) e = refl
 asks_nothing (Err fault) e = refl
 
-raw_asking : (c : Client) (t : List ℕ) → asked_in (client_answer t) ≡ [] → (asked c.upward ++ asked c.waiting ≡ []) ⊎ HasConnected c.journal →
-    (asked c.upward ++ asked (c.waiting ++ t ∷ []) ≡ []) ⊎ HasConnected c.journal
-raw_asking c t none (inl e) =
-    inl (ap (λ ids. asked c.upward ++ ids) (asked-append c.waiting (t ∷ []) ∙ (ap (λ ids. asked c.waiting ++ (ids ++ [])) none ∙ append-nil (asked c.waiting))) ∙ e)
-raw_asking c t none (inr b) = inr b
-
 raw_keeps : (app : App) (h : List Entry) (c : Client) (t : List ℕ) → asks_in (client_answer t) ≡ false → IsKept app h c → IsKept app h (record c { waiting = c.waiting ++ t ∷ [] })
-raw_keeps app h c t none k = record {
-  fits = k.fits;
-  linked = λ u. let l = k.linked u in record { taken = l.taken; links = l.links; rows = l.rows; session = l.session; sub = l.sub; unfailed = l.unfailed };
-  begun = k.begun;
-  more = k.more ++ t ∷ [];
-  first = text_first c t k.more k.first;
-  one_sub = text_asked c t [] (asks_nothing (client_answer t) none) ∙ (append-nil _ ∙ k.one_sub);
-  short = k.short;
-  queued = k.queued;
-  heard = text_heard c t k.heard (inl (asks_nothing (client_answer t) none), tt);
-  asking = raw_asking c t (asks_nothing (client_answer t) none) k.asking;
-}
+raw_keeps app h c t none k =
+    let asks : requested (asked (k.more ++ t ∷ [])) ≡ requested (asked k.more) =
+    ap requested
+    (asked-append k.more (t ∷ [])
+    ∙ (ap (λ rs. asked k.more ++ rs) (append-nil (asked_in (client_answer t)) ∙ asks_nothing (client_answer t) none) ∙ append-nil (asked k.more))) in
+    record {
+      fits = k.fits;
+      taken = k.taken;
+      untaken = k.untaken;
+      links = k.links;
+      on_way = k.on_way;
+      begun = k.begun;
+      more = k.more ++ t ∷ [];
+      first = text_first c t k.more k.first;
+      told = record {
+        of_rows = k.told.of_rows;
+        of_session = k.told.of_session;
+        unfailed = k.told.unfailed;
+        asking = subst (λ ids. IsAsking c.subs (messages_in k.taken) ids) (sym asks) k.told.asking;
+      };
+      counted = k.counted;
+      short = k.short;
+      queued = k.queued;
+    }
 
 raw_by : (app : App) (h : List Entry) (t : List ℕ) (o : Option Client) → asks_in (client_answer t) ≡ false → HoldsOf o (IsKept app h) → HoldsOf (with_text t o) (IsKept app h)
 raw_by app h t None none k = tt
@@ -284,22 +209,28 @@ client_stepped : (app : App) (h : List Entry) (who : List ℕ) (a : Act) (o : Op
     HoldsOf (after_named app h who a o) (IsKept app h)
 client_stepped app h who a o made k = elim (is_called who o) as (λ b. HoldsOf (cond b (after_act app h a o) o) (IsKept app h)) [ true ↦ made | false ↦ k ]
 
+-- what the client of a name, or its session, does keeps what each such act keeps
+pub by_holds : (P : Client → Type 0) (who : List ℕ) (f : Client → Option Client) (o : Option Client) → ((c : Client) → P c → IfSome (f c) P) → HoldsOf o P → HoldsOf (after_by who f o) P
+by_holds P who f None keeps k = tt
+by_holds P who f (Some c) keeps k =
+    elim (is_name c.name who) as (λ b. HoldsOf (cond b (Some (unwrap_or (f c) c)) (Some c)) P) [ true ↦ chosen P c (f c) k (keeps c k) | false ↦ k ]
+
 -- a longer history keeps what is kept
 client_longer : (app : App) (h : List Entry) (e : Entry) (o : Option Client) → HoldsOf o (IsKept app h) → HoldsOf o (IsKept app (h ++ e ∷ []))
 client_longer app h e None k = tt
 client_longer app h e (Some c) k = record {
-  fits = FitsFrom-longer (length h) (length (h ++ e ∷ [])) false None c.journal (omega (arith, length-append h (e ∷ []))) k.fits;
-  linked = λ u.
-      let l = k.linked u in
-      record { taken = l.taken; links = l.links ∙ sym (out_texts-longer app c.number h (e ∷ []) c.journal k.fits); rows = l.rows; session = l.session; sub = l.sub; unfailed = l.unfailed };
+  fits = FitsFrom-longer app (length h) (length (h ++ e ∷ [])) false None c.journal (omega (arith, length-append h (e ∷ []))) k.fits;
+  taken = k.taken;
+  untaken = k.untaken;
+  links = k.links ∙ sym (out_texts-longer app c.number h (e ∷ []) c.journal k.fits);
+  on_way = k.on_way;
   begun = k.begun;
   more = k.more;
   first = k.first;
-  one_sub = k.one_sub;
+  told = k.told;
+  counted = k.counted;
   short = k.short;
   queued = k.queued;
-  heard = k.heard;
-  asking = k.asking;
 }
 
 legal_longer : (app : App) (rows : Rows) (h : List Entry) (e : Entry) → IsLegalFrom app rows h → IsTrue (can_insert app (after rows h) e) → IsLegalFrom app rows (h ++ e ∷ [])
@@ -317,13 +248,24 @@ insert_keeps w e true can doc k = record {
 
 pub step_keeps : (w : World) (e : Event) → IsEvent e → IsKeptWorld w → IsKeptWorld (step w e)
 step_keeps w (event.Client name) p k = record { legal = k.legal; entries = k.entries; client = client_began w.app w.history name w.client k.client }
-step_keeps w (event.Sub who id name) p k = record { legal = k.legal; entries = k.entries; client = client_subscribed w.app w.history who id name w.client k.entries p.0 p.1 k.client }
+step_keeps w (event.Sub who id name params) p k = record { legal = k.legal; entries = k.entries; client = client_subscribed w.app w.history who id name params w.client p.0 p.1 p.2 k.client }
 step_keeps w (event.Raw who t) p k = record { legal = k.legal; entries = k.entries; client = client_sent w.app w.history who t w.client p k.client }
 step_keeps w (event.Insert key doc) p k =
     let e : Entry = record { key = key; doc = doc } in insert_keeps w e (can_insert w.app (contents w.history) e) (λ h. h) p k
 step_keeps w (event.Do who a) p k = record { legal = k.legal; entries = k.entries; client = client_stepped w.app w.history who a w.client (done_keeps a w k).client k.client }
+step_keeps w (event.Load who id place) p k = record {
+  legal = k.legal;
+  entries = k.entries;
+  client = by_holds (IsKept w.app w.history) who (loading w.app w.history id place) w.client (λ c. loading_keeps w.app w.history c id place) k.client;
+}
+step_keeps w (event.Advance who id count) p k = record {
+  legal = k.legal;
+  entries = k.entries;
+  client = by_holds (IsKept w.app w.history) who (leading w.app w.history id count) w.client (λ c. leading_keeps w.app w.history c id count) k.client;
+}
 step_keeps w event.Settle p k = settled_keeps IsKeptWorld done_keeps w k
 step_keeps w (event.Show who) p k = k
+step_keeps w (event.Journal who) p k = k
 
 pub run_keeps : (w : World) (events : List Event) → AreEvents events → IsKeptWorld w → IsKeptWorld (run w events)
 run_keeps w [] p k = k

@@ -1,6 +1,7 @@
 -- A world settles: its steps are made in rounds until none is enabled.
 use Rattle.std.specs.Prelude.{ℕ, zero, suc, ◌+◌, ◌-◌, ◌*◌, List, [], ◌∷◌, length, Bool, not, Option, Some, None}
 use Rattle.std.specs.List.{list_all}
+use Rattle.app_model.specs.App.{App}
 use Rattle.session_model.specs.Journal.{Live, live_of}
 use Rattle.world_model.specs.declared.events.Act.{Act}
 use Rattle.world_model.specs.declared.events.Act.TheVariants as act
@@ -59,15 +60,15 @@ live_work length None = 0
 live_work length (Some live) = cursor_work length live.cursor
 
 -- What is still to do but to send and to take: each step other than these lowers it, and these two leave it.
-abbrev pub client_work : ℕ → Client → ℕ
-client_work n c = (4 + n) * length c.waiting + (3 + n) * length c.upward + (2 + n) * length c.queue + live_work n (live_of c.journal)
+abbrev pub client_work : App → ℕ → Client → ℕ
+client_work app n c = (4 + n) * length c.waiting + (3 + n) * length c.upward + (2 + n) * length c.queue + live_work n (live_of app c.journal)
 
-abbrev pub work_by : ℕ → Option Client → ℕ
-work_by n None = 0
-work_by n (Some c) = client_work n c
+abbrev pub work_by : App → ℕ → Option Client → ℕ
+work_by app n None = 0
+work_by app n (Some c) = client_work app n c
 
 abbrev pub work : World → ℕ
-work w = work_by (length w.history) w.client
+work w = work_by w.app (length w.history) w.client
 
 -- What is still to send and to take: these two steps lower it.
 abbrev pub client_texts : Client → ℕ

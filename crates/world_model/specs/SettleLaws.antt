@@ -1,5 +1,5 @@
 -- A settled world is stuck: no step is enabled any more. Each step lowers what is still to do, or leaves it and lowers what is still to send and to take.
-use Rattle.std.specs.Prelude.{◌≡◌, ◌⊎◌, ℕ, zero, suc, ◌+◌, ◌-◌, ◌*◌, ◌<◌, ◌≤◌, List, [], ◌∷◌, ◌++◌, length, Bool, true, false, cond, not, Option, Some, None, IfSome, is_some, is_none, unwrap_or, nat_lt, ◌&&◌, refl}
+use Rattle.std.specs.Prelude.{◌≡◌, ◌⊎◌, ℕ, zero, suc, ◌+◌, ◌-◌, ◌*◌, ◌<◌, ◌≤◌, List, [], ◌∷◌, ◌++◌, length, Bool, true, false, cond, not, Option, Some, None, IfSome, is_some, is_none, unwrap_or, nat_lt, ◌&&◌, Ok, Err, refl}
 use Rattle.std.proofs.Common.{ap, sym, subst, ◌∙◌, arith, append-nil, inl, inr}
 use Rattle.std.specs.List.{list_all}
 use Rattle.std.proofs.lemmas.List.{length-append}
@@ -8,7 +8,8 @@ use Rattle.ddp_messages.specs.Answers.{server_answer}
 use Rattle.session_model.specs.declared.requests.Request.{Request}
 use Rattle.session_model.specs.declared.items.Item.{Item}
 use Rattle.session_model.specs.declared.items.Item.TheVariants as item
-use Rattle.session_model.specs.App.{App}
+use Rattle.app_model.specs.App.{App}
+use Rattle.session_model.specs.Publication.{Making, making}
 use Rattle.session_model.specs.History.{Entry, AreEntries}
 use Rattle.session_model.specs.Texts.{message_in}
 use Rattle.session_model.specs.Answers.{Taken, at_once, to_queue, taken_text}
@@ -19,7 +20,7 @@ use Rattle.world_model.specs.declared.events.Act.{Act}
 use Rattle.world_model.specs.declared.events.Act.TheVariants as act
 use Rattle.world_model.specs.Client.{Client}
 use Rattle.world_model.specs.Taking.{max_server_text, message_refusal, told_unless, told_answer, breaks}
-use Rattle.world_model.specs.Acts.{has_room, has_failed, link_limit, moves_up, after_taking, receives, handles, loads, loads_at, advances, advances_from, sends, takes, acts}
+use Rattle.world_model.specs.Acts.{has_room, has_failed, link_limit, moves_up, after_taking, receives, answering, handles, loads, loads_at, advances, advances_from, sends, takes, acts}
 use Rattle.world_model.specs.World.{World, after_act, done, can_by, can}
 use Rattle.world_model.specs.Settle.{order, times_of, times_by, times, many, each, round, rounds, is_stuck, cursor_work, live_work, client_work, work_by, work, client_texts, texts_by, texts, block, blocks, settled}
 use Rattle.world_model.specs.Run.{HoldsOf}
@@ -30,51 +31,57 @@ use Rattle.world_model.specs.KeptLaws.{guarded_holds, next_reads, is_none_true, 
 use Rattle.world_model.specs.RunLaws.{IsKeptWorld, done_keeps, many_keep, rounds_keep, blocks_keep}
 
 -- less to do, or as much to do and less to send and to take
-abbrev pub LowersClient : ℕ → Client → Client → Type 0
-LowersClient n c d = (client_work n d < client_work n c) ⊎ ((client_work n d ≡ client_work n c) × (client_texts d < client_texts c))
+abbrev pub LowersClient : App → ℕ → Client → Client → Type 0
+LowersClient app n c d = (client_work app n d < client_work app n c) ⊎ ((client_work app n d ≡ client_work app n c) × (client_texts d < client_texts c))
 
 module _ (app : App) (h : List Entry) where
-  up_lowers : (c : Client) (ms : List (List ℕ)) → c.waiting ≡ ms → IfSome (moves_up c ms) (LowersClient (length h) c)
+  up_lowers : (c : Client) (ms : List (List ℕ)) → c.waiting ≡ ms → IfSome (moves_up c ms) (LowersClient app (length h) c)
   up_lowers c [] e = tt
   up_lowers c (m ∷ ms) e =
       let n = length h in
-      guarded_holds (LowersClient n c) (nat_lt (length c.upward) link_limit) _ (λ _.
+      guarded_holds (LowersClient app n c) (nat_lt (length c.upward) link_limit) _ (λ _.
       inl (omega (arith, ap (λ (xs : List (List ℕ)). (4 + n) * length xs) e, ap (λ k. (3 + n) * k) (length-append c.upward (m ∷ [])))))
 
-  live_with : (c : Client) (i : Item) → live_work (length h) (live_of (c.journal ++ i ∷ [])) ≡ live_work (length h) (live_after (live_of c.journal) i)
-  live_with c i = ap (live_work (length h)) (live_from-append None c.journal i)
+  live_with : (c : Client) (i : Item) → live_work (length h) (live_of app (c.journal ++ i ∷ [])) ≡ live_work (length h) (live_after app (live_of app c.journal) i)
+  live_with c i = ap (live_work (length h)) (live_from-append app None c.journal i)
 
   taken_lowers : (c : Client) (t : List ℕ) (ts : List (List ℕ)) (x : Taken) → c.upward ≡ t ∷ ts → IsQuietTaken x →
-      LowersClient (length h) c (after_taking app h (record c { upward = ts; received = c.received ++ t ∷ [] }) x)
+      LowersClient app (length h) c (after_taking app h (record c { upward = ts; received = c.received ++ t ∷ [] }) x)
   taken_lowers c t ts (at_once i) e quiet =
       let n = length h in
-      inl (omega (arith, ap (λ (xs : List (List ℕ)). (3 + n) * length xs) e, live_with c i, ap (live_work n) (quiet (live_of c.journal))))
+      inl (omega (arith, ap (λ (xs : List (List ℕ)). (3 + n) * length xs) e, live_with c i, ap (live_work n) (quiet app (live_of app c.journal))))
   taken_lowers c t ts (to_queue r) e quiet =
       let n = length h in
       inl (omega (arith, ap (λ (xs : List (List ℕ)). (3 + n) * length xs) e, ap (λ k. (2 + n) * k) (length-append c.queue (r ∷ []))))
 
-  recv_lowers : (c : Client) (ts : List (List ℕ)) → c.upward ≡ ts → IfSome (receives app h c ts) (LowersClient (length h) c)
+  recv_lowers : (c : Client) (ts : List (List ℕ)) → c.upward ≡ ts → IfSome (receives app h c ts) (LowersClient app (length h) c)
   recv_lowers c [] e = tt
   recv_lowers c (t ∷ ts) e =
-      guarded_holds (LowersClient (length h) c) (not (has_failed c.journal) && has_room c) _
+      guarded_holds (LowersClient app (length h) c) (not (has_failed c.journal) && has_room c) _
       (λ _. taken_lowers c t ts (taken_text (is_connected c.journal) t) e (taken_quiet (is_connected c.journal) t))
 
-  handle_lowers : (c : Client) (rs : List Request) → c.queue ≡ rs → IfSome (handles app h c rs) (LowersClient (length h) c)
+  -- an answer to a request leaves at most a subscription to be loaded
+  answered_work : (n : ℕ) (live : Option Live) (r : Request) (made : Making) → live_work n (live_after app live (answering r made)) ≤ 1 + n + live_work n live
+  answered_work n live r (Ok cursors) = omega arith
+  answered_work n live r (Err fault) = omega arith
+
+  handle_lowers : (c : Client) (rs : List Request) → c.queue ≡ rs → IfSome (handles app h c rs) (LowersClient app (length h) c)
   handle_lowers c [] e = tt
   handle_lowers c (r ∷ rs) e =
       let n = length h in
-      guarded_holds (LowersClient n c) (has_room c) _ (λ _. inl (omega (arith, ap (λ (xs : List Request). (2 + n) * length xs) e, live_with c (item.Open 0 r.id r.name))))
+      guarded_holds (LowersClient app n c) (has_room c) _ (λ _. let made = making app r.name r.params in
+      inl (omega (arith, ap (λ (xs : List Request). (2 + n) * length xs) e, live_with c (answering r made), answered_work n (live_of app c.journal) r made)))
 
-  load_lowers : (c : Client) (live : Live) (cursor : Option ℕ) → live_of c.journal ≡ Some live → live.cursor ≡ cursor → IfSome (loads_at app h c live cursor) (LowersClient (length h) c)
+  load_lowers : (c : Client) (live : Live) (cursor : Option ℕ) → live_of app c.journal ≡ Some live → live.cursor ≡ cursor → IfSome (loads_at app h c live cursor) (LowersClient app (length h) c)
   load_lowers c live (Some k) is e = tt
   load_lowers c live None is e =
       let n = length h in
       let i = item.Load live.sub n in
-      let before : live_work n (live_of c.journal) ≡ 1 + n = ap (live_work n) is ∙ ap (cursor_work n) e in
-      let now : live_work n (live_of (c.journal ++ i ∷ [])) ≡ n - n = live_with c i ∙ ap (λ o. live_work n (live_after o i)) is in
-      guarded_holds (LowersClient n c) (has_room c) _ (λ _. inl (omega (arith, before, now)))
+      let before : live_work n (live_of app c.journal) ≡ 1 + n = ap (live_work n) is ∙ ap (cursor_work n) e in
+      let now : live_work n (live_of app (c.journal ++ i ∷ [])) ≡ n - n = live_with c i ∙ ap (λ o. live_work n (live_after app o i)) is in
+      guarded_holds (LowersClient app n c) (has_room c) _ (λ _. inl (omega (arith, before, now)))
 
-  loads_lowers : (c : Client) (live : Option Live) → live_of c.journal ≡ live → IfSome (loads app h c live) (LowersClient (length h) c)
+  loads_lowers : (c : Client) (live : Option Live) → live_of app c.journal ≡ live → IfSome (loads app h c live) (LowersClient app (length h) c)
   loads_lowers c None is = tt
   loads_lowers c (Some live) is = load_lowers c live live.cursor is refl
 
@@ -82,57 +89,57 @@ module _ (app : App) (h : List Entry) where
   first_true true b e = refl
   first_true false b e = cc
 
-  moved_work : (n k : ℕ) (live : Live) → live.cursor ≡ Some k → live_work n (live_after (Some live) (item.Advance live.sub (n - k))) ≡ n - (k + (n - k))
-  moved_work n k live e = ap (λ o. live_work n (live_after (Some (record live { cursor = o })) (item.Advance live.sub (n - k)))) e
+  moved_work : (n k : ℕ) (live : Live) → live.cursor ≡ Some k → live_work n (live_after app (Some live) (item.Advance live.sub (n - k))) ≡ n - (k + (n - k))
+  moved_work n k live e = ap (λ o. live_work n (live_after app (Some (record live { cursor = o })) (item.Advance live.sub (n - k)))) e
 
-  advance_lowers : (c : Client) (live : Live) (cursor : Option ℕ) → live_of c.journal ≡ Some live → live.cursor ≡ cursor → IfSome (advances_from app h c live cursor) (LowersClient (length h) c)
+  advance_lowers : (c : Client) (live : Live) (cursor : Option ℕ) → live_of app c.journal ≡ Some live → live.cursor ≡ cursor → IfSome (advances_from app h c live cursor) (LowersClient app (length h) c)
   advance_lowers c live None is e = tt
   advance_lowers c live (Some k) is e =
       let n = length h in
       let i = item.Advance live.sub (n - k) in
-      let before : live_work n (live_of c.journal) ≡ n - k = ap (live_work n) is ∙ ap (cursor_work n) e in
-      let now : live_work n (live_of (c.journal ++ i ∷ [])) ≡ n - (k + (n - k)) = live_with c i ∙ (ap (λ o. live_work n (live_after o i)) is ∙ moved_work n k live e) in
-      guarded_holds (LowersClient n c) (nat_lt k n && has_room c) _ (λ on.
+      let before : live_work n (live_of app c.journal) ≡ n - k = ap (live_work n) is ∙ ap (cursor_work n) e in
+      let now : live_work n (live_of app (c.journal ++ i ∷ [])) ≡ n - (k + (n - k)) = live_with c i ∙ (ap (λ o. live_work n (live_after app o i)) is ∙ moved_work n k live e) in
+      guarded_holds (LowersClient app n c) (nat_lt k n && has_room c) _ (λ on.
       let less : k < n = ltb-true k n (first_true (nat_lt k n) (has_room c) on) in inl (omega (arith, before, now, less)))
 
-  advances_lowers : (c : Client) (live : Option Live) → live_of c.journal ≡ live → IfSome (advances app h c live) (LowersClient (length h) c)
+  advances_lowers : (c : Client) (live : Option Live) → live_of app c.journal ≡ live → IfSome (advances app h c live) (LowersClient app (length h) c)
   advances_lowers c None is = tt
   advances_lowers c (Some live) is = advance_lowers c live live.cursor is refl
 
-  send_lowers : (c : Client) (ms : List (List ℕ)) → c.outbox ≡ ms → IfSome (sends c ms) (LowersClient (length h) c)
+  send_lowers : (c : Client) (ms : List (List ℕ)) → c.outbox ≡ ms → IfSome (sends c ms) (LowersClient app (length h) c)
   send_lowers c [] e = tt
-  send_lowers c (m ∷ ms) e = guarded_holds (LowersClient (length h) c) (nat_lt (length c.downward) link_limit) _ (λ _.
+  send_lowers c (m ∷ ms) e = guarded_holds (LowersClient app (length h) c) (nat_lt (length c.downward) link_limit) _ (λ _.
       inr (refl, omega (arith, ap (λ (xs : List (List ℕ)). length xs) e, length-append c.downward (m ∷ []))))
 
   told_lowers : (c : Client) (t : List ℕ) (ts : List (List ℕ)) (o : Option ℕ) → c.downward ≡ t ∷ ts → IsCalm (message_in t) →
-      LowersClient (length h) c (told_unless (record c { downward = ts }) (message_in t) o)
+      LowersClient app (length h) c (told_unless (record c { downward = ts }) (message_in t) o)
   told_lowers c t ts (Some n) e calm = inr (refl, omega (arith, ap (λ (xs : List (List ℕ)). length xs) e))
   told_lowers c t ts None e calm =
       inr (
-        ap (λ (xs : List (List ℕ)). (4 + length h) * length xs + (3 + length h) * length c.upward + (2 + length h) * length c.queue + live_work (length h) (live_of c.journal))
+        ap (λ (xs : List (List ℕ)). (4 + length h) * length xs + (3 + length h) * length c.upward + (2 + length h) * length c.queue + live_work (length h) (live_of app c.journal))
             (ap (λ a. c.waiting ++ a) calm.unanswered ∙ append-nil c.waiting),
         omega (arith, ap (λ (xs : List (List ℕ)). length xs) e),
       )
 
   told_by : (b : Bool) (c : Client) (t : List ℕ) (ts : List (List ℕ)) → c.downward ≡ t ∷ ts → IsRead t → IsCalm (message_in t) →
-      LowersClient (length h) c (cond b (breaks 1 (record c { downward = ts })) (told_answer (record c { downward = ts }) (server_answer t)))
+      LowersClient app (length h) c (cond b (breaks 1 (record c { downward = ts })) (told_answer (record c { downward = ts }) (server_answer t)))
   told_by true c t ts e read calm = inr (refl, omega (arith, ap (λ (xs : List (List ℕ)). length xs) e))
   told_by false c t ts e read calm =
-      subst (λ a. LowersClient (length h) c (told_answer (record c { downward = ts }) a)) (sym read) (told_lowers c t ts (message_refusal c.session c.rows (message_in t)) e calm)
+      subst (λ a. LowersClient app (length h) c (told_answer (record c { downward = ts }) a)) (sym read) (told_lowers c t ts (message_refusal c.session c.rows (message_in t)) e calm)
 
-  take_lowers : AreEntries h → (c : Client) (ts : List (List ℕ)) → c.downward ≡ ts → IsKept app h c → IfSome (takes c ts) (LowersClient (length h) c)
+  take_lowers : AreEntries h → (c : Client) (ts : List (List ℕ)) → c.downward ≡ ts → IsKept app h c → IfSome (takes c ts) (LowersClient app (length h) c)
   take_lowers entries c [] e k = tt
-  take_lowers entries c (t ∷ ts) e k = guarded_holds (LowersClient (length h) c) (not c.is_failed && is_none c.broken) _ (λ on.
-      let l = k.linked (is_none_true app h c.broken (second_true app h (not c.is_failed) (is_none c.broken) on)) in
+  take_lowers entries c (t ∷ ts) e k = guarded_holds (LowersClient app (length h) c) (not c.is_failed && is_none c.broken) _ (λ on.
+      let l = (is_none_true app h c.broken (second_true app h (not c.is_failed) (is_none c.broken) on)) in
       let r = next_reads app h entries c t ts e k l in
       told_by (nat_lt max_server_text (length t)) c t ts e r.0 r.1)
 
-  pub acts_lower : AreEntries h → (c : Client) (a : Act) → IsKept app h c → IfSome (acts app h c a) (LowersClient (length h) c)
+  pub acts_lower : AreEntries h → (c : Client) (a : Act) → IsKept app h c → IfSome (acts app h c a) (LowersClient app (length h) c)
   acts_lower entries c act.Up k = up_lowers c c.waiting refl
   acts_lower entries c act.Recv k = recv_lowers c c.upward refl
   acts_lower entries c act.Handle k = handle_lowers c c.queue refl
-  acts_lower entries c act.Load k = loads_lowers c (live_of c.journal) refl
-  acts_lower entries c act.Advance k = advances_lowers c (live_of c.journal) refl
+  acts_lower entries c act.Load k = loads_lowers c (live_of app c.journal) refl
+  acts_lower entries c act.Advance k = advances_lowers c (live_of app c.journal) refl
   acts_lower entries c act.Send k = send_lowers c c.outbox refl
   acts_lower entries c act.Take k = take_lowers entries c c.downward refl k
 
@@ -189,20 +196,20 @@ pub stays_then : (u v w : World) → LowersOrStays u v → LowersOrStays v w →
 stays_then u v w (inl same) b = subst (λ x. LowersOrStays x w) same b
 stays_then u v w (inr a) b = inr (lowers_then u v w a b)
 
-by_acts : (app : App) (h : List Entry) (c : Client) (o : Option Client) → IfSome o (LowersClient (length h) c) →
-    ((is_some o ≡ false) × (unwrap_or o c ≡ c)) ⊎ ((is_some o ≡ true) × LowersClient (length h) c (unwrap_or o c))
+by_acts : (app : App) (h : List Entry) (c : Client) (o : Option Client) → IfSome o (LowersClient app (length h) c) →
+    ((is_some o ≡ false) × (unwrap_or o c ≡ c)) ⊎ ((is_some o ≡ true) × LowersClient app (length h) c (unwrap_or o c))
 by_acts app h c None l = inl (refl, refl)
 by_acts app h c (Some d) l = inr (refl, l)
 
 done_by : (app : App) (h : List Entry) (a : Act) (o : Option Client) → AreEntries h → HoldsOf o (IsKept app h) →
     ((can_by app h a o ≡ false) × (after_act app h a o ≡ o)) ⊎
-    ((can_by app h a o ≡ true) × ((work_by (length h) (after_act app h a o) < work_by (length h) o) ⊎ ((work_by (length h) (after_act app h a o) ≡ work_by (length h) o) × (texts_by (after_act app h a o) < texts_by o))))
+    ((can_by app h a o ≡ true) × ((work_by app (length h) (after_act app h a o) < work_by app (length h) o) ⊎ ((work_by app (length h) (after_act app h a o) ≡ work_by app (length h) o) × (texts_by (after_act app h a o) < texts_by o))))
 done_by app h a None entries k = inl (refl, refl)
 done_by app h a (Some c) entries k = by (by_acts app h c (acts app h c a) (acts_lower app h entries c a k))
   where
-    by : ((is_some (acts app h c a) ≡ false) × (unwrap_or (acts app h c a) c ≡ c)) ⊎ ((is_some (acts app h c a) ≡ true) × LowersClient (length h) c (unwrap_or (acts app h c a) c)) →
+    by : ((is_some (acts app h c a) ≡ false) × (unwrap_or (acts app h c a) c ≡ c)) ⊎ ((is_some (acts app h c a) ≡ true) × LowersClient app (length h) c (unwrap_or (acts app h c a) c)) →
         ((can_by app h a (Some c) ≡ false) × (after_act app h a (Some c) ≡ Some c)) ⊎
-        ((can_by app h a (Some c) ≡ true) × LowersClient (length h) c (unwrap_or (acts app h c a) c))
+        ((can_by app h a (Some c) ≡ true) × LowersClient app (length h) c (unwrap_or (acts app h c a) c))
     by (inl n) = inl (n.0, ap (λ d. Some d) n.1)
     by (inr p) = inr p
 

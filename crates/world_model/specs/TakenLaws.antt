@@ -6,6 +6,7 @@ use Rattle.value_model.specs.Size.{is_name}
 use Rattle.ddp_messages.specs.ClientMessage.{ClientMessage, client_reading}
 use Rattle.ddp_messages.specs.ClientMessage as client
 use Rattle.ddp_messages.specs.Fields.{name_of}
+use Rattle.app_model.specs.App.{App}
 use Rattle.session_model.specs.declared.items.Item.{Item}
 use Rattle.session_model.specs.declared.items.Item.TheVariants as item
 use Rattle.session_model.specs.Journal.{Live, live_after}
@@ -13,24 +14,24 @@ use Rattle.session_model.specs.Answers.{Taken, at_once, to_queue, max_text, refu
 
 -- the item leaves the live subscription
 abbrev pub keeps_live : Item → Type 0
-keeps_live i = (live : Option Live) → live_after live i ≡ live
+keeps_live i = (app : App) (live : Option Live) → live_after app live i ≡ live
 
 abbrev pub IsQuietTaken : Taken → Type 0
 IsQuietTaken (at_once i) = keeps_live i
 IsQuietTaken (to_queue r) = Unit {0}
 
 quiet_refusal : (reason : List ℕ) (d : Data) → IsQuietTaken (refused_for reason (offending_of d))
-quiet_refusal reason d live = refl
+quiet_refusal reason d app live = refl
 
 quiet_connect : (b : Bool) → keeps_live (cond b item.Connect item.Fail)
-quiet_connect true live = refl
-quiet_connect false live = refl
+quiet_connect true app live = refl
+quiet_connect false app live = refl
 
 quiet_as : (d : Data) (o : Option ClientMessage) → IsQuietTaken (taken_as d o)
 quiet_as d None = quiet_refusal (codes "Bad request") d
 quiet_as d (Some (client.connect version support)) = quiet_connect (is_name version (codes "1"))
-quiet_as d (Some (client.ping id)) = λ live. refl
-quiet_as d (Some (client.pong id)) = λ live. refl
+quiet_as d (Some (client.ping id)) = λ app live. refl
+quiet_as d (Some (client.pong id)) = λ app live. refl
 quiet_as d (Some (client.sub id name params)) = tt
 quiet_as d (Some (client.unsub id)) = quiet_refusal (codes "Bad request") d
 quiet_as d (Some (client.method id name params seed)) = quiet_refusal (codes "Bad request") d
@@ -46,8 +47,8 @@ quiet_named connected d (Some name) =
     (quiet_if (connected && is_name name (codes "connect")) _ _ (quiet_refusal (codes "Already connected") d) (quiet_as d (client_reading d)))
 
 quiet_tree : (connected : Bool) (o : Option Data) → IsQuietTaken (taken_tree connected o)
-quiet_tree connected None = λ live. refl
+quiet_tree connected None = λ app live. refl
 quiet_tree connected (Some d) = quiet_named connected d (name_of d)
 
 pub taken_quiet : (connected : Bool) (t : List ℕ) → IsQuietTaken (taken_text connected t)
-taken_quiet connected t = quiet_if (nat_lt max_text (length t)) _ _ (λ live. refl) (quiet_tree connected (json.read t))
+taken_quiet connected t = quiet_if (nat_lt max_text (length t)) _ _ (λ app live. refl) (quiet_tree connected (json.read t))

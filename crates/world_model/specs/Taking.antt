@@ -1,10 +1,9 @@
 -- What a client makes of a message, and when it refuses a text. The first rule that holds decides (ours; Meteor's DDP.md, "Managing Data", "Heartbeats").
 use Rattle.std.specs.Prelude.{ℕ, List, [], ◌∷◌, ◌++◌, length, Bool, true, nat_lt, Option, Some, None, Result, Ok, Err, if◌then◌else◌}
-use Rattle.map_model.specs.Maps.{at}
+use Rattle.map_model.specs.Maps.{at, set}
 use Rattle.map_model.specs.Differences.{Step, added, changed, removed, all_taken}
 use Rattle.value_model.specs.Val.{Val, Entries}
 use Rattle.value_model.specs.Order.{text_cmp}
-use Rattle.value_model.specs.Size.{is_name}
 use Rattle.ejson_value.specs.declared.fault.Fault.{Fault}
 use Rattle.ejson_value.specs.Key.{key_cmp}
 use Rattle.ejson_value.specs.Rows.{Rows}
@@ -18,7 +17,7 @@ use Rattle.session_model.specs.Texts.{client_text}
 use Rattle.session_model.specs.Out.{data_in}
 use Rattle.world_model.specs.declared.subs.SubState.{SubState}
 use Rattle.world_model.specs.declared.subs.SubState.TheVariants as state
-use Rattle.world_model.specs.Client.{Client, Sub}
+use Rattle.world_model.specs.Client.{Client, Subs}
 
 -- how many bytes a text may have that a client reads
 abbrev pub max_server_text : ℕ
@@ -113,31 +112,34 @@ answers_in (updated methods) = []
 answers_in (refused reason offending) = []
 answers_in unknown = []
 
--- the subscription, where it has this id, in another state
-abbrev pub turned : SubState → List ℕ → Option Sub → Option Sub
-turned now id None = None
-turned now id (Some s) = Some (if is_name s.id id then record s { state = now } else s)
+abbrev pub turned_from : Option SubState → SubState → List ℕ → Subs → Subs
+turned_from None now id subs = subs
+turned_from (Some before) now id subs = set text_cmp subs id (Some now)
+
+-- the subscription of this id in another state, where it was asked for
+abbrev pub turned : SubState → List ℕ → Subs → Subs
+turned now id subs = turned_from (at text_cmp subs id) now id subs
 
 abbrev pub ended_by : Option Fault → SubState
 ended_by None = state.Ended
 ended_by (Some fault) = state.Refused fault.code
 
-abbrev pub readied : List (List ℕ) → Option Sub → Option Sub
-readied [] sub = sub
-readied (id ∷ ids) sub = readied ids (turned state.Ready id sub)
+abbrev pub readied : List (List ℕ) → Subs → Subs
+readied [] subs = subs
+readied (id ∷ ids) subs = readied ids (turned state.Ready id subs)
 
-abbrev pub sub_in : Option Sub → ServerMessage → Option Sub
-sub_in sub (connected name) = sub
-sub_in sub (failed version) = sub
-sub_in sub (ping id) = sub
-sub_in sub (pong id) = sub
-sub_in sub (nosub id fault) = turned (ended_by fault) id sub
-sub_in sub (ready subs) = readied subs sub
-sub_in sub (about m) = sub
-sub_in sub (finished id fault value) = sub
-sub_in sub (updated methods) = sub
-sub_in sub (refused reason offending) = sub
-sub_in sub unknown = sub
+abbrev pub subs_in : Subs → ServerMessage → Subs
+subs_in subs (connected name) = subs
+subs_in subs (failed version) = subs
+subs_in subs (ping id) = subs
+subs_in subs (pong id) = subs
+subs_in subs (nosub id fault) = turned (ended_by fault) id subs
+subs_in subs (ready ids) = readied ids subs
+subs_in subs (about m) = subs
+subs_in subs (finished id fault value) = subs
+subs_in subs (updated methods) = subs
+subs_in subs (refused reason offending) = subs
+subs_in subs unknown = subs
 
 -- the rows after a message
 abbrev pub rows_in : Rows → ServerMessage → Rows
@@ -150,7 +152,7 @@ told c m = record c {
   session = session_in c.session m;
   is_failed = failed_in c.is_failed m;
   rows = rows_in c.rows m;
-  sub = sub_in c.sub m;
+  subs = subs_in c.subs m;
 }
 
 -- ---- a text

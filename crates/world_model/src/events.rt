@@ -1,5 +1,5 @@
 //! What can happen in a world.
-use ejson_value::{Doc, Key, Text};
+use ejson_value::{Doc, Items, Key, Text, Whole};
 
 /// A step that a client or its session makes by itself.
 #[derive(Clone, Copy, Debug, PartialEq, Eq)]
@@ -24,17 +24,51 @@ pub enum Act {
 #[derive(Debug, Drop)]
 pub enum Event {
     /// A client of this name begins.
-    Client { name: Text },
-    /// The client subscribes.
-    Sub { client: Text, id: Text, name: Text },
+    Client {
+        name: Text,
+    },
+    /// The client subscribes to the publication of this name.
+    Sub {
+        client: Text,
+        id: Text,
+        name: Text,
+        params: Items,
+    },
     /// The client sends this text.
-    Raw { client: Text, text: Text },
+    Raw {
+        client: Text,
+        text: Text,
+    },
     /// A document is inserted into the store from outside.
-    Insert { key: Key, doc: Doc },
+    Insert {
+        key: Key,
+        doc: Doc,
+    },
     /// A single step of the client of this name, or of its session.
-    Do { client: Text, act: Act },
+    Do {
+        client: Text,
+        act: Act,
+    },
+    /// The client's session loads the subscription, at this place of the history or at its end.
+    Load {
+        client: Text,
+        id: Text,
+        at: Option<Whole>,
+    },
+    /// The client's session leads the subscription on, by so many entries of the history or to its end.
+    Advance {
+        client: Text,
+        id: Text,
+        count: Option<Whole>,
+    },
     /// Steps are made until none is left.
     Settle,
     /// What the client has is printed.
-    Show { client: Text },
+    Show {
+        client: Text,
+    },
+    /// What the client's session did is printed.
+    Journal {
+        client: Text,
+    },
 }

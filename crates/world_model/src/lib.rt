@@ -3,10 +3,14 @@
 //! data; each other function is a law of the definitions, which its contract states.
 #![tactic(auto)]
 
-ghost use Rattle.std.specs.Prelude.{◌≡◌, ℕ, ◌+◌, ◌<◌, List, length, true};
-ghost use Rattle.session_model.specs.App.{App};
+ghost use Rattle.std.specs.Prelude.{◌≡◌, ℕ, ◌+◌, ◌<◌, List, true};
+ghost use Rattle.app_model.specs.App.{App};
+ghost use Rattle.session_model.specs.History.{Entry};
+ghost use Rattle.session_model.specs.Out.{out_texts};
 ghost use Rattle.world_model.specs.declared.events.Event.{Event as AnEvent};
+ghost use Rattle.world_model.specs.Client.{Client};
 ghost use Rattle.world_model.specs.Acts.{journal_limit};
+ghost use Rattle.world_model.specs.Lines.{journal_lines, texts_among};
 ghost use Rattle.world_model.specs.World.{World, start};
 ghost use Rattle.world_model.specs.Settle.{is_stuck, rounds, settled};
 ghost use Rattle.world_model.specs.Run.{run, AreEvents, Reachable, HoldsOf, IsAtRest, IsSettled, IsLongAlone, made, IsTrueWorld};
@@ -15,7 +19,7 @@ pub mod events;
 pub mod subs;
 
 /// The headline: over every list of events the store is the fold of one legal history, and whenever the session is
-/// quiescent its client has what is published of the store.
+/// quiescent its client has what is published of the store, and each `sub` that was handled has its `ready` or its `nosub`.
 pub fn every_run_is_true()
     ensures { (app : App) (events : List AnEvent) → AreEvents events → IsTrueWorld (run (start app) events) }
 {}
@@ -32,16 +36,21 @@ pub fn rounds_lead_to_the_settled_world()
 
 /// In a settled world the session is quiescent, or its client is broken, or its journal is full.
 pub fn settled_worlds_are_at_rest()
-    ensures { (w : World) → Reachable w → HoldsOf (settled w).client (IsAtRest (settled w).history) }
+    ensures { (w : World) → Reachable w → HoldsOf (settled w).client (IsAtRest (settled w).app (settled w).history) }
 {}
 
 /// With little sent and stored the session of a settled world is quiescent, or its client is broken.
 pub fn short_histories_settle()
     ensures { (w : World) → Reachable w → 1 + made w < journal_limit →
-        HoldsOf (settled w).client (IsSettled (settled w).history) }
+        HoldsOf (settled w).client (IsSettled (settled w).app (settled w).history) }
 {}
 
 /// A client refuses no text of its session but one that is too long.
 pub fn clients_refuse_long_texts_alone()
     ensures { (w : World) → Reachable w → HoldsOf w.client IsLongAlone }
+{}
+
+/// The texts in the lines of a journal are those of the session, in order, sent or not.
+pub fn journals_show_the_texts()
+    ensures { (app : App) (history : List Entry) (c : Client) → texts_among (journal_lines app history c) ≡ out_texts app c.number history c.journal }
 {}

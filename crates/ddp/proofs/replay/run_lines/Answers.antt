@@ -8,7 +8,6 @@ use Rattle.ddp.proofs.replay.run_lines.Goals as goal
 
 pub loop-rest-preserved : goal.loop-rest-preserved
 loop-rest-preserved c =
-    let app = c.args.app.now in
     let n = c.loop-rest.number in
     let line = c.first_line.result.0.now in
     let more = lines_in c.first_line.result.1.now in
@@ -17,12 +16,12 @@ loop-rest-preserved c =
     let before = c.loop-rest.output.items in
     let now = c.run_line.new.output.items in
     let cut = c.first_line.ensures.lines in
-    let ran : RunsLine app line old new before now true = subst (λ b. RunsLine app line old new before now b) c.if-not-branch.false c.in_ok-run_line.ensures in
-    let t = turned app n line more old new before now ran in
+    let ran : RunsLine line old new before now true = subst (λ b. RunsLine line old new before now b) c.if-not-branch.false c.in_ok-run_line.ensures in
+    let t = turned n line more old new before now ran in
     let kept = c.loop-rest.invariant in
     record {
-      text = sym t.text ∙ (ap (λ ls. before ++ whole old app n ls) (sym cut) ∙ kept.text);
-      bad = ap is_some (sym t.bad) ∙ (ap (λ ls. is_some (bad_line app n ls)) (sym cut) ∙ kept.bad);
-      events = λ p. kept.events (subst (λ ls. AreEvents (events_of app ls)) (sym cut) (t.events p));
+      text = sym t.text ∙ (ap (λ ls. before ++ whole old n ls) (sym cut) ∙ kept.text);
+      bad = ap is_some (sym t.bad) ∙ (ap (λ ls. is_some (bad_line n ls)) (sym cut) ∙ kept.bad);
+      events = λ p. kept.events (subst (λ ls. AreEvents (events_of ls)) (sym cut) (t.events p));
       number = omega (arith, kept.number, c.first_line.ensures.shorter);
     }

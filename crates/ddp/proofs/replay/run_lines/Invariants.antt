@@ -9,9 +9,9 @@ use Rattle.ddp.proofs.replay.run_lines.Given as goal
 
 abbrev pub invariant-loop-rest : goal.invariant-loop-rest
 invariant-loop-rest l = record {
-  text : l.output.items ++ whole l.world l.app l.number (lines_in l.rest) ≡ l.initial.output.items ++ whole (start l.app) l.app 2 (lines_in l.lines);
-  bad : is_some (bad_line l.app l.number (lines_in l.rest)) ≡ is_some (bad_line l.app 2 (lines_in l.lines));
-  events : AreEvents (events_of l.app (lines_in l.rest)) → AreEvents (events_of l.app (lines_in l.lines));
+  text : l.output.items ++ whole l.world l.number (lines_in l.rest) ≡ l.initial.output.items ++ whole (start l.fn.app) 2 (lines_in l.lines);
+  bad : is_some (bad_line l.number (lines_in l.rest)) ≡ is_some (bad_line 2 (lines_in l.lines));
+  events : AreEvents (events_of (lines_in l.rest)) → AreEvents (events_of (lines_in l.lines));
   number : l.number + length l.rest ≤ 2 + length l.lines;
 }
 

@@ -1,6 +1,7 @@
 use Rattle.std.proofs.Common.{◌∷◌, [], ◌++◌, ap, sym, ◌∙◌}
 use Rattle.std.proofs.lemmas.List.{append_assoc}
-use Rattle.replay_core.proofs.Printed.{next_doc}
+use Rattle.world_model.specs.Lines.{doc_line}
+use Rattle.replay_core.proofs.Printed.{next_value}
 use Rattle.replay_core.proofs.lines.push_docs.Goals as goal
 
 pub loop-key-preserved : goal.loop-key-preserved
@@ -15,6 +16,6 @@ loop-key-preserved c =
       (
         done ++ (key, doc) ∷ [],
         all ∙ sym (append_assoc done ((key, doc) ∷ []) rest),
-        next_doc c.args.lines.now c.loop-key.lines _ done key doc c.loop-key.invariant.2.2 c.in_ok-push_doc.ensures,
+        next_value doc_line c.args.lines.now c.loop-key.lines _ done (key, doc) c.loop-key.invariant.2.2 c.in_ok-push_doc.ensures,
       ),
     )

@@ -1,5 +1,7 @@
-use Rattle.std.proofs.Common.{◌≡◌, ◌∷◌, [], ◌++◌, refl, ap, ◌∙◌}
-use Rattle.std.specs.Prelude.{option_map, option_to_list, is_ok, if◌then◌else◌}
+use Rattle.std.proofs.Common.{◌≡◌, ◌∷◌, [], ◌++◌, map, refl, ap, ◌∙◌}
+use Rattle.session_model.specs.Texts.{server_text}
+use Rattle.session_model.specs.Out.{about, difference}
+use Rattle.std.specs.Prelude.{option_map, is_ok, if◌then◌else◌}
 use Rattle.replay_core.specs.Sessions.{as_live, text_of_item, with_session}
 use Rattle.replay_core.proofs.Items.{item_text_is}
 use Rattle.replay_core.proofs.Sessions.{with_item_is, texts_are, stands_after, live_ref}
@@ -9,15 +11,15 @@ pub returns-clause-added : goal.returns-clause-added
 returns-clause-added c cl =
     let old = c.args.self.now in
     let store = c.args.store.now in
-    let own = c.in_ok-own.own in
+    let own = text_of_item old.number (option_map as_live old.live) c.args.item in
     let journal : c.push.new.self.items ≡ old.journal.items ++ c.args.item ∷ [] =
     c.push.ensures.items
     ∙ (ap (λ r. if is_ok r then c.reserve.new.self.items ++ c.args.item ∷ [] else c.reserve.new.self.items) c.unwrap.ensures
     ∙ ap (λ xs. xs ++ c.args.item ∷ []) c.reserve.ensures.items) in
-    let own_is = item_text_is old.number (option_map as_live old.live) c.args.item (option_to_list own)
-    (c.in_ok-own.ensures ∙ ap (λ live. text_of_item old.number live c.args.item) (live_ref c.as_ref.result old.live c.as_ref.ensures.value)) in
-    let texts = texts_are store old c.args.item own c.args.rows c.push_own.new.texts c.requires.stands c.requires.rows own_is
-    (c.in_ok-push_own.ensures.ok ∙ ap (λ ts. ts ++ option_to_list own) c.in_ok-texts.ensures) in
+    let live = live_ref c.as_ref-live_before.result old.live c.as_ref-live_before.ensures.value in
+    let texts = texts_are store old c.args.item own c.args.rows c.in_ok-texts.texts c.requires.stands c.requires.rows
+    (item_text_is old.number (option_map as_live old.live) c.args.item own refl)
+    (c.in_ok-texts.ensures ∙ ap (λ l. map server_text (map about (difference old.shown c.args.rows)) ++ text_of_item old.number l c.args.item) live) in
     with_item_is store.app store.history (with_session cl old) c.args.item c.push.new.self.items c.append.new.self journal
     (c.in_ok-append.ensures.ok ∙ ap (λ ts. old.outbox ++ ts) texts)
 

@@ -16,7 +16,7 @@ returns-clause-added c cl =
     ∙ ap (λ xs. xs ++ c.args.item ∷ []) c.reserve.ensures.items) in
     let own_is = item_text_is old.number (option_map as_live old.live) c.args.item (option_to_list own)
     (c.in_ok-own.ensures ∙ ap (λ live. text_of_item old.number live c.args.item) (live_ref c.as_ref.result old.live c.as_ref.ensures.value)) in
-    let texts = own_texts store old c.args.item own c.requires.stands c.known.ensures c.requires.quiet own_is in
+    let texts = own_texts store old c.args.item (option_to_list own) c.requires.stands c.known.ensures c.requires.quiet own_is in
     with_item_is store.app store.history (with_session cl old) c.args.item c.push.new.self.items c.push_own.new.texts journal
     (c.in_ok-push_own.ensures.ok ∙ ap (λ ts. old.outbox ++ ts) texts)
 

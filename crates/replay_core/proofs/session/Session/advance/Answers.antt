@@ -1,17 +1,14 @@
-use Rattle.std.proofs.Common.{ℕ, ◌-◌, ap, sym, ◌∙◌}
-use Rattle.session_model.specs.declared.items.Item.TheVariants as item
+use Rattle.std.proofs.Common.{subst, ap, ◌∙◌}
+use Rattle.std.specs.Prelude.{Option, length}
+use Rattle.world_model.specs.Client.{Client}
 use Rattle.session_model.specs.Journal.{live_of}
-use Rattle.world_model.specs.Acts.{with_item}
-use Rattle.replay_core.specs.Sessions.{as_live, with_session}
-use Rattle.replay_core.proofs.Sessions.{advances_is, live_is, before_is}
+use Rattle.replay_core.specs.Sessions.{with_session, Does, left_of}
+use Rattle.replay_core.proofs.Sessions.{advances_end}
 use Rattle.replay_core.proofs.session.Session.advance.Goals as goal
 
 pub returns-clause-advanced : goal.returns-clause-advanced
 returns-clause-advanced c cl =
     let old = c.args.self.now in
     let store = c.args.store.now in
-    let live = c.in-Some.live.now in
-    let cursor = c.in-Some-cursor.cursor in
-    advances_is store.app store.history (with_session cl old) (with_session cl c.add.new.self) (live_of old.journal.items) (as_live live) cursor
-    (live_is store old live c.requires (sym c.in-Some.ensures.value)) c.in-Some-cursor.is (sym c.has_room.ensures ∙ c.if-not-has_room.false) (before_is cursor c.len-end.result _ c.if-end-cursor.false c.len-end.ensures)
-    (c.in_ok-add.ensures.added cl ∙ ap (λ (n : ℕ). with_item store.app store.history (with_session cl old) (item.Advance live.sub (n - cursor))) c.len-end.ensures)
+    subst (λ (o : Option Client). Does c.in_ok-done.done (with_session cl old) (with_session cl c.advance_by.new.self) o)
+    (advances_end store.app store.history (with_session cl old) (live_of store.app old.journal.items) c.left.result (c.left.ensures ∙ ap (left_of (length store.history)) c.requires.live)) (c.in_ok-done.ensures.advanced cl)

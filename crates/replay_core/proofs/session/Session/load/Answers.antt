@@ -1,16 +1,14 @@
-use Rattle.std.proofs.Common.{ℕ, ap, sym, ◌∙◌}
-use Rattle.session_model.specs.declared.items.Item.TheVariants as item
+use Rattle.std.proofs.Common.{subst}
+use Rattle.world_model.specs.Client.{Client}
+use Rattle.std.specs.Prelude.{Option}
 use Rattle.session_model.specs.Journal.{live_of}
-use Rattle.world_model.specs.Acts.{with_item}
-use Rattle.replay_core.specs.Sessions.{as_live, with_session}
-use Rattle.replay_core.proofs.Sessions.{loads_is, live_is, not_some}
+use Rattle.replay_core.specs.Sessions.{with_session, Does}
+use Rattle.replay_core.proofs.Sessions.{loads_end}
 use Rattle.replay_core.proofs.session.Session.load.Goals as goal
 
 pub returns-clause-loaded : goal.returns-clause-loaded
 returns-clause-loaded c cl =
     let old = c.args.self.now in
     let store = c.args.store.now in
-    let live = c.in-Some.live.now in
-    loads_is store.app store.history (with_session cl old) (with_session cl c.add.new.self) (live_of old.journal.items) (as_live live)
-    (live_is store old live c.requires (sym c.in-Some.ensures.value)) (not_some live.cursor (sym c.is_some.ensures ∙ c.if-is_some.false)) (sym c.has_room.ensures ∙ c.if-not-has_room.false)
-    (c.in_ok-add.ensures.added cl ∙ ap (λ (n : ℕ). with_item store.app store.history (with_session cl old) (item.Load live.sub n)) c.len-at.ensures)
+    subst (λ (o : Option Client). Does c.in_ok-done.done (with_session cl old) (with_session cl c.load_at.new.self) o)
+    (loads_end store.app store.history (with_session cl old) (live_of store.app old.journal.items) c.len.result c.len.ensures) (c.in_ok-done.ensures.loaded cl)

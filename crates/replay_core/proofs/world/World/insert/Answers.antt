@@ -1,6 +1,6 @@
 use Rattle.std.proofs.Common.{ap, ap₂, sym, ◌∙◌}
 use Rattle.std.specs.Prelude.{◌&&◌}
-use Rattle.session_model.specs.App.{has_collection}
+use Rattle.app_model.specs.App.{has_collection}
 use Rattle.session_model.specs.History.{Entry}
 use Rattle.replay_core.proofs.Worlds.{kept_insert, none_there}
 use Rattle.replay_core.proofs.world.World.insert.Goals as goal

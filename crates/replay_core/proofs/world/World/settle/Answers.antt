@@ -15,12 +15,12 @@ returns-clause-stuck c =
 
 pub returns-clause-at_rest : goal.returns-clause-at_rest
 returns-clause-at_rest c =
-    on_ok_weaker _ (λ (e : c.settle_all-answer.new.self ≡ settled c.args.self.now). subst (λ (w : World). HoldsOf w.client (IsAtRest w.history)) (sym e) (reachable_settles c.args.self.now c.reached.ensures))
+    on_ok_weaker _ (λ (e : c.settle_all-answer.new.self ≡ settled c.args.self.now). subst (λ (w : World). HoldsOf w.client (IsAtRest w.app w.history)) (sym e) (reachable_settles c.args.self.now c.reached.ensures))
     c.settle_all-answer.ensures.settled
 
 pub returns-clause-quiescent : goal.returns-clause-quiescent
 returns-clause-quiescent c =
     on_ok_weaker _ (λ (e : c.settle_all-answer.new.self ≡ settled c.args.self.now).
     λ (short : 1 + made c.args.self.now < journal_limit).
-    subst (λ (w : World). HoldsOf w.client (IsSettled w.history)) (sym e) (short_world_settles c.args.self.now c.reached.ensures short))
+    subst (λ (w : World). HoldsOf w.client (IsSettled w.app w.history)) (sym e) (short_world_settles c.args.self.now c.reached.ensures short))
     c.settle_all-answer.ensures.settled
