@@ -10,7 +10,7 @@ use Rattle.world_model.specs.World.{World, start}
 use Rattle.world_model.specs.declared.events.Event.TheVariants as event
 use Rattle.world_model.specs.Run.{step, run, IsEvent, AreEvents, HoldsOf, IsSettled, IsLongAlone, IsTrueWorld}
 use Rattle.world_model.specs.Lines.{Line, value_line, line_text, line, lines_of}
-use Rattle.replay_core.specs.Events.{event_in}
+use Rattle.replay_events.specs.Events.{event_in}
 use Rattle.ddp.specs.Input.{line_feed, lines_in, is_blank, value_in}
 
 -- how long an input may be
@@ -87,11 +87,11 @@ all_bytes ls = flat_map line_bytes ls
 abbrev pub replay_text : List ℕ → List ℕ
 replay_text input = all_bytes (printed_by (app_of (lines_in input)) (rest_of (lines_in input)) ++ bad_lines (first_bad input))
 
--- Of a run of these events: after each number of them the headline holds, and the client has refused no text but one that is too long; and after each `settle` the session
--- is quiescent, or its client refused a text.
+-- Of a run of these events: after each number of them the headline holds, and the client isn't broken, or refusal 1 broke it and its session wrote a text that is too long;
+-- and after each `settle` the session is quiescent, or its client refused a text.
 pub record IsTrueRun (app : App) (events : List Event) : Type 0 where
   pub each : (n : ℕ) → IsTrueWorld (run (start app) (take n events))
-  pub long : (n : ℕ) → HoldsOf (run (start app) (take n events)).client IsLongAlone
+  pub long : (n : ℕ) → HoldsOf (run (start app) (take n events)).client (IsLongAlone (run (start app) (take n events)).app (run (start app) (take n events)).history)
   pub settled : (before later : List Event) → events ≡ before ++ (event.Settle ∷ later) → HoldsOf (run (start app) (before ++ event.Settle ∷ [])).client (IsSettled (run (start app) (before ++ event.Settle ∷ [])).app (run (start app) (before ++ event.Settle ∷ [])).history)
 
 -- the same of the events of an input, if it has an application

@@ -10,7 +10,8 @@ use crate::input::{first_line, is_blank, value_in};
 use app_model::{App, AppFault};
 use ejson_codec::{Lines, text};
 use ejson_value::{Items, Mem, Text, Value, Whole};
-use replay_core::{Event, LineFault, World};
+use replay_core::World;
+use replay_events::{Event, LineFault};
 use std::alloc::Global;
 
 /// What a replay writes, and whether a line was bad.

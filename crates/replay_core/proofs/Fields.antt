@@ -17,7 +17,7 @@ use Rattle.session_model.specs.OutLaws.{name_order}
 use Rattle.ejson_value.specs.declared.value.Value.{Value}
 use Rattle.ejson_value.specs.View.{view, entries}
 use Rattle.ejson_value.specs.Entries.{keys_of-entries}
-use Rattle.replay_core.proofs.Differing.{above_all, entries-append}
+use Rattle.session_core.specs.Laws.{above_all, entries-append}
 
 at-above : (fs : Entries) (name : List ℕ) → IsAbove text_cmp name (keys_of fs) → at text_cmp fs name ≡ None
 at-above [] name h = refl

@@ -9,10 +9,14 @@ use Rattle.session_model.specs.declared.items.Item.{Item}
 use Rattle.session_model.specs.History.{Entry}
 use Rattle.session_model.specs.Texts.{server_text}
 use Rattle.session_model.specs.Journal.{Live as ALive, live_after, shown}
-use Rattle.session_model.specs.Out.{about, difference, texts_of}
+use Rattle.session_model.specs.Out.{about, difference, own_text, texts_of}
 use Rattle.world_model.specs.Lines.{value_line, out_line, line_text, item_line, items_lines}
-use Rattle.replay_core.specs.Sessions.{text_of_item}
-use Rattle.replay_core.proofs.Items.{item_text_is}
+use Rattle.session_core.specs.Sessions.{text_of_item}
+
+-- an item's own text, unfolded
+item_text_is : (n : ℕ) (live : Option ALive) (i : Item) (ts : List (List ℕ)) → ts ≡ text_of_item n live i → ts ≡ own_text n live i
+unfolding text_of_item
+item_text_is n live i ts is = is
 
 -- the texts of an item, from what is shown before it and after it
 pub item_texts_are : (app : App) (h : List Entry) (number : ℕ) (live after : Option ALive) (i : Item) (shown_before shown_after : Rows) (texts : List (List ℕ)) →

@@ -1,14 +1,7 @@
-pub mod Forms
-pub mod Differing
-pub mod Sessions
+pub mod Links
 pub mod Fields
-pub mod Stored
 pub mod Worlds
 pub mod Printed
 pub mod Journals
 pub mod Turning
-pub mod Answered
-pub mod Items
 pub mod Told
-pub mod Levels
-pub mod Fronts

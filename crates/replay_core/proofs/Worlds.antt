@@ -19,7 +19,7 @@ use Rattle.world_model.specs.Run.{step, run, IsEvent, AreEvents, Reachable, Hold
 use Rattle.world_model.specs.Kept.{IsKept}
 use Rattle.world_model.specs.RunLaws.{IsKeptWorld, done_keeps, rounds_keep, settled_keeps, reachable_is_kept}
 use Rattle.world_model.specs.SettleLaws.{round_lowers, rounds_settle, Lowers}
-use Rattle.replay_core.specs.Store.{Stored}
+use Rattle.session_core.specs.Store.{Stored}
 use Rattle.replay_core.specs.Connections.{client_of}
 use Rattle.replay_core.specs.Left.{after_steps, StepsLead}
 use Rattle.replay_core.specs.Worlds.{world_of, Stands, IsKeptInside}

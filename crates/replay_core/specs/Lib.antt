@@ -1,11 +1,3 @@
-pub mod Faults
-pub mod Difference
-pub mod Events
-pub mod Store
-pub mod Stands
-pub mod Queue
-pub mod Taking
-pub mod Sessions
 pub mod Connections
 pub mod Worlds
 pub mod Left

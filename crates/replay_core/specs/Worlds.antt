@@ -2,8 +2,8 @@
 use Rattle.std.specs.Prelude.{Option, Some, None, option_map}
 use Rattle.world_model.specs.World.{World as AWorld}
 use Rattle.world_model.specs.Run.{Reachable}
-use Rattle.replay_core.specs.Store.{Stored}
-use Rattle.replay_core.specs.Sessions.{IsTrueTo}
+use Rattle.session_core.specs.Store.{Stored}
+use Rattle.session_core.specs.Sessions.{IsTrueTo}
 use Rattle.replay_core.specs.Connections.{client_of}
 use Rattle.replay_core.specs.declared.connection.Connection.{Connection}
 use Rattle.replay_core.specs.declared.world.World.TheInside.{Inside}

@@ -5,17 +5,15 @@ ghost use Rattle.session_model.specs.Journal.{live_after, shown, loaded, moved, 
 ghost use Rattle.session_model.specs.Publication.{making, cursors_in};
 ghost use Rattle.session_model.specs.Out.{texts_of, session_name};
 ghost use Rattle.world_model.specs.Lines.{line, number, value_line, out_line, line_text, item_line, journal_lines};
-ghost use Rattle.replay_core.specs.Sessions.{as_live};
+ghost use Rattle.session_core.specs.Sessions.{as_live};
 ghost use Rattle.replay_core.specs.Connections.{client_of};
 
 use crate::connection::Connection;
 use crate::lines::{push_line, push_number, worded};
-use crate::queue::Queue;
-use crate::session::{Live, item_texts, making, session_name};
-use crate::store::Store;
 use ejson_codec::Lines;
 use ejson_value::{Contents, Items, Mem, Text, Value};
 use publication::{CursorRules, Cursors, Publication};
+use session_core::{Live, Queue, Store, item_texts, making, session_name};
 use session_model::items::Item;
 use std::alloc::Global;
 

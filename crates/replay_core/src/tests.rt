@@ -1,13 +1,13 @@
 //! Texts that a session takes, and what it sends for each. What is sent follows from the rules of sessions, not from the program.
 ghost use Rattle.std.specs.Prelude.{IfOk};
-ghost use Rattle.replay_core.specs.Store.{Stored};
-ghost use Rattle.replay_core.specs.Sessions.{IsTrueTo};
+ghost use Rattle.session_core.specs.Store.{Stored};
+ghost use Rattle.session_core.specs.Sessions.{IsTrueTo};
 
 use crate::connection::Connection;
-use crate::store::Store;
 use app_model::App;
 use ejson_codec::parse;
 use ejson_value::Text;
+use session_core::Store;
 use std::alloc::Global;
 use std::test::Fail;
 

@@ -6,7 +6,8 @@ mod tests {
     use app_model::App;
     use ejson_codec::parse;
     use ejson_value::{Doc, Items, Text, Value};
-    use replay_core::{Event, LineFault, World};
+    use replay_core::World;
+    use replay_events::{Event, LineFault};
     use std::alloc::Global;
     use std::test::Fail;
 

@@ -1,6 +1,6 @@
 -- What an event does to a world, and what a list of events leads to.
 use Rattle.std.specs.Prelude.{◌≡◌, ◌⊎◌, ◌≤◌, ℕ, ◌+◌, List, [], ◌∷◌, ◌++◌, length, Option, Some, None, Result, Ok, Err, Bool, true, false, is_some, is_none, unwrap_or, ◌&&◌, if◌then◌else◌, IsSome, map, filter, nat_lt}
-use Rattle.std.specs.List.{list_all}
+use Rattle.std.specs.List.{list_all, list_any}
 use Rattle.map_model.specs.Maps.{at, set}
 use Rattle.value_model.specs.Val.{Val, vals_of}
 use Rattle.value_model.specs.Valid.{AreValues}
@@ -24,11 +24,11 @@ use Rattle.session_model.specs.Publication.{making, queried}
 use Rattle.session_model.specs.Journal.{Live, live_of, opened_ids, refusals, sub_items}
 use Rattle.session_model.specs.declared.requests.Request.{Request}
 use Rattle.session_model.specs.declared.items.Item.{Item}
-use Rattle.session_model.specs.Out.{out, ready_ids, nosubs_of}
+use Rattle.session_model.specs.Out.{out, out_texts, ready_ids, nosubs_of}
 use Rattle.world_model.specs.declared.events.Event.{Event}
 use Rattle.world_model.specs.declared.events.Event.TheVariants as event
 use Rattle.world_model.specs.Client.{Client, Subs, new_client}
-use Rattle.world_model.specs.Taking.{ended_by}
+use Rattle.world_model.specs.Taking.{max_server_text, ended_by}
 use Rattle.world_model.specs.Acts.{guarded, journal_limit, loading, leading, answering}
 use Rattle.world_model.specs.declared.events.Act.{Act}
 use Rattle.world_model.specs.World.{World, start, after_act, can_by}
@@ -287,6 +287,10 @@ sent_by (Some c) = sent c
 abbrev pub made : World → ℕ
 made w = sent_by w.client + length w.history
 
--- a client is whole, or a text that is too long broke it
-abbrev pub IsLongAlone : Client → Type 0
-IsLongAlone c = (c.broken ≡ None) ⊎ (c.broken ≡ Some 1)
+-- whether one of the texts is longer than a client reads
+abbrev pub has_long : List (List ℕ) → Bool
+has_long ts = list_any (λ t. nat_lt max_server_text (length t)) ts
+
+-- a client isn't broken, or refusal 1 broke it and its session wrote a text that is too long
+abbrev pub IsLongAlone : App → List Entry → Client → Type 0
+IsLongAlone app history c = (c.broken ≡ None) ⊎ ((c.broken ≡ Some 1) × (has_long (out_texts app c.number history c.journal) ≡ true))

@@ -45,9 +45,9 @@ pub fn short_histories_settle()
         HoldsOf (settled w).client (IsSettled (settled w).app (settled w).history) }
 {}
 
-/// A client refuses no text of its session but one that is too long.
+/// A client isn't broken, or refusal 1 broke it and its session wrote a text of more than 4,194,304 bytes.
 pub fn clients_refuse_long_texts_alone()
-    ensures { (w : World) → Reachable w → HoldsOf w.client IsLongAlone }
+    ensures { (w : World) → Reachable w → HoldsOf w.client (IsLongAlone w.app w.history) }
 {}
 
 /// The texts in the lines of a journal are those of the session, in order, sent or not.

@@ -1,5 +1,5 @@
 use Rattle.std.specs.Prelude.{option_map}
-use Rattle.replay_core.specs.Sessions.{as_live}
+use Rattle.session_core.specs.Sessions.{as_live}
 use Rattle.replay_core.proofs.Journals.{item_walked}
 use Rattle.replay_core.proofs.journal.journal.Goals as goal
 

@@ -1,7 +1,7 @@
 use Rattle.std.proofs.Common.{◌≡◌, ◌++◌, map, drop, option_map}
 use Rattle.session_model.specs.Journal.{shown}
 use Rattle.world_model.specs.Lines.{line_text, items_lines, journal_lines}
-use Rattle.replay_core.specs.Sessions.{as_live}
+use Rattle.session_core.specs.Sessions.{as_live}
 use Rattle.replay_core.specs.Connections.{client_of}
 use Rattle.replay_core.proofs.journal.journal.Given as goal
 

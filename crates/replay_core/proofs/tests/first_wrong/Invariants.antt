@@ -1,4 +1,4 @@
-use Rattle.replay_core.specs.Sessions.{IsTrueTo}
+use Rattle.session_core.specs.Sessions.{IsTrueTo}
 use Rattle.replay_core.proofs.tests.first_wrong.Given as goal
 
 abbrev pub invariant-loop-text : goal.invariant-loop-text

@@ -1,10 +1,10 @@
 use Rattle.std.proofs.Common.{◌≡◌, ℕ, List, ap, ap₂, ◌∙◌}
 use Rattle.std.proofs.lemmas.Result.{on_err_weaker}
 use Rattle.world_model.specs.Client.{Client, Subs}
-use Rattle.replay_core.specs.Queue.{front_of}
+use Rattle.session_core.specs.Queue.{front_of}
 use Rattle.replay_core.specs.Connections.{client_of}
-use Rattle.replay_core.proofs.Fronts.{front-append}
 use Rattle.replay_core.proofs.world.ask.Goals as goal
+use Rattle.session_core.specs.Laws.{front-append}
 
 pub returns-then-is_err-clause-err : goal.returns-then-is_err-clause-err
 returns-then-is_err-clause-err c =

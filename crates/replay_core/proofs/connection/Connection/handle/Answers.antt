@@ -4,10 +4,10 @@ use Rattle.session_model.specs.declared.requests.Request.{Request}
 use Rattle.session_model.specs.Publication.{making}
 use Rattle.world_model.specs.Client.{Client}
 use Rattle.world_model.specs.Acts.{with_item, answering}
-use Rattle.replay_core.specs.Queue.{rest_of}
+use Rattle.session_core.specs.Queue.{rest_of}
 use Rattle.replay_core.specs.Connections.{client_of}
-use Rattle.replay_core.proofs.Sessions.{handles_is}
 use Rattle.replay_core.proofs.connection.Connection.handle.Goals as goal
+use Rattle.replay_core.proofs.Links.{handles_is}
 
 pub returns-in_err-answer-clause-err : goal.returns-in_err-answer-clause-err
 returns-in_err-answer-clause-err c =

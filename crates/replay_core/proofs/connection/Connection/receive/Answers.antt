@@ -3,8 +3,8 @@ use Rattle.std.specs.Prelude.{is_ok, if◌then◌else◌}
 use Rattle.std.proofs.lemmas.Result.{err_from_is_err_and}
 use Rattle.world_model.specs.Client.{Client}
 use Rattle.replay_core.specs.Connections.{client_of}
-use Rattle.replay_core.proofs.Sessions.{receives_is}
 use Rattle.replay_core.proofs.connection.Connection.receive.Goals as goal
+use Rattle.replay_core.proofs.Links.{receives_is}
 
 pub returns-in_err-take_in-clause-err : goal.returns-in_err-take_in-clause-err
 returns-in_err-take_in-clause-err c =

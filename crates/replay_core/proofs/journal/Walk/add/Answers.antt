@@ -3,10 +3,10 @@ use Rattle.std.specs.Prelude.{option_map}
 use Rattle.session_model.specs.Texts.{server_text}
 use Rattle.session_model.specs.Out.{about, difference}
 use Rattle.session_model.specs.Journal.{live_after, shown}
-use Rattle.replay_core.specs.Sessions.{as_live, text_of_item}
-use Rattle.replay_core.proofs.Sessions.{live_ref}
+use Rattle.session_core.specs.Sessions.{as_live, text_of_item}
 use Rattle.replay_core.proofs.Journals.{item_texts_are, item_printed}
 use Rattle.replay_core.proofs.journal.Walk.add.Goals as goal
+use Rattle.session_core.specs.Laws.{live_ref}
 
 pub returns-clause-lines : goal.returns-clause-lines
 returns-clause-lines c =

@@ -1,0 +1,469 @@
+//! What the lines of events look like.
+ghost use Rattle.std.specs.Prelude.{◌≡◌, length, nat_lt, IfOk, IfSome, MatchOption, Some, None, nat_le, if◌then◌else◌, option_copied, option_map};
+ghost use Rattle.std.specs.List.{list_all};
+ghost use Rattle.value_model.specs.Val.{vals_of, val, no_vals};
+ghost use Rattle.value_model.specs.Depth.{depth};
+ghost use Rattle.ejson_value.specs.View.{view, views};
+ghost use Rattle.ejson_codec.specs.Reading.{max_levels};
+ghost use Rattle.world_model.specs.declared.events.Event.TheVariants as event;
+ghost use Rattle.ddp_messages.specs.ClientMessage.{client_view};
+ghost use Rattle.ddp_messages.specs.Answers.{client_answer};
+ghost use Rattle.ddp_messages.specs.Limits.{AreShallow};
+ghost use Rattle.world_model.specs.Run.{IsEvent, asks, asks_in};
+ghost use Rattle.replay_events.specs.Events.{text_first, is_nil, text_alone, list_alone, doc_alone, params_in, sub_with, sub_in, number_in, placed_in, load_at, advance_by, raw_with, raw_in, is_valid_id, is_shallow, insert_in, operation_in, admin_in, act_of, step_in, row_in, event_in};
+
+use ddp_messages::{FromClient, MsgFault};
+use ejson_value::{Doc, Items, Key, Mem, Text, Value, Whole, depth};
+use std::alloc::Global;
+use world_model::events::{Act, Event};
+
+/// How many lists and objects may stand in one another in a document.
+const MAX_LEVELS: u64 = 32;
+
+// The text that stands first, and what follows it.
+fn text_first(values: &[Value]) -> Option<(&Text, &[Value])>
+    ensures { MatchOption result (text_first (vals_of (views values.now)) ≡ None) (λ p. text_first (vals_of (views values.now)) ≡ Some (p.0.now, vals_of (views p.1.now))) }
+{
+    let Some((first, rest)) = values.split_first() else {
+        return None;
+    };
+    match first {
+        Value::Text(text) => Some((text, rest)),
+        _ => None,
+    }
+}
+
+fn is_nil(values: &[Value]) -> bool
+    ensures { result ≡ is_nil (vals_of (views values.now)) }
+{
+    match values.split_first() {
+        None => true,
+        Some(_) => false,
+    }
+}
+
+// The text that stands alone.
+fn text_alone(values: &[Value]) -> Option<&Text>
+    ensures { option_copied result ≡ text_alone (vals_of (views values.now)) }
+{
+    let Some((text, rest)) = text_first(values) else {
+        return None;
+    };
+    if is_nil(rest) { Some(text) } else { None }
+}
+
+// The list that stands alone.
+fn list_alone(values: &[Value]) -> Option<&[Value]>
+    ensures { option_map (λ vs. vals_of (views vs.now)) result ≡ list_alone (vals_of (views values.now)) }
+{
+    let Some((first, rest)) = values.split_first() else {
+        return None;
+    };
+    let Value::List(items) = first else {
+        return None;
+    };
+    if is_nil(rest) {
+        Some(items.as_slice())
+    } else {
+        None
+    }
+}
+
+// The document that stands alone.
+fn doc_alone(values: &[Value]) -> Option<&Doc>
+    ensures { option_copied result ≡ doc_alone (vals_of (views values.now)) }
+{
+    let Some((first, rest)) = values.split_first() else {
+        return None;
+    };
+    let Value::Object(doc) = first else {
+        return None;
+    };
+    if is_nil(rest) { Some(doc) } else { None }
+}
+
+// Whether each value has at most 32 levels.
+fn have_few_levels(values: &[Value]) -> bool
+    ensures { result ≡ list_all (λ v. nat_le (depth v) max_levels) (views values.now) }
+{
+    for value in values {
+        if !has_few_levels(value) {
+            return false;
+        }
+    }
+    true
+}
+
+// The parameters that stand alone; none where nothing stands.
+fn params_in(alloc: Global, values: &[Value]) -> Result<Option<Items>, Mem>
+    ensures found { IfOk result (λ params. params ≡ params_in (vals_of (views values.now))) }
+    ensures shallow { IfOk result (λ params. IfSome params AreShallow) }
+{
+    let Some((first, rest)) = values.split_first() else {
+        return Ok(Some(Items::new(alloc)));
+    };
+    let Value::List(items) = first else {
+        return Ok(None);
+    };
+    if !is_nil(rest) {
+        return Ok(None);
+    }
+    if have_few_levels(items.as_slice()) {
+        Ok(Some(items.copy()?))
+    } else {
+        Ok(None)
+    }
+}
+
+// Whether the text has at most 256 bytes.
+fn is_short(text: &Text) -> bool
+    ensures { result ≡ nat_lt (length text.now) 257 }
+{
+    text.len() < 257
+}
+
+// The subscription of these parts.
+fn sub_with(
+    alloc: Global,
+    client: &Text,
+    id: &Text,
+    name: &Text,
+    params: &[Value],
+) -> Result<Option<Event>, Mem>
+    ensures found { IfOk result (λ e. e ≡ sub_with client.now id.now name.now (vals_of (views params.now))) }
+    ensures events { IfOk result (λ e. IfSome e IsEvent) }
+{
+    if !is_short(id) {
+        return Ok(None);
+    }
+    let Some(params) = params_in(alloc, params)? else {
+        return Ok(None);
+    };
+    params.known();
+    Ok(Some(Event::Sub {
+        client: client.copy()?,
+        id: id.copy()?,
+        name: name.copy()?,
+        params,
+    }))
+}
+
+fn read_sub(alloc: Global, values: &[Value]) -> Result<Option<Event>, Mem>
+    ensures found { IfOk result (λ e. e ≡ sub_in (vals_of (views values.now))) }
+    ensures events { IfOk result (λ e. IfSome e IsEvent) }
+{
+    let Some((client, rest)) = text_first(values) else {
+        return Ok(None);
+    };
+    let Some((id, rest)) = text_first(rest) else {
+        return Ok(None);
+    };
+    let Some((name, params)) = text_first(rest) else {
+        return Ok(None);
+    };
+    sub_with(alloc, client, id, name, params)
+}
+
+// The number that stands alone, or nothing.
+fn number_in(values: &[Value]) -> Option<Option<Whole>>
+    ensures { result ≡ number_in (vals_of (views values.now)) }
+{
+    let Some((first, rest)) = values.split_first() else {
+        return Some(None);
+    };
+    let Value::Int(number) = first else {
+        return None;
+    };
+    if is_nil(rest) {
+        Some(Some(*number))
+    } else {
+        None
+    }
+}
+
+// A client, an id and perhaps a number.
+fn placed_in(values: &[Value]) -> Option<(&Text, &Text, Option<Whole>)>
+    ensures { option_map (λ p. (p.0.now, p.1.now, p.2)) result ≡ placed_in (vals_of (views values.now)) }
+{
+    let Some((client, rest)) = text_first(values) else {
+        return None;
+    };
+    let Some((id, rest)) = text_first(rest) else {
+        return None;
+    };
+    match number_in(rest) {
+        Some(number) => Some((client, id, number)),
+        None => None,
+    }
+}
+
+fn read_load(values: &[Value]) -> Result<Option<Event>, Mem>
+    ensures found { IfOk result (λ e. e ≡ option_map load_at (placed_in (vals_of (views values.now)))) }
+    ensures events { IfOk result (λ e. IfSome e IsEvent) }
+{
+    let Some((client, id, at)) = placed_in(values) else {
+        return Ok(None);
+    };
+    Ok(Some(Event::Load {
+        client: client.copy()?,
+        id: id.copy()?,
+        at,
+    }))
+}
+
+fn read_advance(values: &[Value]) -> Result<Option<Event>, Mem>
+    ensures found { IfOk result (λ e. e ≡ option_map advance_by (placed_in (vals_of (views values.now)))) }
+    ensures events { IfOk result (λ e. IfSome e IsEvent) }
+{
+    let Some((client, id, count)) = placed_in(values) else {
+        return Ok(None);
+    };
+    Ok(Some(Event::Advance {
+        client: client.copy()?,
+        id: id.copy()?,
+        count,
+    }))
+}
+
+// Whether a session's client asks for something by the message.
+fn asks(message: &FromClient) -> bool
+    ensures { result ≡ asks (client_view message.now) }
+{
+    match message {
+        FromClient::Connect { .. } | FromClient::Ping { .. } | FromClient::Pong { .. } => false,
+        FromClient::Sub { .. } | FromClient::Unsub { .. } | FromClient::Method { .. } => true,
+    }
+}
+
+// Whether the text asks for something.
+fn asks_in(alloc: Global, text: &Text) -> Result<bool, Mem>
+    ensures { IfOk result (λ b. b ≡ asks_in (client_answer text.now)) }
+{
+    match FromClient::read(alloc, text) {
+        Ok(message) => Ok(asks(&message)),
+        Err(MsgFault::Memory) => Err(Mem),
+        Err(MsgFault::Parse) => Ok(false),
+        Err(MsgFault::BadRequest { .. }) => Ok(false),
+    }
+}
+
+// The sending of this text, which asks for nothing.
+fn raw_with(alloc: Global, client: &Text, text: &Text) -> Result<Option<Event>, Mem>
+    ensures found { IfOk result (λ e. e ≡ raw_with client.now text.now) }
+    ensures events { IfOk result (λ e. IfSome e IsEvent) }
+{
+    if asks_in(alloc, text)? {
+        return Ok(None);
+    }
+    Ok(Some(Event::Raw {
+        client: client.copy()?,
+        text: text.copy()?,
+    }))
+}
+
+fn read_raw(alloc: Global, values: &[Value]) -> Result<Option<Event>, Mem>
+    ensures found { IfOk result (λ e. e ≡ raw_in (vals_of (views values.now))) }
+    ensures events { IfOk result (λ e. IfSome e IsEvent) }
+{
+    let Some((client, rest)) = text_first(values) else {
+        return Ok(None);
+    };
+    match text_alone(rest) {
+        Some(text) => raw_with(alloc, client, text),
+        None => Ok(None),
+    }
+}
+
+// An id of a document has 1 to 256 bytes.
+fn is_valid_id(id: &Text) -> bool
+    ensures { result ≡ is_valid_id id.now }
+{
+    0 < id.len() && id.len() < 257
+}
+
+fn has_few_levels(value: &Value) -> bool
+    ensures { result ≡ nat_le (depth (view value.now)) max_levels }
+{
+    depth(value) <= MAX_LEVELS
+}
+
+// The document that the value is.
+fn object_in(value: Value) -> Option<Doc>
+    ensures { result ≡ doc_alone (val (view value) no_vals) }
+{
+    match value {
+        Value::Object(doc) => Some(doc),
+        Value::Null
+        | Value::Bool(_)
+        | Value::Int(_)
+        | Value::Text(_)
+        | Value::Date(_)
+        | Value::Bytes(_)
+        | Value::List(_) => None,
+    }
+}
+
+// The document, if it has at most 32 levels.
+fn shallow(doc: Doc) -> Option<Doc>
+    ensures { result ≡ (if is_shallow doc then Some doc else None) }
+{
+    let value = Value::Object(doc);
+    if has_few_levels(&value) {
+        object_in(value)
+    } else {
+        None
+    }
+}
+
+// The insert of the document, whose id is the field `_id`.
+fn read_insert(alloc: Global, collection: &Text, doc: &Doc) -> Result<Option<Event>, Mem>
+    ensures found { IfOk result (λ e. e ≡ insert_in collection.now doc.now) }
+    ensures events { IfOk result (λ e. IfSome e IsEvent) }
+{
+    let name = Text::from_str(alloc, "_id")?;
+    let mut doc = doc.copy()?;
+    let Some(value) = doc.remove(&name) else {
+        return Ok(None);
+    };
+    let Value::Text(id) = value else {
+        return Ok(None);
+    };
+    if !is_valid_id(&id) {
+        return Ok(None);
+    }
+    let Some(doc) = shallow(doc) else {
+        return Ok(None);
+    };
+    doc.known();
+    let collection = collection.copy()?;
+    Ok(Some(Event::Insert {
+        key: Key { collection, id },
+        doc,
+    }))
+}
+
+fn read_operation(alloc: Global, values: &[Value]) -> Result<Option<Event>, Mem>
+    ensures found { IfOk result (λ e. e ≡ operation_in (vals_of (views values.now))) }
+    ensures events { IfOk result (λ e. IfSome e IsEvent) }
+{
+    let Some((word, rest)) = text_first(values) else {
+        return Ok(None);
+    };
+    if word.as_str() != "insert" {
+        return Ok(None);
+    }
+    let Some((collection, rest)) = text_first(rest) else {
+        return Ok(None);
+    };
+    let Some(doc) = doc_alone(rest) else {
+        return Ok(None);
+    };
+    read_insert(alloc, collection, doc)
+}
+
+fn read_admin(alloc: Global, values: &[Value]) -> Result<Option<Event>, Mem>
+    ensures found { IfOk result (λ e. e ≡ admin_in (vals_of (views values.now))) }
+    ensures events { IfOk result (λ e. IfSome e IsEvent) }
+{
+    match list_alone(values) {
+        Some(operation) => read_operation(alloc, operation),
+        None => Ok(None),
+    }
+}
+
+fn read_client(values: &[Value]) -> Result<Option<Event>, Mem>
+    ensures found { IfOk result (λ e. e ≡ option_map event.Client (text_alone (vals_of (views values.now)))) }
+    ensures events { IfOk result (λ e. IfSome e IsEvent) }
+{
+    match text_alone(values) {
+        Some(name) => Ok(Some(Event::Client { name: name.copy()? })),
+        None => Ok(None),
+    }
+}
+
+fn read_show(values: &[Value]) -> Result<Option<Event>, Mem>
+    ensures found { IfOk result (λ e. e ≡ option_map event.Show (text_alone (vals_of (views values.now)))) }
+    ensures events { IfOk result (λ e. IfSome e IsEvent) }
+{
+    match text_alone(values) {
+        Some(client) => Ok(Some(Event::Show {
+            client: client.copy()?,
+        })),
+        None => Ok(None),
+    }
+}
+
+fn read_journal(values: &[Value]) -> Result<Option<Event>, Mem>
+    ensures found { IfOk result (λ e. e ≡ option_map event.Journal (text_alone (vals_of (views values.now)))) }
+    ensures events { IfOk result (λ e. IfSome e IsEvent) }
+{
+    match text_alone(values) {
+        Some(client) => Ok(Some(Event::Journal {
+            client: client.copy()?,
+        })),
+        None => Ok(None),
+    }
+}
+
+// The step that the word names.
+fn act_of(word: &Text) -> Option<Act>
+    ensures { result ≡ act_of word.now }
+{
+    match word.as_str() {
+        "up" => Some(Act::Up),
+        "recv" => Some(Act::Recv),
+        "handle" => Some(Act::Handle),
+        "send" => Some(Act::Send),
+        "take" => Some(Act::Take),
+        _ => None,
+    }
+}
+
+fn read_step(word: &Text, values: &[Value]) -> Result<Option<Event>, Mem>
+    ensures found { IfOk result (λ e. e ≡ step_in word.now (vals_of (views values.now))) }
+    ensures events { IfOk result (λ e. IfSome e IsEvent) }
+{
+    let Some(act) = act_of(word) else {
+        return Ok(None);
+    };
+    match text_alone(values) {
+        Some(client) => Ok(Some(Event::Do {
+            client: client.copy()?,
+            act,
+        })),
+        None => Ok(None),
+    }
+}
+
+// The event of this word and what follows it.
+fn read_row(alloc: Global, word: &Text, values: &[Value]) -> Result<Option<Event>, Mem>
+    ensures found { IfOk result (λ e. e ≡ row_in word.now (vals_of (views values.now))) }
+    ensures events { IfOk result (λ e. IfSome e IsEvent) }
+{
+    match word.as_str() {
+        "client" => read_client(values),
+        "sub" => read_sub(alloc, values),
+        "raw" => read_raw(alloc, values),
+        "admin" => read_admin(alloc, values),
+        "settle" if is_nil(values) => Ok(Some(Event::Settle)),
+        "load" => read_load(values),
+        "advance" => read_advance(values),
+        "show" => read_show(values),
+        "journal" => read_journal(values),
+        _ => read_step(word, values),
+    }
+}
+
+/// The event that the line describes, if it describes one.
+pub(crate) fn event_in(alloc: Global, line: &Value) -> Result<Option<Event>, Mem>
+    ensures found { IfOk result (λ e. e ≡ event_in (view line.now)) }
+    ensures events { IfOk result (λ e. IfSome e IsEvent) }
+{
+    let Value::List(items) = line else {
+        return Ok(None);
+    };
+    match text_first(items.as_slice()) {
+        Some((word, rest)) => read_row(alloc, word, rest),
+        None => Ok(None),
+    }
+}
