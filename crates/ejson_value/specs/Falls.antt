@@ -8,10 +8,10 @@ use Rattle.value_model.specs.Val.{vals_of, fields_of}
 use Rattle.value_model.specs.Depth.{depth, vals_depth, fields_depth}
 use Rattle.ejson_value.specs.declared.value.Value.{Value}
 use Rattle.ejson_value.specs.declared.value.Value.TheVariants as shape
-use Rattle.ejson_value.specs.declared.value.Doc.TheDeep.{deep-Value}
+use Rattle.ejson_value.specs.declared.value.Boxed.TheDeep.{deep-Value}
 use Rattle.ejson_value.specs.View.{view, views, entries}
 
-deep_le : (v : Value) → deep-Value v ≤ suc (depth (view v))
+pub deep_le : (v : Value) → deep-Value v ≤ suc (depth (view v))
 deep_le shape.Null = omega arith
 deep_le (shape.Bool b) = omega arith
 deep_le (shape.Int z) = omega arith
@@ -20,6 +20,7 @@ deep_le (shape.Date z) = omega arith
 deep_le (shape.Bytes s) = omega arith
 deep_le (shape.List vs) = omega arith
 deep_le (shape.Object es) = omega arith
+deep_le (shape.User name v) = omega arith
 
 pub most_le-depth : (vs : List Value) → most (λ v. deep-Value v) vs ≤ suc (vals_depth (vals_of (views vs)))
 most_le-depth [] = omega arith

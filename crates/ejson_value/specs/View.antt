@@ -1,6 +1,6 @@
 -- What contracts see of a value.
 use Rattle.std.specs.Prelude.{ℕ, List, map}
-use Rattle.value_model.specs.Val.{Val, Entries, null, boolean, int, text, date, bytes, list, object, vals_of, fields_of}
+use Rattle.value_model.specs.Val.{Val, Entries, null, boolean, int, text, date, bytes, list, object, user, vals_of, fields_of}
 use Rattle.ejson_value.specs.declared.value.Value.{Value}
 use Rattle.ejson_value.specs.declared.value.Value.TheVariants as shape
 
@@ -13,6 +13,7 @@ view (shape.Date z) = date z
 view (shape.Bytes s) = bytes s
 view (shape.List vs) = list (vals_of vs)
 view (shape.Object es) = object (fields_of es)
+view (shape.User name v) = user name v
 
 abbrev pub views : List Value → List Val
 views vs = map view vs

@@ -24,7 +24,8 @@ fn is_list(reached: Option<&Value>) -> bool
         | Value::Text(_)
         | Value::Date(_)
         | Value::Bytes(_)
-        | Value::Object(_) => false,
+        | Value::Object(_)
+        | Value::User { .. } => false,
     }
 }
 
@@ -71,7 +72,8 @@ fn some_after<F: Fn(Option<&Value>, bool) -> bool>(
         | Value::Int(_)
         | Value::Text(_)
         | Value::Date(_)
-        | Value::Bytes(_) => !from_list && test(None, false),
+        | Value::Bytes(_)
+        | Value::User { .. } => !from_list && test(None, false),
     }
 }
 
@@ -135,7 +137,8 @@ fn some_in_element<F: Fn(Option<&Value>, bool) -> bool>(
         | Value::Text(_)
         | Value::Date(_)
         | Value::Bytes(_)
-        | Value::List(_) => false,
+        | Value::List(_)
+        | Value::User { .. } => false,
     }
 }
 

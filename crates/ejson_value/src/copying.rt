@@ -3,7 +3,7 @@ ghost use Rattle.std.specs.Prelude.{◌≡◌, IfOk};
 ghost use Rattle.ejson_value.specs.View.{view};
 
 use crate::memory::Mem;
-use crate::value::{Doc, Items, Value};
+use crate::value::{Boxed, Doc, Items, Value};
 
 /// A value equal to this one.
 #[cycle(copying)]
@@ -19,6 +19,20 @@ pub fn copy(value: &Value) -> Result<Value, Mem>
         Value::Bytes(bytes) => Ok(Value::Bytes(bytes.copy()?)),
         Value::List(items) => Ok(Value::List(items.copy()?)),
         Value::Object(doc) => Ok(Value::Object(doc.copy()?)),
+        Value::User { name, value } => Ok(Value::User {
+            name: name.copy()?,
+            value: value.copy()?,
+        }),
+    }
+}
+
+impl Boxed {
+    /// A value on the heap equal to this one.
+    #[cycle(copying)]
+    pub fn copy(&self) -> Result<Boxed, Mem>
+        ensures { IfOk result (λ boxed. boxed ≡ self.now) }
+    {
+        self.beside(copy(self.get())?)
     }
 }
 

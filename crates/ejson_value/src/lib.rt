@@ -16,6 +16,7 @@ mod order;
 mod path;
 mod put_all;
 mod text;
+mod user;
 mod value;
 mod whole;
 
@@ -30,10 +31,11 @@ pub use list::{Copied, ListOf};
 pub use measure::{depth, size};
 pub use memory::Mem;
 pub use message::DataMsg;
-pub use order::{compare, same};
+pub use order::{compare, kind, same};
 pub use path::{Part, Path, PathFault};
 pub use text::Text;
-pub use value::{Doc, Items, Value};
+pub use user::{MAX_USER_NAME, UserName};
+pub use value::{Boxed, Doc, Items, Value};
 pub use whole::Whole;
 
 /// Names, as of fields or of collections.

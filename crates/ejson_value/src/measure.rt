@@ -3,12 +3,13 @@ ghost use Rattle.std.specs.Prelude.{◌≡◌, ◌∷◌, [], ◌+◌, ◌≤◌
 ghost use Rattle.std.specs.Fmt.{signed_decimal};
 ghost use Rattle.value_model.specs.Val.{vals_of, fields_of};
 ghost use Rattle.value_model.specs.Depth.{depth, vals_depth, fields_depth};
-ghost use Rattle.value_model.specs.Size.{has_short_escape, escape_size, text_size, binary_wrapper, base64_size, is_special, names_of, size, vals_size, fields_size};
+ghost use Rattle.value_model.specs.Size.{has_short_escape, escape_size, text_size, binary_wrapper, user_wrapper, base64_size, is_special, names_of, size, vals_size, fields_size};
 ghost use Rattle.ejson_value.specs.View.{view};
 ghost use Rattle.ejson_value.specs.Measure.{capped};
 
 use crate::text::Text;
-use crate::value::{Doc, Items, Value};
+use crate::user::UserName;
+use crate::value::{Boxed, Doc, Items, Value};
 use crate::whole::Whole;
 
 // How many digits the number has in decimal.
@@ -131,7 +132,15 @@ pub fn size(value: &Value) -> u64
                 inside
             }
         }
+        Value::User { name, value } => user_size(name, value),
     }
+}
+
+#[cycle(measuring)]
+fn user_size(name: &UserName, value: &Boxed) -> u64
+    ensures { result ≡ capped (user_wrapper + text_size name.now + size value.now) }
+{
+    text_size(name.get()).saturating_add(size(value.get())).saturating_add(20)
 }
 
 #[cycle(measuring)]
@@ -159,8 +168,8 @@ fn fields_size(doc: &Doc) -> u64
     total
 }
 
-/// How deep lists and objects stand in the value, 2^64 - 1 where it is more: one more than what
-/// stands inside, 1 where nothing does, and 0 for what is neither.
+/// How deep lists, objects and values of user types stand in the value, 2^64 - 1 where it is more: one more than what
+/// stands inside, 1 where nothing does, and 0 for what holds no other value.
 #[cycle(depth)]
 pub fn depth(value: &Value) -> u64
     ensures { result ≡ capped (depth (view value.now)) }
@@ -168,6 +177,7 @@ pub fn depth(value: &Value) -> u64
     match value {
         Value::List(items) => items_depth(items).saturating_add(1),
         Value::Object(doc) => fields_depth(doc).saturating_add(1),
+        Value::User { value, .. } => depth(value.get()).saturating_add(1),
         _ => 0,
     }
 }

@@ -10,8 +10,9 @@ use crate::bytes::Bytes;
 use crate::value::{Doc, Items, Value};
 use std::cmp::Ordering;
 
-// Where a kind stands among the kinds.
-fn kind(value: &Value) -> u8
+/// Where the value's kind stands among the kinds, from 0: null, numbers, texts, objects, lists,
+/// bytes, booleans, dates, values of user types.
+pub fn kind(value: &Value) -> u8
     ensures { result ≡ kind (view value.now) }
 {
     match value {
@@ -23,6 +24,7 @@ fn kind(value: &Value) -> u8
         Value::Bytes(_) => 5,
         Value::Bool(_) => 6,
         Value::Date(_) => 7,
+        Value::User { .. } => 8,
     }
 }
 
@@ -32,9 +34,9 @@ fn compare_bytes(a: &Bytes, b: &Bytes) -> Ordering
     a.len().cmp(&b.len()).then(a.as_slice().cmp(b.as_slice()))
 }
 
-/// The order of values: by kind first, as null, numbers, texts, objects, lists, bytes, booleans,
-/// dates; then numbers and dates by number, texts byte by byte, bytes by length and then by
-/// content, lists and objects element by element.
+/// The order of values: by kind first, then numbers and dates by number, texts byte by byte, bytes
+/// by length and then by content, lists and objects element by element, values of user types by
+/// the type's name and then by the value.
 #[cycle(comparing)]
 pub fn compare(a: &Value, b: &Value) -> Ordering
     ensures { result ≡ compare (view a.now) (view b.now) }
@@ -47,6 +49,9 @@ pub fn compare(a: &Value, b: &Value) -> Ordering
         (Value::Bytes(a), Value::Bytes(b)) => compare_bytes(a, b),
         (Value::Bool(a), Value::Bool(b)) => a.cmp(b),
         (Value::Date(a), Value::Date(b)) => a.get().cmp(&b.get()),
+        (Value::User { name, value }, Value::User { name: other_name, value: other }) => {
+            name.get().cmp(other_name.get()).then(compare(value.get(), other.get()))
+        }
         _ => kind(a).cmp(&kind(b)),
     }
 }

@@ -12,6 +12,7 @@ ghost use Rattle.ejson_value.specs.View.{view, views, entries};
 use crate::bytes::Bytes;
 use crate::memory::Mem;
 use crate::text::Text;
+use crate::user::UserName;
 use crate::whole::Whole;
 use std::alloc::Global;
 use std::collections::BTreeMap;
@@ -33,6 +34,18 @@ pub enum Value {
     Bytes(Bytes),
     List(Items),
     Object(Doc),
+    /// A value of a user type: the type's name, and the value that stands for it.
+    User {
+        name: UserName,
+        value: Boxed,
+    },
+}
+
+/// One value on the heap. A contract sees it as that value.
+#[derive(Debug, Drop)]
+#[cycle(value)]
+pub struct Boxed {
+    inner: Box<Value>,
 }
 
 /// A list of values. A contract sees it as the list of its values.
@@ -47,6 +60,31 @@ pub struct Items {
 #[cycle(value)]
 pub struct Doc {
     fields: BTreeMap<Text, Value>,
+}
+
+impl Model for Boxed {
+    ghost use Rattle.std.specs.Prelude.{suc};
+    ghost use Rattle.std.proofs.Common.{arith};
+    ghost use Rattle.value_model.specs.Val.{Val};
+    ghost use Rattle.value_model.specs.Coding.{val_code};
+
+    ghost Value = { Val };
+
+    ghost coded = { val_code };
+
+    ghost use Rattle.value_model.specs.Depth.{depth};
+    ghost use Rattle.value_model.specs.Valid.{IsValue};
+    ghost use Rattle.ejson_value.specs.View.{view as seen_as};
+
+    ghost view = { λ a. seen_as a.inner.value };
+
+    ghost invariant = { λ a. IsValue (seen_as a.inner.value) };
+
+    ghost size = { λ v. suc (depth v) };
+
+    ghost use Rattle.ejson_value.specs.Falls.{deep_le};
+
+    ghost size_decreases = { λ a h. Prim.omega (arith, deep_le a.inner.value) };
 }
 
 impl Model for Items {
@@ -182,6 +220,33 @@ impl Items {
     }
 }
 
+impl Boxed {
+    /// The value, put on the heap.
+    pub fn of(alloc: Global, value: Value) -> Result<Boxed, Mem>
+        ensures { IfOk result (λ boxed. boxed ≡ view value) }
+    {
+        value.known();
+        Ok(Boxed {
+            inner: Box::new(alloc, value)?,
+        })
+    }
+
+    /// The value.
+    pub fn get(&self) -> &Value
+        ensures value { view result.now ≡ self.now }
+        ensures known { IsValue (view result.now) }
+    {
+        self.inner.as_ref()
+    }
+
+    // A value on the heap beside this one, of the same allocator.
+    pub(crate) fn beside(&self, value: Value) -> Result<Boxed, Mem>
+        ensures { IfOk result (λ boxed. boxed ≡ view value) }
+    {
+        Boxed::of(*Box::allocator(&self.inner), value)
+    }
+}
+
 impl Value {
     /// Tells a proof what the value keeps; it does nothing.
     pub fn known(&self)
@@ -197,6 +262,10 @@ impl Value {
             }
             Value::List(items) => items.known(),
             Value::Object(doc) => doc.known(),
+            Value::User { name, value } => {
+                let _name = name.get();
+                let _value = value.get();
+            }
         }
     }
 }

@@ -2,7 +2,7 @@
 use Rattle.std.specs.Prelude.{◌≡◌, ℕ, zero, suc, ℤ, pos, negsuc, Bool, true, false, List, [], ◌∷◌, refl}
 use Rattle.std.proofs.Common.{ap, ◌∙◌}
 use Rattle.std.specs.Coded.{Coded, code_by, coded_ℕ, coded_list, coded×}
-use Rattle.value_model.specs.Val.{Val, null, boolean, int, text, date, bytes, list, object, Vals, no_vals, val, Fields, no_fields, field, Entries}
+use Rattle.value_model.specs.Val.{Val, null, boolean, int, text, date, bytes, list, object, user, Vals, no_vals, val, Fields, no_fields, field, Entries}
 use base.Stored.{Gv, gnil, gnum, gcons, num}
 use denote.Struct.Codes.{itself}
 
@@ -46,6 +46,7 @@ abbrev mutual
   to (bytes s) = gcons (gnum 5) (numbers_to s)
   to (list vs) = gcons (gnum 6) (vals_to vs)
   to (object fs) = gcons (gnum 7) (fields_to fs)
+  to (user name v) = gcons (gnum 8) (gcons (numbers_to name) (to v))
 
   pub vals_to : Vals → Gv
   vals_to no_vals = gnil
@@ -67,7 +68,10 @@ abbrev mutual
   from (gcons (gnum (suc (suc (suc (suc zero))))) rest) = date (whole_from rest)
   from (gcons (gnum (suc (suc (suc (suc (suc zero)))))) rest) = bytes (numbers_from rest)
   from (gcons (gnum (suc (suc (suc (suc (suc (suc zero))))))) rest) = list (vals_from rest)
-  from (gcons (gnum (suc (suc (suc (suc (suc (suc (suc _)))))))) rest) = object (fields_from rest)
+  from (gcons (gnum (suc (suc (suc (suc (suc (suc (suc zero)))))))) rest) = object (fields_from rest)
+  from (gcons (gnum (suc (suc (suc (suc (suc (suc (suc (suc _))))))))) gnil) = null
+  from (gcons (gnum (suc (suc (suc (suc (suc (suc (suc (suc _))))))))) (gnum n)) = null
+  from (gcons (gnum (suc (suc (suc (suc (suc (suc (suc (suc _))))))))) (gcons name v)) = user (numbers_from name) (from v)
   from (gcons (gcons a b) rest) = null
 
   pub vals_from : Gv → Vals
@@ -104,6 +108,7 @@ mutual
   back (bytes s) = ap bytes (numbers_back s)
   back (list vs) = ap list (vals_back vs)
   back (object fs) = ap object (fields_back fs)
+  back (user name v) = ap (λ n. user n (from (to v))) (numbers_back name) ∙ ap (λ w. user name w) (back v)
 
   pub vals_back : (vs : Vals) → vals_from (vals_to vs) ≡ vs
   vals_back no_vals = refl

@@ -1,8 +1,8 @@
--- How deep lists and objects stand in one another.
+-- How deep lists, objects and values of user types stand in one another.
 use Rattle.std.specs.Prelude.{ℕ, suc, max}
-use Rattle.value_model.specs.Val.{Val, null, boolean, int, text, date, bytes, list, object, Vals, no_vals, val, Fields, no_fields, field}
+use Rattle.value_model.specs.Val.{Val, null, boolean, int, text, date, bytes, list, object, user, Vals, no_vals, val, Fields, no_fields, field}
 
--- One more than the greatest depth of what stands inside, 1 where nothing does; what is no list and no object has depth 0.
+-- One more than the greatest depth of what stands inside, 1 where nothing does; what holds no other value has depth 0.
 abbrev mutual
   pub depth : Val → ℕ
   depth null = 0
@@ -13,6 +13,7 @@ abbrev mutual
   depth (bytes s) = 0
   depth (list vs) = suc (vals_depth vs)
   depth (object fs) = suc (fields_depth fs)
+  depth (user name v) = suc (depth v)
 
   -- the greatest depth of the elements
   pub vals_depth : Vals → ℕ

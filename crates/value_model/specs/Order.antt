@@ -1,10 +1,10 @@
--- The order of values. Between kinds: null, numbers, texts, objects, lists, bytes, booleans, dates, as in MongoDB's comparison of BSON types.
+-- The order of values. Between kinds: null, numbers, texts, objects, lists, bytes, booleans, dates, values of user types, as in MongoDB's comparison of BSON types.
 use Rattle.std.specs.Prelude.{ℕ, List, length}
 use Rattle.std.specs.declared.cmp.Ordering.{Ordering}
 use Rattle.std.specs.declared.cmp.Ordering.TheVariants.{Less, Equal, Greater}
 use Rattle.std.specs.Ordering.{nat_cmp, int_cmp, bool_cmp, ordering_then}
 use Rattle.std.specs.Cmp.Lexicographic.{slice_cmp}
-use Rattle.value_model.specs.Val.{Val, null, boolean, int, text, date, bytes, list, object, Vals, no_vals, val, Fields, no_fields, field}
+use Rattle.value_model.specs.Val.{Val, null, boolean, int, text, date, bytes, list, object, user, Vals, no_vals, val, Fields, no_fields, field}
 
 -- texts and names, byte by byte
 abbrev pub text_cmp : List ℕ → List ℕ → Ordering
@@ -20,8 +20,9 @@ kind (list vs) = 4
 kind (bytes s) = 5
 kind (boolean b) = 6
 kind (date z) = 7
+kind (user name v) = 8
 
--- Bytes go by length and then by content, lists element by element, objects pair by pair with the name before the value; a proper prefix comes first.
+-- Bytes go by length and then by content, lists element by element, objects pair by pair with the name before the value, a proper prefix first; values of user types by the type's name and then by the value.
 abbrev mutual
   pub compare : Val → Val → Ordering
   compare (int a) (int b) = int_cmp a b
@@ -31,6 +32,7 @@ abbrev mutual
   compare (bytes a) (bytes b) = ordering_then (nat_cmp (length a) (length b)) (slice_cmp nat_cmp a b)
   compare (boolean a) (boolean b) = bool_cmp a b
   compare (date a) (date b) = int_cmp a b
+  compare (user m v) (user n w) = ordering_then (text_cmp m n) (compare v w)
   compare a b = nat_cmp (kind a) (kind b)
 
   pub vals_cmp : Vals → Vals → Ordering

@@ -8,8 +8,9 @@ use Rattle.std.specs.Cmp.{IsTotalOrder, then_flip, bool_cmp_total, nat_cmp_is}
 use Rattle.std.specs.Cmp.Lexicographic.{slice_cmp}
 use Rattle.std.proofs.lemmas.Cmp.{nat_cmp_total, int_cmp_total, nat_list_cmp_total, ranked, alike_right}
 use Rattle.std.proofs.lemmas.Map.Lookups.{exact_signed, exact_bytes}
-use Rattle.value_model.specs.Val.{Val, null, boolean, int, text, date, bytes, list, object, Vals, no_vals, val, Fields, no_fields, field}
+use Rattle.value_model.specs.Val.{Val, null, boolean, int, text, date, bytes, list, object, user, Vals, no_vals, val, Fields, no_fields, field}
 use Rattle.value_model.specs.Order.{text_cmp, kind, compare, vals_cmp, fields_cmp}
+use Rattle.value_model.specs.TruthLaws.{equal_of}
 
 -- two orders, one after the other, tie where both do
 pub then_ties : (a b : Ordering) → ordering_then a b ≡ Equal → (a ≡ Equal) × (b ≡ Equal)
@@ -36,6 +37,9 @@ mutual
   compare_ties (bytes a) (bytes b) e = ap bytes (exact_bytes a b ((then_ties (nat_cmp (length a) (length b)) (slice_cmp nat_cmp a b) e).1))
   compare_ties (boolean a) (boolean b) e = ap boolean (bool_ties a b e)
   compare_ties (date a) (date b) e = ap date (exact_signed a b e)
+  compare_ties (user m v) (user n w) e =
+      let both = then_ties (text_cmp m n) (compare v w) e in
+      ap (λ x. user x v) (exact_bytes m n both.0) ∙ ap (λ x. user n x) (compare_ties v w both.1)
   compare_ties a b e = cc
 
   pub vals_ties : (a b : Vals) → vals_cmp a b ≡ Equal → a ≡ b
@@ -65,6 +69,7 @@ mutual
   compare_reverse (bytes a) (bytes b) = then_reverse _ _ _ _ (nat_cmp_total.antisymm (length a) (length b)) (nat_list_cmp_total.antisymm a b)
   compare_reverse (boolean a) (boolean b) = bool_cmp_total.antisymm a b
   compare_reverse (date a) (date b) = int_cmp_total.antisymm a b
+  compare_reverse (user m v) (user n w) = then_reverse _ _ _ _ (nat_list_cmp_total.antisymm m n) (compare_reverse v w)
   compare_reverse a b = nat_cmp_total.antisymm (kind a) (kind b)
 
   pub vals_reverse : (a b : Vals) → vals_cmp a b ≡ ordering_reverse (vals_cmp b a)
@@ -89,12 +94,7 @@ pub compare_itself : (a : Val) → compare a a ≡ Equal
 compare_itself a = own_reverse_ties (compare a a) (compare_reverse a a)
 
 pub compare_is_eq : (a b : Val) → IsTrue (is_eq (compare a b)) ↔ (a ≡ b)
-compare_is_eq a b = (λ h. compare_ties a b (eq_of (compare a b) h), λ e. ap (λ v. is_eq (compare a v)) (sym e) ∙ ap is_eq (compare_itself a))
-  where
-    eq_of : (o : Ordering) → is_eq o ≡ true → o ≡ Equal
-    eq_of Less h = cc
-    eq_of Equal h = refl
-    eq_of Greater h = cc
+compare_is_eq a b = (λ h. compare_ties a b (equal_of (compare a b) h), λ e. ap (λ v. is_eq (compare a v)) (sym e) ∙ ap is_eq (compare_itself a))
 
 -- one order after another is transitive where both are, and where the first answers alike for what ties
 pub then_trans : (a b c p q r : Ordering) → (a ≡ Less → b ≡ Less → c ≡ Less) → (a ≡ Equal → c ≡ b) → (b ≡ Equal → c ≡ a) → (p ≡ Less → q ≡ Less → r ≡ Less)
@@ -116,6 +116,7 @@ kind_le (list a) (list b) e = omega arith
 kind_le (bytes a) (bytes b) e = omega arith
 kind_le (boolean a) (boolean b) e = omega arith
 kind_le (date a) (date b) e = omega arith
+kind_le (user m v) (user n w) e = omega arith
 kind_le a b e = omega (arith, ranked (kind a) (kind b) Less (sym e))
 
 -- what is of an earlier kind comes first
@@ -127,6 +128,7 @@ kind_less (list a) (list b) h = absurd (omega (arith, h))
 kind_less (bytes a) (bytes b) h = absurd (omega (arith, h))
 kind_less (boolean a) (boolean b) h = absurd (omega (arith, h))
 kind_less (date a) (date b) h = absurd (omega (arith, h))
+kind_less (user m v) (user n w) h = absurd (omega (arith, h))
 kind_less a b h = sym (nat_cmp_is (kind a) (kind b) Less h)
 
 mutual
@@ -139,6 +141,8 @@ mutual
       then_trans _ _ _ _ _ _ (nat_cmp_total.trans (length a) (length b) (length c)) (λ tie. nat_cmp_total.congr (length a) (length b) (length c) tie) (λ tie. sym (alike_right nat_cmp_total (length b) (length c) (length a) tie)) (nat_list_cmp_total.trans a b c) e f
   compare_trans (boolean a) (boolean b) (boolean c) e f = bool_cmp_total.trans a b c e f
   compare_trans (date a) (date b) (date c) e f = int_cmp_total.trans a b c e f
+  compare_trans (user m v) (user n w) (user k x) e f =
+      then_trans (text_cmp m n) (text_cmp n k) (text_cmp m k) _ _ _ (nat_list_cmp_total.trans m n k) (λ tie. ap (λ u. text_cmp u k) (exact_bytes m n tie)) (λ tie. ap (λ u. text_cmp m u) (sym (exact_bytes n k tie))) (compare_trans v w x) e f
   compare_trans null null c e f = cc
   compare_trans a b c e f = kind_less a c (omega (arith, kind_le a b e, kind_le b c f))
 

@@ -1,7 +1,7 @@
 -- How many bytes a value's EJSON text has: compact JSON, where an object whose names are those of a special form stands under `$escape`.
 use Rattle.std.specs.Prelude.{ℕ, ◌+◌, ◌*◌, ◌/◌, max, Bool, true, false, List, [], ◌∷◌, length, sum_by, codes, bytes_eq, nat_lt, if◌then◌else◌, ◌&&◌, ◌||◌, ◌==◌}
 use Rattle.std.specs.Fmt.{signed_decimal}
-use Rattle.value_model.specs.Val.{Val, null, boolean, int, text, date, bytes, list, object, Vals, no_vals, val, Fields, no_fields, field}
+use Rattle.value_model.specs.Val.{Val, null, boolean, int, text, date, bytes, list, object, user, Vals, no_vals, val, Fields, no_fields, field}
 
 -- The bytes that stand for one byte of a text in JSON: `\"`, `\\` and the control characters with a letter of their own take two, each other control character six, as `\u001f`.
 abbrev pub has_short_escape : ℕ → Bool
@@ -43,6 +43,10 @@ binary_wrapper = 14
 abbrev pub escape_wrapper : ℕ
 escape_wrapper = 12
 
+-- `{"$type":`, `,"$value":` and `}`
+abbrev pub user_wrapper : ℕ
+user_wrapper = 20
+
 -- In brackets each element has a comma before it, in place of which the first has the opening bracket; an empty list or object has its two brackets alone.
 abbrev mutual
   pub size : Val → ℕ
@@ -55,6 +59,7 @@ abbrev mutual
   size (bytes s) = binary_wrapper + base64_size (length s)
   size (list vs) = max 2 (1 + vals_size vs)
   size (object fs) = (if is_special (names_of fs) then escape_wrapper else 0) + max 2 (1 + fields_size fs)
+  size (user name v) = user_wrapper + text_size name + size v
 
   pub vals_size : Vals → ℕ
   vals_size no_vals = 0

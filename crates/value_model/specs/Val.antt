@@ -1,5 +1,5 @@
--- The values of EJSON: those of JSON, with whole numbers alone, and dates and binary data beside them (the EJSON appendix of Meteor's DDP specification).
--- A text is the list of its UTF-8 bytes, and a date is its milliseconds since 1970.
+-- The values of EJSON: those of JSON, with whole numbers alone, and dates, binary data and values of user types beside them (the EJSON appendix of Meteor's DDP specification).
+-- A text is the list of its UTF-8 bytes, a date is its milliseconds since 1970, and a value of a user type is the type's name with the value that stands for it.
 use Rattle.std.specs.Prelude.{◌≡◌, ℕ, ℤ, Bool, List, [], ◌∷◌, refl}
 use Rattle.std.proofs.Common.{ap}
 
@@ -13,6 +13,7 @@ mutual
     bytes : List ℕ → Val
     list : Vals → Val
     object : Fields → Val
+    user : List ℕ → Val → Val
 
   -- the elements of a list
   pub data Vals : Type 0 where

@@ -1,8 +1,8 @@
--- What every value of the program keeps: numbers and dates of 53 bits and a sign, bytes below 256, the fields of an object by strictly rising name.
-use Rattle.std.specs.Prelude.{ℕ, ◌<◌, ℤ, pos, neg_ℤ, ◌≤ℤ◌, All}
+-- What every value of the program keeps: numbers and dates of 53 bits and a sign, bytes below 256, the fields of an object by strictly rising name, names of user types of 1 to 128 bytes.
+use Rattle.std.specs.Prelude.{ℕ, List, ◌<◌, ◌≤◌, length, ℤ, pos, neg_ℤ, ◌≤ℤ◌, All}
 use Rattle.std.specs.List.Sorted.{IsStrictlySortedBy}
 use Rattle.std.specs.Map.{keys_of}
-use Rattle.value_model.specs.Val.{Val, null, boolean, int, text, date, bytes, list, object, Vals, no_vals, val, Fields, no_fields, field, Entries, entries_of, fields_of}
+use Rattle.value_model.specs.Val.{Val, null, boolean, int, text, date, bytes, list, object, user, Vals, no_vals, val, Fields, no_fields, field, Entries, entries_of, fields_of}
 use Rattle.value_model.specs.Order.{text_cmp}
 
 -- the greatest whole number that a double holds together with each lesser one
@@ -12,6 +12,14 @@ max_whole = 9007199254740991
 pub record IsWhole (z : ℤ) : Type 0 where
   pub low : neg_ℤ (pos max_whole) ≤ℤ z
   pub high : z ≤ℤ pos max_whole
+
+-- the most bytes that the name of a user type has
+abbrev pub max_user_name : ℕ
+max_user_name = 128
+
+pub record IsUserName (name : List ℕ) : Type 0 where
+  pub some : 0 < length name
+  pub short : length name ≤ max_user_name
 
 -- the names of a document rise strictly, so that none stands twice
 abbrev pub HasRisingNames : Entries → Type 0
@@ -27,6 +35,7 @@ abbrev mutual
   IsValue (bytes s) = All (λ b. b < 256) s
   IsValue (list vs) = AreValues vs
   IsValue (object fs) = HasRisingNames (entries_of fs) × HaveValues fs
+  IsValue (user name v) = IsUserName name × IsValue v
 
   pub AreValues : Vals → Type 0
   AreValues no_vals = Unit {0}

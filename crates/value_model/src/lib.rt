@@ -22,16 +22,3 @@ pub fn comparing_is_antisymmetric()
 pub fn comparing_is_total()
     ensures { IsTotalOrder compare }
 {}
-
-#[cfg(test)]
-mod tests {
-    use super::{comparing_is_antisymmetric, comparing_is_total, only_equal_values_tie};
-
-    // Each law can be called.
-    #[test]
-    fn laws() {
-        only_equal_values_tie();
-        comparing_is_antisymmetric();
-        comparing_is_total();
-    }
-}

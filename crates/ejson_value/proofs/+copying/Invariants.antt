@@ -8,6 +8,9 @@ use Rattle.ejson_value.proofs.+copying.Given as goal
 abbrev pub decreases-copying::copy : goal.decreases-copying::copy
 decreases-copying::copy l = 2 * depth (view l.value.now)
 
+abbrev pub decreases-value::Boxed::copy : goal.decreases-value::Boxed::copy
+decreases-value::Boxed::copy l = 2 * depth l.self.now + 1
+
 abbrev pub decreases-value::Doc::copy : goal.decreases-value::Doc::copy
 decreases-value::Doc::copy l = 2 * fields_depth (fields_of l.self.now) + 1
 

@@ -16,6 +16,9 @@ decreases-fields_size l = 2 * fields_depth (fields_of l.doc.now) + 1
 abbrev pub decreases-items_size : goal.decreases-items_size
 decreases-items_size l = 2 * vals_depth (vals_of l.items.now) + 1
 
+abbrev pub decreases-user_size : goal.decreases-user_size
+decreases-user_size l = 2 * depth l.value.now + 1
+
 abbrev pub invariant-fields_size-loop-name : goal.invariant-fields_size-loop-name
 invariant-fields_size-loop-name l =
     (goal.iterator-fields_size-loop-name).can_next l.name-iterator ×
