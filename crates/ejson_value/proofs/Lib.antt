@@ -1,3 +1,4 @@
 pub mod Walks
 pub mod PutAll
 pub mod Branching
+pub mod Ranges

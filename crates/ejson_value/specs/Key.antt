@@ -12,6 +12,10 @@ use Rattle.value_model.specs.Order.{text_cmp}
 use Rattle.value_model.specs.OrderLaws.{then_ties}
 use Rattle.ejson_value.specs.declared.key.Key.{Key}
 
+-- names and texts go by their bytes, and only equal ones tie
+pub name_order : IsKeyOrder text_cmp
+name_order = record { total = nat_list_cmp_total; exact = exact_bytes }
+
 abbrev pub key_cmp : Key → Key → Ordering
 key_cmp a b = ordering_then (text_cmp a.collection b.collection) (text_cmp a.id b.id)
 

@@ -8,3 +8,4 @@ pub mod Changes
 pub mod ChangeLaws
 pub mod Messages
 pub mod Asking
+pub mod Results

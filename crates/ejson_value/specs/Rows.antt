@@ -1,5 +1,5 @@
 -- Contents as the rows of their documents, by rising key.
-use Rattle.std.specs.Prelude.{List, [], ◌∷◌, Bool, true, false, cond}
+use Rattle.std.specs.Prelude.{ℕ, List, filter, [], ◌∷◌, Bool, true, false, cond}
 use Rattle.std.specs.Coded.{Coded, coded×, coded_list}
 use Rattle.std.specs.declared.cmp.Ordering.TheVariants.{Less, Equal, Greater}
 use Rattle.std.specs.Ordering.{match_ordering}
@@ -8,6 +8,7 @@ use Rattle.std.specs.BTreeMap.{insert_entry}
 use Rattle.map_model.specs.Maps.{IsSorted}
 use Rattle.value_model.specs.Val.{Entries}
 use Rattle.value_model.specs.Valid.{IsDocument}
+use Rattle.value_model.specs.Size.{is_name}
 use Rattle.value_model.specs.Coding.{entries_code}
 use Rattle.ejson_value.specs.declared.key.Key.{Key}
 use Rattle.ejson_value.specs.Key.{key_cmp, key_code}
@@ -17,6 +18,10 @@ Rows = List (Key × Entries)
 
 abbrev pub rows_code : Coded Rows
 rows_code = coded_list (coded× key_code entries_code)
+
+-- the rows of one collection
+abbrev pub rows_of : List ℕ → Rows → Rows
+rows_of collection rows = filter (λ row. is_name row.0.collection collection) rows
 
 abbrev pub AreDocuments : Rows → Type 0
 AreDocuments [] = Unit {0}

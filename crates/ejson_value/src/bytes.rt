@@ -2,6 +2,7 @@
 ghost use Rattle.std.specs.Prelude.{◌≡◌, ◌<◌, ◌∷◌, ◌++◌, ◌==◌, [], length, All, Some, slice_get, IfOk, OnOk, OnErr};
 ghost use Rattle.std.specs.List.{remove};
 
+use crate::list::Copied;
 use crate::memory::Mem;
 use std::alloc::Global;
 use std::marker::Model;
@@ -102,5 +103,11 @@ impl Bytes {
         Ok(Bytes {
             items: Vec::from_slice(*self.items.allocator(), self.items.as_slice())?,
         })
+    }
+}
+
+impl Copied for Bytes {
+    fn copied(&self) -> Result<Bytes, Mem> {
+        self.copy()
     }
 }

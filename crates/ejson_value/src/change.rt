@@ -2,7 +2,7 @@
 ghost use Rattle.std.specs.Prelude.{◌≡◌, IfOk};
 
 use crate::key::Key;
-use crate::list::Copied;
+use crate::list::{Copied, copy_option};
 use crate::memory::Mem;
 use crate::value::Doc;
 
@@ -24,15 +24,6 @@ pub struct Publish {
     pub new: Option<Doc>,
 }
 
-pub(crate) fn copy_of(doc: &Option<Doc>) -> Result<Option<Doc>, Mem>
-    ensures { IfOk result (λ d. d ≡ doc.now) }
-{
-    match doc {
-        None => Ok(None),
-        Some(doc) => Ok(Some(doc.copy()?)),
-    }
-}
-
 impl Change {
     /// A change equal to this one.
     pub fn copy(&self) -> Result<Change, Mem>
@@ -40,8 +31,8 @@ impl Change {
     {
         Ok(Change {
             key: self.key.copy()?,
-            before: copy_of(&self.before)?,
-            after: copy_of(&self.after)?,
+            before: copy_option(&self.before)?,
+            after: copy_option(&self.after)?,
         })
     }
 }
@@ -53,7 +44,7 @@ impl Publish {
     {
         Ok(Publish {
             key: self.key.copy()?,
-            new: copy_of(&self.new)?,
+            new: copy_option(&self.new)?,
         })
     }
 }

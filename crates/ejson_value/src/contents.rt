@@ -1,17 +1,19 @@
 //! Contents: documents by collection and id, and changes of them.
-ghost use Rattle.std.specs.Prelude.{◌≡◌, ◌==◌, [], length, Some, None, IsSome, IfOk, OnOk, OnErr};
+ghost use Rattle.std.specs.Prelude.{◌≡◌, ◌==◌, ◌++◌, ◌∷◌, [], length, Some, None, IsSome, IfOk, OnOk, OnErr};
 ghost use Rattle.std.specs.Option.{option_copied};
 ghost use Rattle.std.specs.Map.{keys_of};
 ghost use Rattle.map_model.specs.Maps.{at, set, IsSorted};
 ghost use Rattle.ejson_value.specs.Key.{key_cmp};
-ghost use Rattle.ejson_value.specs.Rows.{Rows, AreRows};
+ghost use Rattle.ejson_value.specs.Rows.{Rows, AreRows, rows_of};
 
 use crate::key::Key;
+use crate::list::Copied;
 use crate::memory::Mem;
+use crate::text::Text;
 use crate::value::Doc;
 use std::alloc::Global;
 use std::collections::BTreeMap;
-use std::collections::btree_map::Iter;
+use std::collections::btree_map::{Iter, Range};
 use std::default::Emptied;
 use std::marker::Model;
 
@@ -33,6 +35,29 @@ impl Model for Contents {
     ghost view = { λ a. a.docs.entries };
 
     ghost invariant = { λ a. AreRows a.docs.entries };
+}
+
+// The least key that a document of the collection can have.
+fn first_key(collection: &Text) -> Result<Key, Mem>
+    ensures { IfOk result (λ key. key ≡ record { collection = collection.now; id = [] }) }
+{
+    Ok(Key {
+        collection: collection.copy()?,
+        id: collection.emptied(),
+    })
+}
+
+// The least key behind all that documents of the collection can have: no text stands between a text
+// and the same with a zero byte at its end.
+fn key_behind(collection: &Text) -> Result<Key, Mem>
+    ensures { IfOk result (λ key. key ≡ record { collection = collection.now ++ 0 ∷ []; id = [] }) }
+{
+    let mut next = collection.copy()?;
+    next.push('\0')?;
+    Ok(Key {
+        collection: next,
+        id: collection.emptied(),
+    })
 }
 
 impl Contents {
@@ -103,6 +128,16 @@ impl Contents {
         self.docs.iter()
     }
 
+    /// The documents of this collection, by rising id. It looks at those of no other collection.
+    pub fn of_collection(&self, collection: &Text) -> Result<Range<'_, Key, Doc>, Mem>
+        ensures all { IfOk result (λ rows. rows ≡ rows_of collection.now self.now) }
+        ensures ordered { IfOk result (IsSorted key_cmp) }
+    {
+        let first = first_key(collection)?;
+        let behind = key_behind(collection)?;
+        Ok(self.docs.range(first..behind))
+    }
+
     /// Tells a proof what contents keep; it does nothing.
     pub fn known(&self)
         ensures { AreRows self.now }
@@ -121,5 +156,11 @@ impl Contents {
             copies.put(key.copy()?, doc.copy()?)?;
         }
         Ok(copies)
+    }
+}
+
+impl Copied for Contents {
+    fn copied(&self) -> Result<Contents, Mem> {
+        self.copy()
     }
 }

@@ -2,6 +2,7 @@
 ghost use Rattle.std.specs.Prelude.{◌≡◌, IfOk};
 ghost use Rattle.ejson_value.specs.View.{view};
 
+use crate::list::Copied;
 use crate::memory::Mem;
 use crate::value::{Boxed, Doc, Items, Value};
 
@@ -61,5 +62,23 @@ impl Doc {
             copies.put(name.copy()?, copy(value)?)?;
         }
         Ok(copies)
+    }
+}
+
+impl Copied for Items {
+    fn copied(&self) -> Result<Items, Mem> {
+        self.copy()
+    }
+}
+
+impl Copied for Doc {
+    fn copied(&self) -> Result<Doc, Mem> {
+        self.copy()
+    }
+}
+
+impl Copied for Boxed {
+    fn copied(&self) -> Result<Boxed, Mem> {
+        self.copy()
     }
 }

@@ -1,6 +1,7 @@
 //! Errors that a client is told.
 ghost use Rattle.std.specs.Prelude.{◌≡◌, IfOk};
 
+use crate::list::Copied;
 use crate::memory::Mem;
 use crate::text::Text;
 
@@ -21,5 +22,11 @@ impl Fault {
             code: self.code.copy()?,
             reason: self.reason.copy()?,
         })
+    }
+}
+
+impl Copied for Fault {
+    fn copied(&self) -> Result<Fault, Mem> {
+        self.copy()
     }
 }

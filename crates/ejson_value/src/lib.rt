@@ -15,6 +15,7 @@ mod message;
 mod order;
 mod path;
 mod put_all;
+mod sort;
 mod text;
 mod user;
 mod value;
@@ -27,12 +28,13 @@ pub use contents::Contents;
 pub use copying::copy;
 pub use fault::Fault;
 pub use key::Key;
-pub use list::{Copied, ListOf};
+pub use list::{Copied, ListOf, copy_option};
 pub use measure::{depth, size};
 pub use memory::Mem;
 pub use message::DataMsg;
 pub use order::{compare, kind, same};
 pub use path::{Part, Path, PathFault};
+pub use sort::SortKey;
 pub use text::Text;
 pub use user::{MAX_USER_NAME, UserName};
 pub use value::{Boxed, Doc, Items, Value};
@@ -44,6 +46,9 @@ pub type Names = ListOf<Text>;
 /// Keys of documents.
 pub type Keys = ListOf<Key>;
 
+/// Keys to sort by, the first that tells two documents apart deciding.
+pub type SortKeys = ListOf<SortKey>;
+
 /// Changes of contents, in order.
 pub type Changes = ListOf<Change>;
 
@@ -52,6 +57,3 @@ pub type Publishes = ListOf<Publish>;
 
 /// Messages about documents, in order.
 pub type DataList = ListOf<DataMsg>;
-
-#[cfg(test)]
-mod tests;

@@ -93,3 +93,19 @@ impl<T: Copied> ListOf<T> {
         Ok(copies)
     }
 }
+
+impl<T: Copied> Copied for ListOf<T> {
+    fn copied(&self) -> Result<ListOf<T>, Mem> {
+        self.copy()
+    }
+}
+
+/// A copy of what there may be.
+pub fn copy_option<T: Copied>(item: &Option<T>) -> Result<Option<T>, Mem>
+    ensures { IfOk result (λ copy. copy ≡ item.now) }
+{
+    match item {
+        None => Ok(None),
+        Some(item) => Ok(Some(item.copied()?)),
+    }
+}

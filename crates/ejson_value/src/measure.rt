@@ -140,7 +140,9 @@ pub fn size(value: &Value) -> u64
 fn user_size(name: &UserName, value: &Boxed) -> u64
     ensures { result ≡ capped (user_wrapper + text_size name.now + size value.now) }
 {
-    text_size(name.get()).saturating_add(size(value.get())).saturating_add(20)
+    text_size(name.get())
+        .saturating_add(size(value.get()))
+        .saturating_add(20)
 }
 
 #[cycle(measuring)]

@@ -49,8 +49,16 @@ pub fn compare(a: &Value, b: &Value) -> Ordering
         (Value::Bytes(a), Value::Bytes(b)) => compare_bytes(a, b),
         (Value::Bool(a), Value::Bool(b)) => a.cmp(b),
         (Value::Date(a), Value::Date(b)) => a.get().cmp(&b.get()),
-        (Value::User { name, value }, Value::User { name: other_name, value: other }) => {
-            name.get().cmp(other_name.get()).then(compare(value.get(), other.get()))
+        (
+            Value::User { name, value },
+            Value::User {
+                name: other_name,
+                value: other,
+            },
+        ) => {
+            name.get()
+                .cmp(other_name.get())
+                .then(compare(value.get(), other.get()))
         }
         _ => kind(a).cmp(&kind(b)),
     }

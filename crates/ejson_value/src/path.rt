@@ -4,6 +4,7 @@ ghost use Rattle.std.specs.Str.{all_ascii_digits};
 ghost use Rattle.std.specs.List.{list_all};
 ghost use Rattle.value_model.specs.Branches.{parts_of, is_path, path_of, has_plain_digits, position_of};
 
+use crate::list::Copied;
 use crate::memory::Mem;
 use crate::text::Text;
 use std::alloc::Global;
@@ -179,6 +180,7 @@ impl Path {
         self.parts.as_slice()
     }
 
+    /// A path equal to this one.
     pub fn copy(&self) -> Result<Path, Mem>
         ensures { IfOk result (λ path. path ≡ self.now) }
     {
@@ -190,40 +192,8 @@ impl Path {
     }
 }
 
-#[cfg(test)]
-mod tests {
-    use super::*;
-    use std::test::Fail;
-
-    #[test]
-    fn reads_and_copies_paths(rt: HostRuntime) -> Result<(), Fail> {
-        let long = "a.a.a.a.a.a.a.a.a.a.a.a.a.a.a.a.a.a.a.a.a.a.a.a.a.a.a.a.a.a.a.a";
-        for (written, parts) in [
-            ("a", 1),
-            ("a.0.b", 3),
-            (" .$x.", 0),
-            ("", 0),
-            (".", 0),
-            ("a..b", 0),
-            (long, 32),
-        ] {
-            let text = Text::from_str(rt.alloc(), written)?;
-            let read = match Path::read(rt.alloc(), &text) {
-                Ok(path) => path.copy()?.parts().len(),
-                Err(_) => 0,
-            };
-            assert_eq!(rt; read, parts, "at {written}");
-        }
-        for (name, place) in [
-            ("0", Some(0)),
-            ("00", None),
-            ("10", Some(10)),
-            ("+1", None),
-            ("1a", None),
-            ("18446744073709551616", None),
-        ] {
-            assert_eq!(rt; position(name), place, "at {name}");
-        }
-        Ok(())
+impl Copied for Path {
+    fn copied(&self) -> Result<Path, Mem> {
+        self.copy()
     }
 }

@@ -9,9 +9,9 @@ ghost use Rattle.ejson_value.specs.Key.{key_cmp};
 ghost use Rattle.ejson_value.specs.Changes.{changes_of, has_new};
 
 use crate::Changes;
-use crate::change::copy_of;
 use crate::contents::Contents;
 use crate::key::Key;
+use crate::list::copy_option;
 use crate::memory::Mem;
 use crate::value::Doc;
 use std::collections::BTreeMap;
@@ -22,7 +22,7 @@ fn plan_of(changes: &Changes) -> Result<BTreeMap<Key, Option<Doc>>, Mem>
 {
     let mut plan = BTreeMap::new(changes.allocator());
     for change in changes.as_slice() {
-        drop(plan.insert(change.key.copy()?, copy_of(&change.after)?)?);
+        drop(plan.insert(change.key.copy()?, copy_option(&change.after)?)?);
     }
     Ok(plan)
 }

@@ -46,6 +46,13 @@ impl Text {
         })
     }
 
+    /// An empty text beside this one, of the same allocator.
+    pub(crate) fn emptied(&self) -> Text
+        ensures { result ≡ [] }
+    {
+        Text::new(*self.inner.allocator())
+    }
+
     /// The text of a string, with no copy.
     pub fn from_string(inner: String) -> Text
         ensures { result ≡ string_bytes inner }

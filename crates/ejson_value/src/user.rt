@@ -2,6 +2,7 @@
 ghost use Rattle.std.specs.Prelude.{◌≡◌, ◌↔◌, IsOk, IfOk, IfErr};
 ghost use Rattle.value_model.specs.Valid.{IsUserName};
 
+use crate::list::Copied;
 use crate::memory::Mem;
 use crate::text::Text;
 use std::marker::Model;
@@ -56,5 +57,11 @@ impl UserName {
         Ok(UserName {
             text: self.text.copy()?,
         })
+    }
+}
+
+impl Copied for UserName {
+    fn copied(&self) -> Result<UserName, Mem> {
+        self.copy()
     }
 }

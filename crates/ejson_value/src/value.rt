@@ -35,10 +35,7 @@ pub enum Value {
     List(Items),
     Object(Doc),
     /// A value of a user type: the type's name, and the value that stands for it.
-    User {
-        name: UserName,
-        value: Boxed,
-    },
+    User { name: UserName, value: Boxed },
 }
 
 /// One value on the heap. A contract sees it as that value.

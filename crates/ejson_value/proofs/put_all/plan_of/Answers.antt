@@ -8,5 +8,5 @@ pub loop-change-preserved : goal.loop-change-preserved
 loop-change-preserved c = λ k.
     let plan = c.loop-change.plan.entries in
     let change = c.change-item.result in
-    let made = c.in_ok-insert.ensures.entries ∙ (ap (λ q. insert_entry key_cmp plan q c.in_ok-copy_of.field-0) c.in_ok-copy.ensures ∙ ap (insert_entry key_cmp plan change.key) c.in_ok-copy_of.ensures) in
+    let made = c.in_ok-insert.ensures.entries ∙ (ap (λ q. insert_entry key_cmp plan q c.in_ok-copy_option.field-0) c.in_ok-copy.ensures ∙ ap (insert_entry key_cmp plan change.key) c.in_ok-copy_option.ensures) in
     one_planned c.as_slice-change-items.result.now c.loop-change.change-index change plan c.insert.new.self.entries c.change-item.is c.loop-change-test.true made k ∙ c.loop-change.invariant k

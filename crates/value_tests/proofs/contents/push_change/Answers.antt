@@ -4,7 +4,7 @@ use Rattle.map_model.specs.Maps.{at}
 use Rattle.ejson_value.specs.Key.{key_cmp}
 use Rattle.ejson_value.specs.declared.change.Change.{Change}
 use Rattle.ejson_value.specs.ChangeLaws.{AllFit}
-use Rattle.ejson_value.proofs.tests.push_change.Goals as goal
+use Rattle.value_tests.proofs.contents.push_change.Goals as goal
 
 pub returns : goal.returns
 returns c =

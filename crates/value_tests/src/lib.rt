@@ -1,0 +1,9 @@
+//! Tests of values, texts, documents and contents in memory.
+#![tactic(auto)]
+
+#[cfg(test)]
+mod contents;
+#[cfg(test)]
+mod edits;
+#[cfg(test)]
+mod values;
