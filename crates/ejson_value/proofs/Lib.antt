@@ -2,3 +2,4 @@ pub mod Walks
 pub mod PutAll
 pub mod Branching
 pub mod Ranges
+pub mod Places

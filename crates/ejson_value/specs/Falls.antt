@@ -1,15 +1,14 @@
 -- The parts of a value lie less deep than the value.
-use Rattle.std.specs.Prelude.{ℕ, suc, ◌≤◌, List, [], ◌∷◌}
+use Rattle.std.specs.Prelude.{suc, ◌≤◌, List, [], ◌∷◌}
 use Rattle.std.proofs.Common.{arith}
-use Rattle.std.specs.BTreeMap.{BTreeMap, values}
-use Rattle.std.specs.Map.{values_of}
 use denote.Param.Weighed.{most}
 use Rattle.value_model.specs.Val.{vals_of, fields_of}
 use Rattle.value_model.specs.Depth.{depth, vals_depth, fields_depth}
 use Rattle.ejson_value.specs.declared.value.Value.{Value}
 use Rattle.ejson_value.specs.declared.value.Value.TheVariants as shape
-use Rattle.ejson_value.specs.declared.value.Boxed.TheDeep.{deep-Value}
-use Rattle.ejson_value.specs.View.{view, views, entries}
+use Rattle.ejson_value.specs.declared.value.Member.{Member}
+use Rattle.ejson_value.specs.declared.value.Boxed.TheDeep.{deep-Value, deep-Member}
+use Rattle.ejson_value.specs.View.{view, views, pairs, entries}
 
 pub deep_le : (v : Value) → deep-Value v ≤ suc (depth (view v))
 deep_le shape.Null = omega arith
@@ -26,9 +25,6 @@ pub most_le-depth : (vs : List Value) → most (λ v. deep-Value v) vs ≤ suc (
 most_le-depth [] = omega arith
 most_le-depth (v ∷ vs) = omega (arith, deep_le v, most_le-depth vs)
 
-most_le_entries : (es : List (List ℕ × Value)) → most deep-Value (values_of es) ≤ suc (fields_depth (fields_of (entries es)))
-most_le_entries [] = omega arith
-most_le_entries (e ∷ es) = omega (arith, deep_le e.1, most_le_entries es)
-
-pub most_le-fields_depth : (m : BTreeMap (List ℕ) Value) → most deep-Value (values m) ≤ suc (fields_depth (fields_of (entries m.entries)))
-most_le-fields_depth m = most_le_entries m.entries
+pub most_le-fields_depth : (ms : List Member) → most (λ m. deep-Member m) ms ≤ suc (fields_depth (fields_of (entries (pairs ms))))
+most_le-fields_depth [] = omega arith
+most_le-fields_depth (m ∷ ms) = omega (arith, deep_le m.value, most_le-fields_depth ms)

@@ -9,3 +9,5 @@ pub mod ChangeLaws
 pub mod Messages
 pub mod Asking
 pub mod Results
+pub mod Code
+pub mod Places

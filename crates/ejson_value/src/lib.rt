@@ -37,7 +37,7 @@ pub use path::{Part, Path, PathFault};
 pub use sort::SortKey;
 pub use text::Text;
 pub use user::{MAX_USER_NAME, UserName};
-pub use value::{Boxed, Doc, Items, Value};
+pub use value::{Boxed, Doc, Fields, Items, Value};
 pub use whole::Whole;
 
 /// Names, as of fields or of collections.

@@ -1,7 +1,9 @@
 //! Values, lists of values and documents.
-ghost use Rattle.std.specs.Prelude.{◌≡◌, ◌∷◌, ◌++◌, ◌==◌, ◌<◌, [], length, map, Some, option_map, slice_get, slice_set, IfOk, OnOk, OnErr};
+ghost use Rattle.std.specs.Prelude.{◌≡◌, ◌∷◌, ◌++◌, ◌==◌, ◌<◌, [], length, map, Some, option_map, slice_get, slice_set, IfOk, IfErr, OnOk, OnErr, IsTrue};
 ghost use Rattle.std.specs.List.{remove as remove_item};
-ghost use Rattle.std.specs.List.Sorted.{IsStrictlySortedBy};
+ghost use Rattle.std.specs.List.Sorted.{IsStrictlySortedBy, IsSearchInRange};
+ghost use Rattle.map_model.specs.Orders.{IsAbove};
+ghost use Rattle.ejson_value.specs.Places.{name_at, IsGapFor};
 ghost use Rattle.std.specs.Map.{keys_of};
 ghost use Rattle.value_model.specs.Val.{vals_of, fields_of};
 ghost use Rattle.value_model.specs.Valid.{IsValue, AreValues, IsDocument};
@@ -15,11 +17,10 @@ use crate::text::Text;
 use crate::user::UserName;
 use crate::whole::Whole;
 use std::alloc::Global;
-use std::collections::BTreeMap;
-use std::collections::btree_map::Iter;
-use std::default::Emptied;
+use std::iter::Iterator;
 use std::marker::Model;
 use std::mem;
+use std::slice::Iter;
 
 /// A value of EJSON (the appendix on EJSON of Meteor's DDP.md). A contract sees it by `view`.
 #[derive(Debug, Drop)]
@@ -56,7 +57,22 @@ pub struct Items {
 #[derive(Debug, Drop)]
 #[cycle(value)]
 pub struct Doc {
-    fields: BTreeMap<Text, Value>,
+    // By rising name.
+    fields: Vec<Member>,
+}
+
+// One field of a document.
+#[derive(Debug, Drop)]
+#[cycle(value)]
+struct Member {
+    name: Text,
+    value: Value,
+}
+
+/// The fields of a document by rising name, one after another. A contract sees those that are left.
+#[derive(Drop)]
+pub struct Fields<'a> {
+    members: Iter<'a, Member>,
 }
 
 impl Model for Boxed {
@@ -122,17 +138,49 @@ impl Model for Doc {
 
     ghost use Rattle.value_model.specs.Depth.{fields_depth};
     ghost use Rattle.value_model.specs.Valid.{IsDocument};
-    ghost use Rattle.ejson_value.specs.View.{entries};
+    ghost use Rattle.ejson_value.specs.View.{entries, pairs};
 
-    ghost view = { λ a. entries a.fields.entries };
+    ghost view = { λ a. entries (pairs a.fields.items) };
 
-    ghost invariant = { λ a. IsDocument (entries a.fields.entries) };
+    ghost invariant = { λ a. IsDocument (entries (pairs a.fields.items)) };
 
     ghost size = { λ es. suc (fields_depth (fields_of es)) };
 
     ghost use Rattle.ejson_value.specs.Falls.{most_le-fields_depth};
 
-    ghost size_decreases = { λ a h. Prim.omega (arith, most_le-fields_depth a.fields) };
+    ghost size_decreases = { λ a h. Prim.omega (arith, most_le-fields_depth a.fields.items) };
+}
+
+impl<'a> Model for Fields<'a> {
+    ghost use Rattle.ejson_value.specs.Code.{Pairs, pairs_code};
+
+    ghost Value = { Pairs };
+
+    ghost coded = { pairs_code };
+
+    ghost use Rattle.std.specs.Slice.Iter.{iter_rest};
+    ghost use Rattle.ejson_value.specs.View.{pairs};
+
+    ghost view = { λ a. pairs (iter_rest a.members) };
+}
+
+impl<'a> Iterator for Fields<'a> {
+    type Item = (&'a Text, &'a Value);
+
+    ghost use Rattle.std.specs.Prelude.{length};
+    ghost use Rattle.std.specs.Iterator.{at_most};
+    ghost use Rattle.std.specs.Map.Iter.{TakesFirst, deref_pair};
+
+    ghost next_gives = { TakesFirst deref_pair };
+
+    ghost remaining = { λ s. at_most (length s) };
+
+    fn next(&mut self) -> Option<(&'a Text, &'a Value)> {
+        match self.members.next() {
+            None => None,
+            Some(member) => Some((&member.name, &member.value)),
+        }
+    }
 }
 
 impl Items {
@@ -273,8 +321,17 @@ impl Doc {
         ensures { result ≡ [] }
     {
         Doc {
-            fields: BTreeMap::new(alloc),
+            fields: Vec::new(alloc),
         }
+    }
+
+    // An empty document of the same allocator, with room for as many fields as this one has.
+    pub(crate) fn emptied(&self) -> Result<Doc, Mem>
+        ensures { IfOk result (λ doc. doc ≡ []) }
+    {
+        Ok(Doc {
+            fields: Vec::with_capacity(*self.fields.allocator(), self.fields.len())?,
+        })
     }
 
     /// How many fields it has.
@@ -295,7 +352,43 @@ impl Doc {
     pub fn get(&self, name: &Text) -> Option<&Value>
         ensures { option_map (λ v. view v.now) result ≡ get self.now name.now }
     {
-        self.fields.get(name)
+        match self.place(name) {
+            Ok(place) => Some(&self.fields[place].value),
+            Err(_) => None,
+        }
+    }
+
+    // Whether the name is behind all names of the document.
+    fn is_behind(&self, name: &Text) -> bool
+        ensures { IsTrue result → IsAbove text_cmp name.now (keys_of self.now) }
+    {
+        match self.fields.last() {
+            None => true,
+            Some(last) => last.name < *name,
+        }
+    }
+
+    // Where the field of this name stands, or else where it would.
+    fn place(&self, name: &Text) -> Result<usize, usize>
+        ensures bound { IsSearchInRange result (length self.now) }
+        ensures found { IfOk result (λ place. name_at self.now place ≡ Some name.now) }
+        ensures gap { IfErr result (IsGapFor self.now name.now) }
+    {
+        if self.is_behind(name) {
+            return Err(self.fields.len());
+        }
+        self.fields.binary_search_by(|member| member.name.cmp(name))
+    }
+
+    // Makes room for one more field, where there is none for twice as many.
+    fn make_room(&mut self) -> Result<(), Mem>
+        ensures { self.new ≡ self.old }
+    {
+        let len = self.fields.len();
+        if len == self.fields.capacity() {
+            self.fields.reserve_exact(len.max(1))?;
+        }
+        Ok(())
     }
 
     /// Puts the value as the field of this name, in place of one that is there.
@@ -303,8 +396,33 @@ impl Doc {
         ensures ok { OnOk result (self.new ≡ put self.old name (view value)) }
         ensures err { OnErr result (self.new ≡ self.old) }
     {
+        match self.place(&name) {
+            Ok(place) => {
+                self.write_at(place, name, value);
+                Ok(())
+            }
+            Err(place) => self.insert_at(place, name, value),
+        }
+    }
+
+    // Puts the value in place of that of the field of this name, which stands at this place.
+    fn write_at(&mut self, place: usize, name: Text, value: Value)
+        requires { name_at self.old place ≡ Some name }
+        ensures { self.new ≡ put self.old name (view value) }
+    {
         value.known();
-        drop(self.fields.insert(name, value)?);
+        drop(mem::replace(&mut self.fields[place], Member { name, value }));
+    }
+
+    // Puts a new field at the gap for it.
+    fn insert_at(&mut self, place: usize, name: Text, value: Value) -> Result<(), Mem>
+        requires { IsGapFor self.old name place }
+        ensures ok { OnOk result (self.new ≡ put self.old name (view value)) }
+        ensures err { OnErr result (self.new ≡ self.old) }
+    {
+        value.known();
+        self.make_room()?;
+        self.fields.insert(place, Member { name, value })?;
         Ok(())
     }
 
@@ -313,24 +431,24 @@ impl Doc {
         ensures value { option_map view result ≡ get self.old name.now }
         ensures removed { self.new ≡ remove self.old name.now }
     {
-        self.fields.remove(name)
+        match self.place(name) {
+            Ok(place) => {
+                let Member { name, value } = self.fields.remove(place);
+                drop(name);
+                Some(value)
+            }
+            Err(_) => None,
+        }
     }
 
     /// The fields by rising name.
-    pub fn iter(&self) -> Iter<'_, Text, Value>
+    pub fn iter(&self) -> Fields<'_>
         ensures all { entries result ≡ self.now }
         ensures ordered { IsStrictlySortedBy text_cmp (keys_of result) }
     {
-        self.fields.iter()
-    }
-
-    /// An empty document beside this one, of the same allocator.
-    pub(crate) fn emptied(&self) -> Result<Doc, Mem>
-        ensures { IfOk result (λ doc. doc ≡ []) }
-    {
-        Ok(Doc {
-            fields: BTreeMap::emptied(&self.fields)?,
-        })
+        Fields {
+            members: self.fields.iter(),
+        }
     }
 
     /// Tells a proof what the document keeps; it does nothing.

@@ -1,10 +1,9 @@
-use Rattle.std.proofs.Common.{◌≡◌, false, ap, ap₂, sym, subst, ◌∙◌}
+use Rattle.std.proofs.Common.{ap₂, sym, subst, ◌∙◌}
 use Rattle.std.specs.Ordering.{is_gt}
 use Rattle.std.specs.declared.ops.Bound.TheVariants.{Included, Excluded}
 use Rattle.std.specs.BTreeMap.Range.{entries_between}
 use Rattle.map_model.specs.Maps.{IsSorted}
 use Rattle.ejson_value.specs.Key.{key_cmp}
-use Rattle.ejson_value.specs.Rows.{rows_of}
 use Rattle.ejson_value.proofs.Ranges.{forward, between_is, sorted-rows_of}
 use Rattle.ejson_value.proofs.contents.Contents.of_collection.Goals as goal
 

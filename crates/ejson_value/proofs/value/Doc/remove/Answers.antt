@@ -1,25 +1,27 @@
-use Rattle.std.proofs.Common.{subst, sym, ap, ◌∙◌, option_map}
-use Rattle.std.specs.BTreeMap.{is_at}
-use Rattle.std.specs.List.Sorted.{IsStrictlySortedBy}
-use Rattle.value_model.specs.Val.{fields_of}
-use Rattle.value_model.specs.Valid.{HaveValues}
-use Rattle.value_model.specs.ValidLaws.{HaveValues-remove}
-use Rattle.value_model.specs.Order.{text_cmp}
-use Rattle.ejson_value.specs.View.{view, entries}
-use Rattle.ejson_value.specs.Entries.{lookup-entries, entries-remove, keys_of-entries}
+use Rattle.std.proofs.Common.{subst, sym, ap, ◌∙◌}
+use Rattle.value_model.specs.Valid.{IsDocument}
+use Rattle.ejson_value.specs.View.{pairs, entries}
+use Rattle.ejson_value.proofs.Places.{got, gap_get, gap_remove, remove_is_remove, IsDocument-remove}
 use Rattle.ejson_value.proofs.value.Doc.remove.Goals as goal
 
 pub invariant_of-self : goal.invariant_of-self
 invariant_of-self c =
-    let test = is_at (text_cmp c.args.name.now) in
-    let same = ap entries c.remove.ensures.entries ∙ entries-remove test c.self.inside.fields.entries in
-    record {
-      names = subst (IsStrictlySortedBy text_cmp) (sym (keys_of-entries c.remove.new.self.entries)) c.remove.ensures.ordered;
-      values = subst (λ es. HaveValues (fields_of es)) (sym same) (HaveValues-remove test _ c.self.invariant.values);
-    }
+    let is = rw (← c.self.view_is) at c.in-Ok.ensures.found in
+    let same = ap (λ ms. entries (pairs ms)) c.remove-name.ensures.items ∙ remove_is_remove c.args.name.now c.self.inside.fields.items c.in-Ok.place c.self.invariant.names is in
+    subst IsDocument (sym same) (IsDocument-remove _ c.args.name.now c.self.invariant)
 
-pub returns-clause-value : goal.returns-clause-value
-returns-clause-value c = rw (← c.self.view_is) (ap (λ o. option_map view o) c.remove.ensures.value ∙ sym (lookup-entries (is_at (text_cmp c.args.name.now)) c.self.inside.fields.entries))
+pub returns-in-Ok-clause-value : goal.returns-in-Ok-clause-value
+returns-in-Ok-clause-value c =
+    let is = rw (← c.self.view_is) at c.in-Ok.ensures.found in
+    rw (← c.self.view_is) (sym (got c.args.name.now c.self.inside.fields.items c.in-Ok.place c.remove-name.result c.self.invariant.names is c.remove-name.ensures.value))
 
-pub returns-clause-removed : goal.returns-clause-removed
-returns-clause-removed c = rw (← c.self.view_is) (ap entries c.remove.ensures.entries ∙ entries-remove (is_at (text_cmp c.args.name.now)) c.self.inside.fields.entries)
+pub returns-in-Ok-clause-removed : goal.returns-in-Ok-clause-removed
+returns-in-Ok-clause-removed c =
+    let is = rw (← c.self.view_is) at c.in-Ok.ensures.found in
+    rw (← c.self.view_is) (ap (λ ms. entries (pairs ms)) c.remove-name.ensures.items ∙ remove_is_remove c.args.name.now c.self.inside.fields.items c.in-Ok.place c.self.invariant.names is)
+
+pub returns-in-Err-clause-value : goal.returns-in-Err-clause-value
+returns-in-Err-clause-value c = sym (gap_get c.args.name.now c.args.self.now c.in-Err.field-0 c.in-Err.ensures.gap)
+
+pub returns-in-Err-clause-removed : goal.returns-in-Err-clause-removed
+returns-in-Err-clause-removed c = sym (gap_remove c.args.name.now c.args.self.now c.in-Err.field-0 c.in-Err.ensures.gap)
