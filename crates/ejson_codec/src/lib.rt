@@ -19,5 +19,3 @@ pub use writing::write;
 /// Texts, one for each line.
 pub type Lines = ListOf<Text>;
 
-#[cfg(test)]
-mod tests;

@@ -1,7 +1,8 @@
 //! Reading JSON trees.
-ghost use Rattle.std.specs.Prelude.{◌≡◌, ℕ, ◌≤◌, Ok, IfOk, MatchOption};
+ghost use Rattle.std.specs.Prelude.{◌≡◌, ℕ, ◌≤◌, Ok, IfOk, OnOk, MatchOption};
 ghost use Rattle.serde_json.specs.View.{view as json_view, number_view, items_view, members_view};
 ghost use Rattle.value_model.specs.Val.{Val};
+ghost use Rattle.value_model.specs.Doc.{put};
 ghost use Rattle.value_model.specs.Depth.{depth};
 ghost use Rattle.ejson_value.specs.View.{view};
 ghost use Rattle.ejson_codec.specs.Shape.{first_of};
@@ -12,7 +13,7 @@ ghost use Rattle.serde_json.specs.Data.{null, object as json_object};
 use crate::base64_text::decoded;
 use crate::fault::{EjsonFault, ReadFault};
 use crate::shape::{Shape, of_members};
-use ejson_value::{Doc, Items, Text, Value, Whole};
+use ejson_value::{Doc, Items, Mem, Text, Value, Whole};
 use serde_json::{Map, Number, Value as Json};
 use std::alloc::Global;
 
@@ -77,6 +78,13 @@ fn binary(alloc: Global, tree: &Json) -> Result<Value, ReadFault>
         },
         _ => Err(ReadFault::Ejson(EjsonFault::BadBinary)),
     }
+}
+
+// Puts the value at the key.
+fn put_field(alloc: Global, doc: &mut Doc, key: &str, value: Value) -> Result<(), Mem>
+    ensures { OnOk result (doc.new ≡ put doc.old key.now (view value)) }
+{
+    doc.put(Text::from_str(alloc, key)?, value)
 }
 
 // A tree, with so many levels left.
@@ -153,8 +161,7 @@ fn fields(alloc: Global, levels: u8, members: &Map<String, Json>) -> Result<Doc,
     }
     let mut doc = Doc::new(alloc);
     for (key, tree) in members {
-        let found = value(alloc, levels - 1, tree)?;
-        doc.put(Text::from_str(alloc, key.as_str())?, found)?;
+        put_field(alloc, &mut doc, key.as_str(), value(alloc, levels - 1, tree)?)?;
     }
     Ok(doc)
 }

@@ -6,7 +6,7 @@ ghost use Rattle.ejson_codec.specs.Shape.{keys_of_members, shape_of, shape_of_on
 use serde_json::{Map, Value as Json};
 
 /// What an object stands for, by the exact set of its keys.
-#[derive(Clone, Copy, Debug, PartialEq, Eq)]
+#[derive(Clone, Copy)]
 pub(crate) enum Shape {
     Plain,
     Date,

@@ -1,5 +1,5 @@
 //! Writing JSON trees.
-ghost use Rattle.std.specs.Prelude.{◌≡◌, IfOk, OnOk, OnErr, string_bytes, List, ℕ};
+ghost use Rattle.std.specs.Prelude.{◌≡◌, IfOk, OnOk, OnErr, List, ℕ};
 ghost use Rattle.serde_json.specs.Data.{Data, number, put};
 ghost use Rattle.serde_json.specs.Find.{of_integer};
 ghost use Rattle.serde_json.specs.View.{view as json_view, items_view, members_view};
@@ -35,11 +35,16 @@ fn whole(integer: &Whole) -> Json
     Json::Number(Number::from(integer.get()))
 }
 
-// Puts the tree at the key.
-fn put_member(members: &mut Map<String, Json>, key: String, tree: Json) -> Result<(), Mem>
-    ensures { OnOk result (members_view members.new.entries ≡ put (string_bytes key) (json_view tree) (members_view members.old.entries)) }
+/// Puts the tree at the key.
+pub fn put_member(
+    alloc: Global,
+    members: &mut Map<String, Json>,
+    key: &str,
+    tree: Json,
+) -> Result<(), Mem>
+    ensures { OnOk result (members_view members.new.entries ≡ put key.now (json_view tree) (members_view members.old.entries)) }
 {
-    drop(members.insert(key, tree)?);
+    drop(members.insert(String::from_str(alloc, key)?, tree)?);
     Ok(())
 }
 
@@ -48,7 +53,7 @@ fn object_of(alloc: Global, key: &str, tree: Json) -> Result<Json, Mem>
     ensures { IfOk result (λ object. json_view object ≡ alone key.now (json_view tree)) }
 {
     let mut members = Map::new(alloc);
-    put_member(&mut members, String::from_str(alloc, key)?, tree)?;
+    put_member(alloc, &mut members, key, tree)?;
     Ok(Json::Object(members))
 }
 
@@ -102,12 +107,7 @@ fn members(alloc: Global, doc: &Doc) -> Result<Map<String, Json>, Mem>
 {
     let mut members = Map::new(alloc);
     for (name, value) in doc.iter() {
-        let written = tree(alloc, value)?;
-        put_member(
-            &mut members,
-            String::from_str(alloc, name.as_str())?,
-            written,
-        )?;
+        put_member(alloc, &mut members, name.as_str(), tree(alloc, value)?)?;
     }
     Ok(members)
 }

@@ -44,10 +44,10 @@ escaped-returns-in_err-fields-in-Object t c =
     let p = err_from_is_err_and c.from_residual.result c.from_residual.ensures.1 in
     rw (p.1, p.2) (fault_passed (λ es. es) view _ _ _ c.in_err-fields-in-Object.ensures (λ x refused. escape_object _ _ _ _ _ (sym c.values.ensures.rest ∙ c.in-Some.ensures.steps) c.in-Object.is ∙ object_made_err _ x refused))
 
-pub fields-returns-in_err-found : goal.fields-returns-in_err-found
-fields-returns-in_err-found t c =
+pub fields-returns-in_err-value : goal.fields-returns-in_err-value
+fields-returns-in_err-value t c =
     let p = err_from_is_err_and c.from_residual.result c.from_residual.ensures.1 in
-    rw (p.1, p.2) (fault_passed_below view (λ (es : Entries). es) c.in_err-found.field-0.0 (reading (c.args.levels - 1) (json_view c.in-Some.tree.now)) c.args.levels (λ n. members_reading n (members_view c.args.members.now.entries)) c.if-levels-eq0.false c.in_err-found.ensures
+    rw (p.1, p.2) (fault_passed_below view (λ (es : Entries). es) c.in_err-value.field-0.0 (reading (c.args.levels - 1) (json_view c.in-Some.tree.now)) c.args.levels (λ n. members_reading n (members_view c.args.members.now.entries)) c.if-levels-eq0.false c.in_err-value.ensures
     (λ x refused. member_fails (c.args.levels - 1) c.args.members.now.entries c.loop-key.key-iterator c.next.new.self c.in-Some.key.now c.in-Some.tree.now x c.loop-key.doc c.in-Some.ensures.steps refused c.loop-key.invariant))
 
 pub fields-returns : goal.fields-returns
@@ -62,5 +62,5 @@ fields-loop-key-init t c =
 
 pub fields-loop-key-preserved : goal.fields-loop-key-preserved
 fields-loop-key-preserved t c =
-    one_more_read (c.args.levels - 1) c.args.members.now.entries c.loop-key.key-iterator c.next.new.self c.in-Some.key.now c.in-Some.tree.now c.in_ok-from_str.field-0 (view c.in_ok-found.found) c.loop-key.doc c.put.new.self
-    c.in-Some.ensures.steps (c.in_ok-from_str.ensures ∙ c.as_str.ensures.value) c.in_ok-found.ensures c.in_ok-put.ensures.ok c.loop-key.invariant
+    one_more_read (c.args.levels - 1) c.args.members.now.entries c.loop-key.key-iterator c.next.new.self c.in-Some.key.now c.in-Some.tree.now c.as_str.result.now (view c.in_ok-value.field-0) c.loop-key.doc c.put_field.new.doc
+    c.in-Some.ensures.steps c.as_str.ensures.value c.in_ok-value.ensures c.in_ok-put_field.ensures c.loop-key.invariant
