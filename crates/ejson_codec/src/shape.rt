@@ -12,6 +12,7 @@ pub(crate) enum Shape {
     Date,
     Binary,
     Escape,
+    User,
     Unsupported,
 }
 
@@ -33,7 +34,8 @@ fn of_two(first: &str, second: &str) -> Shape
     ensures { result ≡ shape_of_two first.now second.now }
 {
     match (first, second) {
-        ("$flags", "$regexp") | ("$type", "$value") => Shape::Unsupported,
+        ("$flags", "$regexp") => Shape::Unsupported,
+        ("$type", "$value") => Shape::User,
         _ => Shape::Plain,
     }
 }

@@ -1,19 +1,19 @@
 //! Writing JSON trees.
 ghost use Rattle.std.specs.Prelude.{◌≡◌, IfOk, OnOk, OnErr, List, ℕ};
-ghost use Rattle.serde_json.specs.Data.{Data, number, put};
+ghost use Rattle.serde_json.specs.Data.{Data, number, string, put};
 ghost use Rattle.serde_json.specs.Find.{of_integer};
 ghost use Rattle.serde_json.specs.View.{view as json_view, items_view, members_view};
-ghost use Rattle.value_model.specs.Val.{vals_of, fields_of};
+ghost use Rattle.value_model.specs.Val.{vals_of, fields_of, object as object_value};
 ghost use Rattle.ejson_value.specs.View.{view};
 ghost use Rattle.ejson_codec.specs.Reads.{Reads};
 ghost use Rattle.ejson_codec.specs.Trees.{IsTree, IsEscapedExactly};
-ghost use Rattle.ejson_codec.specs.Written.{alone, written, items_written, members_written, escaped_if};
+ghost use Rattle.ejson_codec.specs.Written.{alone, user_object, written, items_written, members_written, escaped_if};
 ghost use Rattle.value_model.specs.Size.{is_special};
 ghost use Rattle.ejson_codec.specs.Shape.{keys_of_members};
 
 use crate::base64_text::encoded;
 use crate::shape::{Shape, of_members};
-use ejson_value::{Doc, Items, Mem, Value, Whole};
+use ejson_value::{Doc, Items, Mem, Text, UserName, Value, Whole};
 use serde_json::{Map, Number, Value as Json};
 use std::alloc::Global;
 
@@ -26,6 +26,13 @@ pub fn write(alloc: Global, value: &Value) -> Result<Json, Mem>
 {
     value.known();
     tree(alloc, value)
+}
+
+/// Writes a document as its tree.
+pub fn write_document(alloc: Global, doc: &Doc) -> Result<Json, Mem>
+    ensures { IfOk result (λ tree. json_view tree ≡ written (object_value (fields_of doc.now))) }
+{
+    escaped(alloc, members(alloc, doc)?)
 }
 
 // A whole number.
@@ -57,6 +64,23 @@ fn object_of(alloc: Global, key: &str, tree: Json) -> Result<Json, Mem>
     Ok(Json::Object(members))
 }
 
+// A text.
+fn text(alloc: Global, text: &Text) -> Result<Json, Mem>
+    ensures { IfOk result (λ tree. json_view tree ≡ string text.now) }
+{
+    Ok(Json::String(String::from_str(alloc, text.as_str())?))
+}
+
+// A value of the user type of this name, over the tree of what stands for it.
+fn user(alloc: Global, name: &UserName, tree: Json) -> Result<Json, Mem>
+    ensures { IfOk result (λ object. json_view object ≡ user_object name.now (json_view tree)) }
+{
+    let mut members = Map::new(alloc);
+    put_member(alloc, &mut members, "$value", tree)?;
+    put_member(alloc, &mut members, "$type", text(alloc, name.get())?)?;
+    Ok(Json::Object(members))
+}
+
 // An object, under `$escape` if it would stand for something else.
 fn escaped(alloc: Global, members: Map<String, Json>) -> Result<Json, Mem>
     ensures { IfOk result (λ object. json_view object ≡ escaped_if (is_special (keys_of_members (members_view members.entries))) (members_view members.entries)) }
@@ -76,7 +100,7 @@ fn tree(alloc: Global, value: &Value) -> Result<Json, Mem>
         Value::Null => Ok(Json::Null),
         Value::Bool(truth) => Ok(Json::Bool(*truth)),
         Value::Int(number) => Ok(whole(number)),
-        Value::Text(text) => Ok(Json::String(String::from_str(alloc, text.as_str())?)),
+        Value::Text(words) => text(alloc, words),
         Value::Date(moment) => object_of(alloc, "$date", whole(moment)),
         Value::Bytes(bytes) => object_of(
             alloc,
@@ -85,6 +109,7 @@ fn tree(alloc: Global, value: &Value) -> Result<Json, Mem>
         ),
         Value::List(items) => Ok(Json::Array(trees(alloc, items)?)),
         Value::Object(doc) => escaped(alloc, members(alloc, doc)?),
+        Value::User { name, value } => user(alloc, name, tree(alloc, value.get())?),
     }
 }
 
