@@ -24,5 +24,3 @@ pub use laws::{
 };
 pub use wire::{own_id, wire_id};
 
-#[cfg(test)]
-mod tests;

@@ -1,5 +1,5 @@
 -- What a walk answers where a part of it fails.
-use Rattle.std.proofs.Common.{◌≡◌, ◌≢◌, ℕ, zero, suc, ◌-◌, List, [], ◌∷◌, None, Result, Ok, Err, String, Global, string_bytes, refl, ap, ◌∙◌, arith}
+use Rattle.std.proofs.Common.{◌≡◌, ◌≢◌, ℕ, zero, suc, ◌-◌, List, [], ◌∷◌, None, Result, Ok, Err, String, Global, string_bytes, refl, ap, ap₂, ◌∙◌, arith}
 use Rattle.std.specs.BTreeMap.{BTreeMap}
 use Rattle.std.specs.Map.{values_of}
 use Rattle.serde_json.specs.Data.{Data, Members, no_members, member}
@@ -11,7 +11,7 @@ use Rattle.serde_json.specs.declared.value.Value.{Value as Json}
 use Rattle.serde_json.specs.declared.value.Value.{Object}
 use Rattle.serde_json.proofs.Views.{view-Object}
 use Rattle.value_model.specs.Val.{Entries, object, fields_of}
-use Rattle.ejson_codec.specs.Reading.{Gives, below, object_made, members_reading, escape_reading}
+use Rattle.ejson_codec.specs.Reading.{Gives, below, name_reading, user_made, object_made, reading, members_reading, escape_reading, user_reading}
 use Rattle.ejson_codec.specs.declared.fault.EjsonFault.{EjsonFault}
 use Rattle.ejson_codec.specs.declared.fault.EjsonFault.TheVariants as fault
 use Rattle.ejson_codec.specs.declared.fault.ReadFault.{ReadFault}
@@ -60,6 +60,30 @@ escape_other levels [] tree more found none = absurd (cc found)
 escape_other levels (e ∷ es) tree more found none =
     let same : e.1 ≡ tree = cc found in
     escape_other_at levels (string_bytes e.0) (json_view e.1) (members_view es) (ap (λ (t : Json). as_object (json_view t)) same ∙ none)
+
+-- what stands at the two keys of a value of a user type
+user_at : (levels : ℕ) (es : List Entry) (named tree : Json) (more : List Json) → values_of es ≡ named ∷ tree ∷ more
+    → user_reading levels (members_view es) ≡ below levels (λ left. user_made (name_reading (json_view named)) (reading left (json_view tree)))
+user_at levels [] named tree more found = absurd (cc found)
+user_at levels (e ∷ []) named tree more found = absurd (cc found)
+user_at levels (e ∷ f ∷ es) named tree more found =
+    let first : e.1 ≡ named = cc found in
+    let second : f.1 ≡ tree = cc found in
+    ap₂ (λ (x y : Json). below levels (λ left. user_made (name_reading (json_view x)) (reading left (json_view y)))) first second
+
+pub user_too_deep : (levels : ℕ) (es : List Entry) (named tree : Json) (more : List Json) → values_of es ≡ named ∷ tree ∷ more → levels ≡ 0 → user_reading levels (members_view es) ≡ Err fault.TooDeep
+user_too_deep levels es named tree more found none =
+    user_at levels es named tree more found ∙ ap (λ (n : ℕ). below n (λ left. user_made (name_reading (json_view named)) (reading left (json_view tree)))) none
+
+pub user_below : (levels : ℕ) (es : List Entry) (named tree : Json) (more : List Json) → values_of es ≡ named ∷ tree ∷ more → levels ≢ 0
+    → user_reading levels (members_view es) ≡ user_made (name_reading (json_view named)) (reading (levels - 1) (json_view tree))
+user_below levels es named tree more found some =
+    user_at levels es named tree more found ∙ below_some levels (λ left. user_made (name_reading (json_view named)) (reading left (json_view tree))) some
+
+pub user_alone : (levels : ℕ) (es : List Entry) (named : Json) → values_of es ≡ named ∷ [] → user_reading levels (members_view es) ≡ Err fault.BadUser
+user_alone levels [] named found = absurd (cc found)
+user_alone levels (e ∷ []) named found = refl
+user_alone levels (e ∷ f ∷ es) named found = absurd (cc found)
 
 pub object_made_ok : (r : Result Entries EjsonFault) (es : Entries) → r ≡ Ok es → object_made r ≡ Ok (object (fields_of es))
 object_made_ok r es is = ap object_made is

@@ -1,15 +1,15 @@
 -- What reading a JSON tree answers: its value, or its first fault in depth-first order, the elements of a list in order and the members of an object by key.
-use Rattle.std.specs.Prelude.{◌≡◌, ℕ, zero, suc, ℤ, pos, neg_ℤ, int_le, Bool, ◌&&◌, List, [], ◌∷◌, Option, Some, None, Result, Ok, Err, if◌then◌else◌}
+use Rattle.std.specs.Prelude.{◌≡◌, ℕ, zero, suc, ℤ, pos, neg_ℤ, int_le, Bool, ◌&&◌, nat_lt, nat_le, length, List, [], ◌∷◌, Option, Some, None, Result, Ok, Err, if◌then◌else◌}
 use Rattle.serde_json.specs.Data.{Num, Data, Items, no_items, item, Members, no_members, member}
 use Rattle.serde_json.specs.Data as json
 use Rattle.serde_json.specs.Find.{as_integer}
 use Rattle.serde_json.specs.Read as json_text
-use Rattle.value_model.specs.Val.{Val, null, boolean, int, text, date, bytes, list, object, vals_of, Entries, fields_of}
-use Rattle.value_model.specs.Valid.{max_whole}
+use Rattle.value_model.specs.Val.{Val, null, boolean, int, text, date, bytes, list, object, user, vals_of, Entries, fields_of}
+use Rattle.value_model.specs.Valid.{max_whole, max_user_name}
 use Rattle.ejson_codec.specs.Shape.{keys_of_members, shape_of, first_of}
 use Rattle.ejson_codec.specs.Base64.{bytes_of}
 use Rattle.ejson_codec.specs.declared.shape.Shape.{Shape}
-use Rattle.ejson_codec.specs.declared.shape.Shape.TheVariants.{Plain, Date, Binary, Escape, Unsupported}
+use Rattle.ejson_codec.specs.declared.shape.Shape.TheVariants.{Plain, Date, Binary, Escape, User, Unsupported}
 use Rattle.ejson_codec.specs.declared.fault.EjsonFault.{EjsonFault}
 use Rattle.ejson_codec.specs.declared.fault.EjsonFault.TheVariants as fault
 use Rattle.ejson_codec.specs.declared.fault.ReadFault.{ReadFault}
@@ -17,7 +17,7 @@ use Rattle.ejson_codec.specs.declared.fault.ReadFault.TheVariants as read_fault
 use Rattle.ejson_codec.specs.declared.fault.ParseFault.{ParseFault}
 use Rattle.ejson_codec.specs.declared.fault.ParseFault.TheVariants as parse_fault
 
--- how many lists and objects may stand in one another
+-- how many lists, objects and values of user types may stand in one another
 abbrev pub max_levels : ℕ
 max_levels = 32
 
@@ -48,6 +48,18 @@ abbrev pub binary_reading : Data → Result Val EjsonFault
 binary_reading (json.string s) = bytes_reading (bytes_of s)
 binary_reading _ = Err fault.BadBinary
 
+abbrev pub is_user_name : List ℕ → Bool
+is_user_name s = nat_lt 0 (length s) && nat_le (length s) max_user_name
+
+abbrev pub name_reading : Data → Result (List ℕ) EjsonFault
+name_reading (json.string s) = if is_user_name s then Ok s else Err fault.BadUser
+name_reading _ = Err fault.BadUser
+
+-- a value of a user type, the fault of its name before that of what stands behind it
+abbrev pub user_made : Result (List ℕ) EjsonFault → Result Val EjsonFault → Result Val EjsonFault
+user_made (Ok name) inner = made (user name) inner
+user_made (Err e) inner = Err e
+
 -- one level further down, if there is one
 abbrev pub below : {A : Type 0} → ℕ → (ℕ → Result A EjsonFault) → Result A EjsonFault
 below zero f = Err fault.TooDeep
@@ -69,12 +81,13 @@ with_field key (Ok v) rest = made (λ es. (key, v) ∷ es) rest
 with_field key (Err e) rest = Err e
 
 -- the answer for what the object stands for
-abbrev pub by_shape : Shape → Result Val EjsonFault → Result Val EjsonFault → Result Val EjsonFault → Result Val EjsonFault → Result Val EjsonFault
-by_shape Plain on_plain on_date on_binary on_escape = on_plain
-by_shape Date on_plain on_date on_binary on_escape = on_date
-by_shape Binary on_plain on_date on_binary on_escape = on_binary
-by_shape Escape on_plain on_date on_binary on_escape = on_escape
-by_shape Unsupported on_plain on_date on_binary on_escape = Err fault.Unsupported
+abbrev pub by_shape : Shape → Result Val EjsonFault → Result Val EjsonFault → Result Val EjsonFault → Result Val EjsonFault → Result Val EjsonFault → Result Val EjsonFault
+by_shape Plain on_plain on_date on_binary on_escape on_user = on_plain
+by_shape Date on_plain on_date on_binary on_escape on_user = on_date
+by_shape Binary on_plain on_date on_binary on_escape on_user = on_binary
+by_shape Escape on_plain on_date on_binary on_escape on_user = on_escape
+by_shape User on_plain on_date on_binary on_escape on_user = on_user
+by_shape Unsupported on_plain on_date on_binary on_escape on_user = Err fault.Unsupported
 
 -- with so many levels left
 abbrev mutual
@@ -86,7 +99,7 @@ abbrev mutual
   reading levels (json.array ds) = list_made (below levels (λ left. items_reading left ds))
   reading levels (json.object ms) = by_shape (shape_of (keys_of_members ms))
       (object_made (below levels (λ left. members_reading left ms)))
-      (date_reading (first_of ms)) (binary_reading (first_of ms)) (escape_reading levels ms)
+      (date_reading (first_of ms)) (binary_reading (first_of ms)) (escape_reading levels ms) (user_reading levels ms)
 
   pub items_reading : ℕ → Items → Result (List Val) EjsonFault
   items_reading levels no_items = Ok []
@@ -99,6 +112,10 @@ abbrev mutual
   pub escape_reading : ℕ → Members → Result Val EjsonFault
   escape_reading levels (member key (json.object inner) ms) = object_made (below levels (λ left. members_reading left inner))
   escape_reading levels _ = Err fault.BadEscape
+
+  pub user_reading : ℕ → Members → Result Val EjsonFault
+  user_reading levels (member key named (member other d ms)) = below levels (λ left. user_made (name_reading named) (reading left d))
+  user_reading levels _ = Err fault.BadUser
 
 abbrev pub as_parsed : Result Val EjsonFault → Result Val ParseFault
 as_parsed (Ok v) = Ok v

@@ -1,20 +1,21 @@
 -- Reading answers exactly the value that the tree reads as, where its depth is within the levels.
-use Rattle.std.specs.Prelude.{◌≡◌, ℕ, zero, suc, ◌≤◌, ℤ, pos, neg_ℤ, int_le, ◌≤ℤ◌, true, List, [], ◌∷◌, Option, Some, None, Result, Ok, Err, refl}
-use Rattle.std.proofs.Common.{sym, ap, ◌∙◌, arith, inl, inr}
-use Rattle.std.proofs.lemmas.Bool.{cases_Bool, and_parts, and_from}
+use Rattle.std.specs.Prelude.{◌≡◌, ℕ, zero, suc, ◌≤◌, ℤ, pos, neg_ℤ, int_le, ◌≤ℤ◌, true, false, length, nat_lt, nat_le, List, [], ◌∷◌, Option, Some, None, Result, Ok, Err, refl}
+use Rattle.std.proofs.Common.{sym, ap, ◌∙◌, subst, arith, inl, inr}
+use Rattle.std.proofs.lemmas.Bool.{cases_Bool, and_from, ltb-true, lt-ltb}
 use Rattle.std.proofs.lemmas.Int.{ints}
 use Rattle.serde_json.specs.Data.{Num, unsigned, negative, float, Data, Items, no_items, item, Members, no_members, member}
 use Rattle.serde_json.specs.Data as json
-use Rattle.value_model.specs.Val.{Val, null, boolean, int, text, date, list, object, vals_of, Entries, fields_of}
-use Rattle.value_model.specs.Valid.{IsWhole, max_whole}
+use Rattle.value_model.specs.Val.{Val, null, boolean, int, text, date, list, object, user, vals_of, Entries, fields_of}
+use Rattle.value_model.specs.Valid.{IsWhole, max_whole, IsUserName, max_user_name}
+use Rattle.value_model.specs.TruthLaws.{both_true}
 use Rattle.value_model.specs.Depth.{depth, vals_depth, fields_depth}
 use Rattle.ejson_codec.specs.Shape.{keys_of_members, shape_of, first_of}
 use Rattle.ejson_codec.specs.Base64.{bytes_of}
 use Rattle.ejson_codec.specs.Base64Laws.{bytes_of_some, bytes_of-base64}
-use Rattle.ejson_codec.specs.Reads.{IsAccepted, IsDate, IsBinary, ByShape, Reads, ItemsRead, MembersRead, EscapeReads}
-use Rattle.ejson_codec.specs.Reading.{is_whole, whole_reading, number_reading, made, date_reading, bytes_reading, binary_reading, below, list_made, object_made, with_item, with_field, by_shape, reading, items_reading, members_reading, escape_reading}
+use Rattle.ejson_codec.specs.Reads.{IsAccepted, IsDate, IsBinary, IsNamed, ByShape, Reads, ItemsRead, MembersRead, EscapeReads, UserReads}
+use Rattle.ejson_codec.specs.Reading.{is_whole, whole_reading, number_reading, made, date_reading, bytes_reading, binary_reading, is_user_name, name_reading, user_made, below, list_made, object_made, with_item, with_field, by_shape, reading, items_reading, members_reading, escape_reading, user_reading}
 use Rattle.ejson_codec.specs.declared.shape.Shape.{Shape}
-use Rattle.ejson_codec.specs.declared.shape.Shape.TheVariants.{Plain, Date, Binary, Escape, Unsupported}
+use Rattle.ejson_codec.specs.declared.shape.Shape.TheVariants.{Plain, Date, Binary, Escape, User, Unsupported}
 use Rattle.ejson_codec.specs.declared.fault.EjsonFault.{EjsonFault}
 
 -- ---- numbers
@@ -27,7 +28,7 @@ int_le_from a b h = grind (arith, ints)
 
 pub is_whole_true : (z : ℤ) → is_whole z ≡ true → IsWhole z
 is_whole_true z h =
-    let parts = and_parts (int_le (neg_ℤ (pos max_whole)) z) (int_le z (pos max_whole)) h in
+    let parts = both_true (int_le (neg_ℤ (pos max_whole)) z) (int_le z (pos max_whole)) h in
     record { low = int_le_true _ _ parts.0; high = int_le_true _ _ parts.1 }
 
 pub is_whole_from : (z : ℤ) → IsWhole z → is_whole z ≡ true
@@ -119,25 +120,76 @@ binary_read (json.number n) v h = absurd h
 binary_read (json.array ds) v h = absurd h
 binary_read (json.object ms) v h = absurd h
 
+-- ---- names of user types
+
+le_true : (m n : ℕ) → nat_le m n ≡ true → m ≤ n
+le_true m n h = grind arith
+
+le_from : (m n : ℕ) → m ≤ n → nat_le m n ≡ true
+le_from m n h = grind arith
+
+is_user_name_true : (s : List ℕ) → is_user_name s ≡ true → IsUserName s
+is_user_name_true s h =
+    let parts = both_true (nat_lt 0 (length s)) (nat_le (length s) max_user_name) h in
+    record { some = ltb-true 0 (length s) parts.0; short = le_true (length s) max_user_name parts.1 }
+
+pub is_user_name_from : (s : List ℕ) → IsUserName s → is_user_name s ≡ true
+is_user_name_from s h = and_from (nat_lt 0 (length s)) (nat_le (length s) max_user_name) (lt-ltb 0 (length s) h.some) (le_from (length s) max_user_name h.short)
+
+pub is_user_name_not : (s : List ℕ) → (IsUserName s → ⊥) → is_user_name s ≡ false
+is_user_name_not s h = elim (cases_Bool (is_user_name s)) [ inl is ↦ absurd (h (is_user_name_true s is)) | inr out ↦ out ]
+
+name_ok : (d : Data) (name : List ℕ) → name_reading d ≡ Ok name → IsNamed d name
+name_ok (json.string s) name h = elim (cases_Bool (is_user_name s)) [
+  | inl fits ↦
+      let same : Ok s ≡ Ok name = rw fits at h in
+      let e : s ≡ name = cc same in
+      (sym e, rw e at (is_user_name_true s fits))
+  | inr out ↦ cc (rw out at h)
+]
+name_ok json.null name h = cc h
+name_ok (json.boolean b) name h = cc h
+name_ok (json.number n) name h = cc h
+name_ok (json.array ds) name h = cc h
+name_ok (json.object ms) name h = cc h
+
+name_read : (d : Data) (name : List ℕ) → IsNamed d name → name_reading d ≡ Ok name
+name_read (json.string s) name h =
+    let fits : is_user_name s ≡ true = is_user_name_from s (subst IsUserName h.0 h.1) in
+    rw fits (ap Ok (sym h.0))
+name_read json.null name h = absurd h
+name_read (json.boolean b) name h = absurd h
+name_read (json.number n) name h = absurd h
+name_read (json.array ds) name h = absurd h
+name_read (json.object ms) name h = absurd h
+
+user_made_ok : (named : Result (List ℕ) EjsonFault) (inner : Result Val EjsonFault) (v : Val) → user_made named inner ≡ Ok v
+    → (name : List ℕ) × (w : Val) × (named ≡ Ok name) × (inner ≡ Ok w) × (v ≡ user name w)
+user_made_ok (Ok name) (Ok w) v h = (name, w, refl, refl, cc h)
+user_made_ok (Ok name) (Err e) v h = absurd (cc h)
+user_made_ok (Err e) inner v h = absurd (cc h)
+
 -- ---- by what the object stands for
 
-shape_ok : (shape : Shape) (a b c d : Result Val EjsonFault) (P Q R S : Type 0) (v : Val) (levels : ℕ)
-    → (a ≡ Ok v → P × (depth v ≤ levels)) → (b ≡ Ok v → Q × (depth v ≤ levels)) → (c ≡ Ok v → R × (depth v ≤ levels)) → (d ≡ Ok v → S × (depth v ≤ levels))
-    → by_shape shape a b c d ≡ Ok v → ByShape shape P Q R S × (depth v ≤ levels)
-shape_ok Plain a b c d P Q R S v levels p q r s h = p h
-shape_ok Date a b c d P Q R S v levels p q r s h = q h
-shape_ok Binary a b c d P Q R S v levels p q r s h = r h
-shape_ok Escape a b c d P Q R S v levels p q r s h = s h
-shape_ok Unsupported a b c d P Q R S v levels p q r s h = cc h
+shape_ok : (shape : Shape) (a b c d e : Result Val EjsonFault) (P Q R S T : Type 0) (v : Val) (levels : ℕ)
+    → (a ≡ Ok v → P × (depth v ≤ levels)) → (b ≡ Ok v → Q × (depth v ≤ levels)) → (c ≡ Ok v → R × (depth v ≤ levels)) → (d ≡ Ok v → S × (depth v ≤ levels)) → (e ≡ Ok v → T × (depth v ≤ levels))
+    → by_shape shape a b c d e ≡ Ok v → ByShape shape P Q R S T × (depth v ≤ levels)
+shape_ok Plain a b c d e P Q R S T v levels p q r s t h = p h
+shape_ok Date a b c d e P Q R S T v levels p q r s t h = q h
+shape_ok Binary a b c d e P Q R S T v levels p q r s t h = r h
+shape_ok Escape a b c d e P Q R S T v levels p q r s t h = s h
+shape_ok User a b c d e P Q R S T v levels p q r s t h = t h
+shape_ok Unsupported a b c d e P Q R S T v levels p q r s t h = cc h
 
-shape_read : (shape : Shape) (a b c d : Result Val EjsonFault) (P Q R S : Type 0) (v : Val)
-    → (P → a ≡ Ok v) → (Q → b ≡ Ok v) → (R → c ≡ Ok v) → (S → d ≡ Ok v)
-    → ByShape shape P Q R S → by_shape shape a b c d ≡ Ok v
-shape_read Plain a b c d P Q R S v p q r s h = p h
-shape_read Date a b c d P Q R S v p q r s h = q h
-shape_read Binary a b c d P Q R S v p q r s h = r h
-shape_read Escape a b c d P Q R S v p q r s h = s h
-shape_read Unsupported a b c d P Q R S v p q r s h = absurd h
+shape_read : (shape : Shape) (a b c d e : Result Val EjsonFault) (P Q R S T : Type 0) (v : Val)
+    → (P → a ≡ Ok v) → (Q → b ≡ Ok v) → (R → c ≡ Ok v) → (S → d ≡ Ok v) → (T → e ≡ Ok v)
+    → ByShape shape P Q R S T → by_shape shape a b c d e ≡ Ok v
+shape_read Plain a b c d e P Q R S T v p q r s t h = p h
+shape_read Date a b c d e P Q R S T v p q r s t h = q h
+shape_read Binary a b c d e P Q R S T v p q r s t h = r h
+shape_read Escape a b c d e P Q R S T v p q r s t h = s h
+shape_read User a b c d e P Q R S T v p q r s t h = t h
+shape_read Unsupported a b c d e P Q R S T v p q r s t h = absurd h
 
 date_flat : (d : Data) (v : Val) (levels : ℕ) → IsDate d v → depth v ≤ levels
 date_flat (json.number n) v levels h = rw h.2 (omega arith)
@@ -161,17 +213,26 @@ list_deep vs v left levels e within is = rw (← is, e) (omega arith)
 object_deep : (es : Entries) (v : Val) (left levels : ℕ) → levels ≡ suc left → fields_depth (fields_of es) ≤ left → object (fields_of es) ≡ v → depth v ≤ levels
 object_deep es v left levels e within is = rw (← is, e) (omega arith)
 
+user_deep : (name : List ℕ) (w v : Val) (left levels : ℕ) → levels ≡ suc left → depth w ≤ left → v ≡ user name w → depth v ≤ levels
+user_deep name w v left levels e within is = rw (is, e) (omega arith)
+
 flat_list : (vs : List Val) (v : Val) → v ≡ list (vals_of vs) → depth v ≤ 0 → ⊥
 flat_list vs v is fits = let within = rw is at fits in omega (arith, within)
 
 flat_object : (es : Entries) (v : Val) → v ≡ object (fields_of es) → depth v ≤ 0 → ⊥
 flat_object es v is fits = let within = rw is at fits in omega (arith, within)
 
+flat_user : (name : List ℕ) (w v : Val) → v ≡ user name w → depth v ≤ 0 → ⊥
+flat_user name w v is fits = let within = rw is at fits in omega (arith, within)
+
 inside_list : (vs : List Val) (v : Val) (levels : ℕ) → v ≡ list (vals_of vs) → depth v ≤ suc levels → vals_depth (vals_of vs) ≤ levels
 inside_list vs v levels is fits = let within = rw is at fits in omega (arith, within)
 
 inside_object : (es : Entries) (v : Val) (levels : ℕ) → v ≡ object (fields_of es) → depth v ≤ suc levels → fields_depth (fields_of es) ≤ levels
 inside_object es v levels is fits = let within = rw is at fits in omega (arith, within)
+
+inside_user : (name : List ℕ) (w v : Val) (levels : ℕ) → v ≡ user name w → depth v ≤ suc levels → depth w ≤ levels
+inside_user name w v levels is fits = let within = rw is at fits in omega (arith, within)
 
 -- what was answered is what the tree reads as
 mutual
@@ -188,8 +249,8 @@ mutual
       let inside = items_ok q.0 ds p.0 q.2 in
       ((p.0, inside.0, sym p.2), list_deep p.0 v q.0 levels q.1 inside.1 p.2)
   reads_ok levels (json.object ms) v h =
-      shape_ok (shape_of (keys_of_members ms)) (object_made (below levels (λ left. members_reading left ms))) (date_reading (first_of ms)) (binary_reading (first_of ms)) (escape_reading levels ms)
-      ((es : Entries) × MembersRead ms es × (v ≡ object (fields_of es))) (IsDate (first_of ms) v) (IsBinary (first_of ms) v) (EscapeReads ms v) v levels
+      shape_ok (shape_of (keys_of_members ms)) (object_made (below levels (λ left. members_reading left ms))) (date_reading (first_of ms)) (binary_reading (first_of ms)) (escape_reading levels ms) (user_reading levels ms)
+      ((es : Entries) × MembersRead ms es × (v ≡ object (fields_of es))) (IsDate (first_of ms) v) (IsBinary (first_of ms) v) (EscapeReads ms v) (UserReads ms v) v levels
       (λ is.
       let p = made_ok (λ (es : Entries). object (fields_of es)) (below levels (λ left. members_reading left ms)) v is in
       let q = below_ok levels (λ left. members_reading left ms) p.0 p.1 in
@@ -198,6 +259,7 @@ mutual
       (λ is. let r = date_ok (first_of ms) v is in (r, date_flat (first_of ms) v levels r))
       (λ is. let r = binary_ok (first_of ms) v is in (r, binary_flat (first_of ms) v levels r))
       (λ is. escape_ok levels ms v is)
+      (λ is. user_ok levels ms v is)
       h
 
   items_ok : (levels : ℕ) (ds : Items) (vs : List Val) → items_reading levels ds ≡ Ok vs → ItemsRead ds vs × (vals_depth (vals_of vs) ≤ levels)
@@ -229,6 +291,15 @@ mutual
       let inside = members_ok q.0 inner p.0 q.2 in
       ((p.0, inside.0, sym p.2), object_deep p.0 v q.0 levels q.1 inside.1 p.2)
 
+  user_ok : (levels : ℕ) (ms : Members) (v : Val) → user_reading levels ms ≡ Ok v → UserReads ms v × (depth v ≤ levels)
+  user_ok levels no_members v h = cc h
+  user_ok levels (member key named no_members) v h = cc h
+  user_ok levels (member key named (member other d ms)) v h =
+      let q = below_ok levels (λ left. user_made (name_reading named) (reading left d)) v h in
+      let p = user_made_ok (name_reading named) (reading q.0 d) v q.2 in
+      let inside = reads_ok q.0 d p.1 p.3 in
+      ((p.0, p.1, name_ok named p.0 p.2, inside.0, p.4), user_deep p.0 p.1 v q.0 levels q.1 inside.1 p.4)
+
 plain_only : (levels : ℕ) (ms : Members) (v : Val)
     → ((left : ℕ) (es : Entries) → MembersRead ms es → fields_depth (fields_of es) ≤ left → members_reading left ms ≡ Ok es)
     → (es : Entries) × MembersRead ms es × (v ≡ object (fields_of es)) → depth v ≤ levels
@@ -248,12 +319,13 @@ mutual
   reads_only (suc levels) (json.array ds) v h fits =
       ap list_made (items_only levels ds h.0 h.1 (inside_list h.0 v levels h.2 fits)) ∙ ap Ok (sym h.2)
   reads_only levels (json.object ms) v h fits =
-      shape_read (shape_of (keys_of_members ms)) (object_made (below levels (λ left. members_reading left ms))) (date_reading (first_of ms)) (binary_reading (first_of ms)) (escape_reading levels ms)
-      ((es : Entries) × MembersRead ms es × (v ≡ object (fields_of es))) (IsDate (first_of ms) v) (IsBinary (first_of ms) v) (EscapeReads ms v) v
+      shape_read (shape_of (keys_of_members ms)) (object_made (below levels (λ left. members_reading left ms))) (date_reading (first_of ms)) (binary_reading (first_of ms)) (escape_reading levels ms) (user_reading levels ms)
+      ((es : Entries) × MembersRead ms es × (v ≡ object (fields_of es))) (IsDate (first_of ms) v) (IsBinary (first_of ms) v) (EscapeReads ms v) (UserReads ms v) v
       (λ is. plain_only levels ms v (λ left es r f. members_only left ms es r f) is fits)
       (λ is. date_read (first_of ms) v is)
       (λ is. binary_read (first_of ms) v is)
       (λ is. escape_only levels ms v is fits)
+      (λ is. user_only levels ms v is fits)
       h
 
   items_only : (levels : ℕ) (ds : Items) (vs : List Val) → ItemsRead ds vs → vals_depth (vals_of vs) ≤ levels → items_reading levels ds ≡ Ok vs
@@ -282,3 +354,11 @@ mutual
   escape_only zero (member key (json.object inner) ms) v h fits = absurd (flat_object h.0 v h.2 fits)
   escape_only (suc levels) (member key (json.object inner) ms) v h fits =
       ap object_made (members_only levels inner h.0 h.1 (inside_object h.0 v levels h.2 fits)) ∙ ap Ok (sym h.2)
+
+  user_only : (levels : ℕ) (ms : Members) (v : Val) → UserReads ms v → depth v ≤ levels → user_reading levels ms ≡ Ok v
+  user_only levels no_members v h fits = absurd h
+  user_only levels (member key named no_members) v h fits = absurd h
+  user_only zero (member key named (member other d ms)) v h fits = absurd (flat_user h.0 h.1 v h.4 fits)
+  user_only (suc levels) (member key named (member other d ms)) v h fits =
+      ap (λ (r : Result (List ℕ) EjsonFault). user_made r (reading levels d)) (name_read named h.0 h.2)
+      ∙ ap (user_made (Ok h.0)) (reads_only levels d h.1 h.3 (inside_user h.0 h.1 v levels h.4 fits)) ∙ ap Ok (sym h.4)

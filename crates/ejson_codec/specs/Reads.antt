@@ -2,12 +2,12 @@
 use Rattle.std.specs.Prelude.{◌≡◌, ℕ, ◌<◌, ℤ, pos, List, [], ◌∷◌, All}
 use Rattle.serde_json.specs.Data.{Num, unsigned, negative, float, Data, Items, no_items, item, Members, no_members, member}
 use Rattle.serde_json.specs.Data as json
-use Rattle.value_model.specs.Val.{Val, null, boolean, int, text, date, bytes, list, object, vals_of, Entries, fields_of}
-use Rattle.value_model.specs.Valid.{IsWhole}
+use Rattle.value_model.specs.Val.{Val, null, boolean, int, text, date, bytes, list, object, user, vals_of, Entries, fields_of}
+use Rattle.value_model.specs.Valid.{IsWhole, IsUserName}
 use Rattle.ejson_codec.specs.Shape.{keys_of_members, shape_of, first_of}
 use Rattle.ejson_codec.specs.Base64.{base64}
 use Rattle.ejson_codec.specs.declared.shape.Shape.{Shape}
-use Rattle.ejson_codec.specs.declared.shape.Shape.TheVariants.{Plain, Date, Binary, Escape, Unsupported}
+use Rattle.ejson_codec.specs.declared.shape.Shape.TheVariants.{Plain, Date, Binary, Escape, User, Unsupported}
 
 -- the number is held as this integer, and it is within ±(2^53 - 1)
 abbrev pub IsAccepted : Num → ℤ → Type 0
@@ -25,13 +25,19 @@ abbrev pub IsBinary : Data → Val → Type 0
 IsBinary (json.string s) v = (b : List ℕ) × (s ≡ base64 b) × All (λ x. x < 256) b × (v ≡ bytes b)
 IsBinary _ v = ⊥
 
+-- what stands at `$type` is the name of a user type, a text of 1 to 128 bytes
+abbrev pub IsNamed : Data → List ℕ → Type 0
+IsNamed (json.string s) name = (name ≡ s) × IsUserName name
+IsNamed _ name = ⊥
+
 -- the fact for what the object stands for
-abbrev pub ByShape : Shape → Type 0 → Type 0 → Type 0 → Type 0 → Type 0
-ByShape Plain on_plain on_date on_binary on_escape = on_plain
-ByShape Date on_plain on_date on_binary on_escape = on_date
-ByShape Binary on_plain on_date on_binary on_escape = on_binary
-ByShape Escape on_plain on_date on_binary on_escape = on_escape
-ByShape Unsupported on_plain on_date on_binary on_escape = ⊥
+abbrev pub ByShape : Shape → Type 0 → Type 0 → Type 0 → Type 0 → Type 0 → Type 0
+ByShape Plain on_plain on_date on_binary on_escape on_user = on_plain
+ByShape Date on_plain on_date on_binary on_escape on_user = on_date
+ByShape Binary on_plain on_date on_binary on_escape on_user = on_binary
+ByShape Escape on_plain on_date on_binary on_escape on_user = on_escape
+ByShape User on_plain on_date on_binary on_escape on_user = on_user
+ByShape Unsupported on_plain on_date on_binary on_escape on_user = ⊥
 
 abbrev mutual
   pub Reads : Data → Val → Type 0
@@ -42,7 +48,7 @@ abbrev mutual
   Reads (json.array ds) v = (vs : List Val) × ItemsRead ds vs × (v ≡ list (vals_of vs))
   Reads (json.object ms) v = ByShape (shape_of (keys_of_members ms))
       ((es : Entries) × MembersRead ms es × (v ≡ object (fields_of es)))
-      (IsDate (first_of ms) v) (IsBinary (first_of ms) v) (EscapeReads ms v)
+      (IsDate (first_of ms) v) (IsBinary (first_of ms) v) (EscapeReads ms v) (UserReads ms v)
 
   -- the elements, one by one
   pub ItemsRead : Items → List Val → Type 0
@@ -58,3 +64,8 @@ abbrev mutual
   pub EscapeReads : Members → Val → Type 0
   EscapeReads (member key (json.object inner) ms) v = (es : Entries) × MembersRead inner es × (v ≡ object (fields_of es))
   EscapeReads _ v = ⊥
+
+  -- what stands at `$type` is the name, and what stands at `$value` reads as the value behind it
+  pub UserReads : Members → Val → Type 0
+  UserReads (member key named (member other d ms)) v = (name : List ℕ) × (w : Val) × IsNamed named name × Reads d w × (v ≡ user name w)
+  UserReads _ v = ⊥

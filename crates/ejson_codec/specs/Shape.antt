@@ -3,7 +3,7 @@ use Rattle.std.specs.Prelude.{ℕ, List, [], ◌∷◌, codes, ◌&&◌, if◌th
 use Rattle.serde_json.specs.Data.{Data, null, Members, no_members, member}
 use Rattle.value_model.specs.Size.{is_name}
 use Rattle.ejson_codec.specs.declared.shape.Shape.{Shape}
-use Rattle.ejson_codec.specs.declared.shape.Shape.TheVariants.{Plain, Date, Binary, Escape, Unsupported}
+use Rattle.ejson_codec.specs.declared.shape.Shape.TheVariants.{Plain, Date, Binary, Escape, User, Unsupported}
 
 -- the keys of an object, by rising bytes
 abbrev pub keys_of_members : Members → List (List ℕ)
@@ -20,7 +20,7 @@ shape_of_one key =
 abbrev pub shape_of_two : List ℕ → List ℕ → Shape
 shape_of_two first second =
     if is_name first (codes "$flags") && is_name second (codes "$regexp") then Unsupported
-    else (if is_name first (codes "$type") && is_name second (codes "$value") then Unsupported else Plain)
+    else (if is_name first (codes "$type") && is_name second (codes "$value") then User else Plain)
 
 -- The forms of the EJSON appendix, and those that Meteor's `ejson` package writes beside them: `$InfNaN` and regular expressions.
 -- `$date`, `$binary`, `$escape` and `$InfNaN` alone, `$flags` with `$regexp` and `$type` with `$value`; every other object is plain

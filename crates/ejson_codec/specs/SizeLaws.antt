@@ -14,12 +14,12 @@ use Rattle.serde_json.specs.Data.{Data, Items, no_items, item, Members, no_membe
 use Rattle.serde_json.specs.Data as json
 use Rattle.serde_json.specs.Find.{of_integer}
 use Rattle.serde_json.specs.Written.{number_text, comma_if, compact_text, items_text, members_text}
-use Rattle.value_model.specs.Val.{Val, null, boolean, int, text, date, bytes, list, object, Vals, no_vals, val, Fields, no_fields, field}
+use Rattle.value_model.specs.Val.{Val, null, boolean, int, text, date, bytes, list, object, user, Vals, no_vals, val, Fields, no_fields, field}
 use Rattle.value_model.specs.Valid.{IsValue, AreValues, HaveValues}
 use Rattle.value_model.specs.Size.{escape_size, text_size, base64_size, names_of, is_special, size, vals_size, fields_size}
 use Rattle.ejson_codec.specs.Base64.{base64}
 use Rattle.ejson_codec.specs.Base64Laws.{length-base64}
-use Rattle.ejson_codec.specs.Written.{alone, escaped_if, written, items_written, members_written}
+use Rattle.ejson_codec.specs.Written.{alone, escaped_if, user_object, written, items_written, members_written}
 
 -- ---- numbers
 
@@ -122,13 +122,22 @@ base64_plain s h =
 base64_text_size : (s : List ℕ) → All (λ x. x < 256) s → length (quoted (base64 s)) ≡ 2 + base64_size (length s)
 base64_text_size s h = quoted_size (base64 s) ∙ omega (arith, base64_plain s h, length-base64 s)
 
--- ---- objects of one member
+-- ---- objects of one member, and those of values of user types
 
 alone_size : (key : List ℕ) (d : Data) → length (compact_text (alone key d)) ≡ 3 + text_size key + length (compact_text d)
 alone_size key d =
     let value = length-append (compact_text d) (125 ∷ []) in
     let whole = length-append (quoted key) (58 ∷ (compact_text d ++ 125 ∷ [])) in
     omega (arith, value, whole, quoted_size key)
+
+user_size : (name : List ℕ) (d : Data) → length (compact_text (user_object name d)) ≡ 20 + text_size name + length (compact_text d)
+user_size name d =
+    let behind = members_text true (member (codes "$value") d no_members) in
+    let value = length-append (compact_text d) (125 ∷ []) in
+    let second = length-append (quoted (codes "$value")) (58 ∷ (compact_text d ++ 125 ∷ [])) in
+    let named = length-append (quoted name) behind in
+    let whole = length-append (quoted (codes "$type")) (58 ∷ (quoted name ++ behind)) in
+    omega (arith, value, second, named, whole, quoted_size (codes "$type"), quoted_size (codes "$value"), quoted_size name)
 
 escaped_size : (special : Bool) (ms : Members) (n : ℕ) → length (compact_text (json.object ms)) ≡ n → length (compact_text (escaped_if special ms)) ≡ cond special 12 0 + n
 escaped_size true ms n is = alone_size (codes "$escape") (json.object ms) ∙ omega (arith, is)
@@ -151,6 +160,7 @@ mutual
       let first = length-append (compact_text (written v)) (items_text true (items_written vs)) in
       omega (arith, first, size-written v h.0, vals_size-written vs h.1)
   size-written (object fs) h = sym (escaped_size (is_special (names_of fs)) (members_written fs) (max 2 (1 + fields_size fs)) (object_size fs h.1))
+  size-written (user name v) h = sym (user_size name (written v) ∙ omega (arith, size-written v h.1))
 
   vals_size-written : (vs : Vals) → AreValues vs → length (items_text true (items_written vs)) ≡ suc (vals_size vs)
   vals_size-written no_vals h = refl

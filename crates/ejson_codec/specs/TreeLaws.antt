@@ -9,7 +9,7 @@ use Rattle.serde_json.specs.Data.{Data, Items, no_items, item, Members, no_membe
 use Rattle.serde_json.specs.Data as json
 use Rattle.serde_json.specs.Find.{of_integer, is_float}
 use Rattle.serde_json.specs.Written.{has_float, items_have_float, members_have_float}
-use Rattle.value_model.specs.Val.{Val, null, boolean, int, text, date, bytes, list, object, Vals, no_vals, val, Fields, no_fields, field, entries_of}
+use Rattle.value_model.specs.Val.{Val, null, boolean, int, text, date, bytes, list, object, user, Vals, no_vals, val, Fields, no_fields, field, entries_of}
 use Rattle.value_model.specs.Valid.{IsValue, AreValues, HaveValues}
 use Rattle.value_model.specs.Order.{text_cmp}
 use Rattle.value_model.specs.Depth.{depth, vals_depth, fields_depth}
@@ -42,6 +42,7 @@ mutual
   holds_written (bytes s) = (tt, tt)
   holds_written (list vs) = items_hold_written vs
   holds_written (object fs) = escaped_holds (is_special (names_of fs)) (members_written fs) (members_hold_written fs)
+  holds_written (user name v) = (tt, (holds_written v, tt))
 
   items_hold_written : (vs : Vals) → ItemsHoldNumbersOnce (items_written vs)
   items_hold_written no_vals = tt
@@ -61,6 +62,10 @@ one_rises : (key : List ℕ) → IsStrictlySortedBy text_cmp (key ∷ [])
 unfolding IsStrictlySortedBy
 one_rises key = (tt, tt)
 
+user_keys_rise : IsStrictlySortedBy text_cmp (codes "$type" ∷ codes "$value" ∷ [])
+unfolding IsStrictlySortedBy
+user_keys_rise = ((refl, tt), (tt, tt))
+
 escaped_rises : (special : Bool) (ms : Members) → IsStrictlySortedBy text_cmp (keys_of_members ms) → MembersHaveRisingKeys ms → HasRisingKeys (escaped_if special ms)
 escaped_rises true ms keys h = (one_rises (codes "$escape"), ((keys, h), tt))
 escaped_rises false ms keys h = (keys, h)
@@ -77,6 +82,7 @@ mutual
   rising_written (object fs) h =
       escaped_rises (is_special (names_of fs)) (members_written fs)
       (subst (IsStrictlySortedBy text_cmp) (sym (keys_of_members-members_written fs ∙ names_of-keys_of fs)) h.0) (members_rising_written fs h.1)
+  rising_written (user name v) h = (user_keys_rise, (tt, (rising_written v h.1, tt)))
 
   items_rising_written : (vs : Vals) → AreValues vs → ItemsHaveRisingKeys (items_written vs)
   items_rising_written no_vals h = tt
@@ -106,6 +112,7 @@ mutual
   IsEscapedExactly-written (list vs) = items_escaped_written vs
   IsEscapedExactly-written (object fs) =
       escaped_exactly (is_special (names_of fs)) (members_written fs) (ap is_special (keys_of_members-members_written fs)) (members_escaped_written fs)
+  IsEscapedExactly-written (user name v) = (tt, (IsEscapedExactly-written v, tt))
 
   items_escaped_written : (vs : Vals) → ItemsAreEscapedExactly (items_written vs)
   items_escaped_written no_vals = tt
@@ -135,6 +142,7 @@ mutual
   has_float-written (bytes s) = refl
   has_float-written (list vs) = items_float_written vs
   has_float-written (object fs) = escaped_float (is_special (names_of fs)) (members_written fs) (members_float_written fs)
+  has_float-written (user name v) = or_from (has_float (written v)) false (has_float-written v) refl
 
   items_float_written : (vs : Vals) → items_have_float (items_written vs) ≡ false
   items_float_written no_vals = refl
@@ -160,6 +168,7 @@ mutual
   depth-written (bytes s) = omega arith
   depth-written (list vs) = omega (arith, items_depth-written vs)
   depth-written (object fs) = omega (arith, escaped_depth (is_special (names_of fs)) (members_written fs), members_depth-written fs)
+  depth-written (user name v) = omega (arith, depth-written v)
 
   items_depth-written : (vs : Vals) → json.items_depth (items_written vs) ≤ 2 * vals_depth vs + 1
   items_depth-written no_vals = omega arith

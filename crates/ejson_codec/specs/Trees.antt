@@ -61,7 +61,7 @@ abbrev mutual
   IsEscapedExactly (number n) = Unit {0}
   IsEscapedExactly (string s) = Unit {0}
   IsEscapedExactly (array ds) = ItemsAreEscapedExactly ds
-  IsEscapedExactly (object ms) = ByShape (shape_of (keys_of_members ms)) (MembersAreEscapedExactly ms) (Unit {0}) (Unit {0}) (EscapesSpecial ms)
+  IsEscapedExactly (object ms) = ByShape (shape_of (keys_of_members ms)) (MembersAreEscapedExactly ms) (Unit {0}) (Unit {0}) (EscapesSpecial ms) (MembersAreEscapedExactly ms)
 
   pub ItemsAreEscapedExactly : Items → Type 0
   ItemsAreEscapedExactly no_items = Unit {0}

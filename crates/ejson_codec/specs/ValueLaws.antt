@@ -1,18 +1,18 @@
 -- What a tree with rising keys reads as is a value of the program.
-use Rattle.std.specs.Prelude.{◌≡◌, ℕ, ◌<◌, ℤ, List, [], ◌∷◌, All, refl}
+use Rattle.std.specs.Prelude.{◌≡◌, ℕ, ℤ, List, ◌∷◌}
 use Rattle.std.proofs.Common.{ap, sym, subst, ◌∙◌}
 use Rattle.std.specs.List.Sorted.{IsStrictlySortedBy}
 use Rattle.std.specs.Map.{keys_of}
 use Rattle.serde_json.specs.Data.{Num, unsigned, negative, float, Data, Items, no_items, item, Members, no_members, member}
 use Rattle.serde_json.specs.Data as tree
-use Rattle.value_model.specs.Val.{Val, null, boolean, int, text, date, bytes, list, object, Vals, vals_of, Entries, fields_of, entries_of, entries_of-fields_of}
+use Rattle.value_model.specs.Val.{Val, object, vals_of, Entries, fields_of, entries_of-fields_of}
 use Rattle.value_model.specs.Order.{text_cmp}
-use Rattle.value_model.specs.Valid.{IsWhole, IsValue, AreValues, HaveValues, HasRisingNames}
+use Rattle.value_model.specs.Valid.{IsWhole, IsUserName, IsValue, AreValues, HaveValues, HasRisingNames}
 use Rattle.ejson_codec.specs.Shape.{keys_of_members, shape_of, first_of}
 use Rattle.ejson_codec.specs.declared.shape.Shape.{Shape}
-use Rattle.ejson_codec.specs.declared.shape.Shape.TheVariants.{Plain, Date, Binary, Escape, Unsupported}
+use Rattle.ejson_codec.specs.declared.shape.Shape.TheVariants.{Plain, Date, Binary, Escape, User, Unsupported}
 use Rattle.ejson_codec.specs.Trees.{HasRisingKeys, ItemsHaveRisingKeys, MembersHaveRisingKeys}
-use Rattle.ejson_codec.specs.Reads.{IsAccepted, IsDate, IsBinary, ByShape, Reads, ItemsRead, MembersRead, EscapeReads}
+use Rattle.ejson_codec.specs.Reads.{IsAccepted, IsDate, IsBinary, IsNamed, ByShape, Reads, ItemsRead, MembersRead, EscapeReads, UserReads}
 
 accepted_whole : (n : Num) (z : ℤ) → IsAccepted n z → IsWhole z
 accepted_whole (unsigned n) z h = h.1
@@ -35,12 +35,21 @@ binary_valid (tree.number n) v h = absurd h
 binary_valid (tree.array ds) v h = absurd h
 binary_valid (tree.object ms) v h = absurd h
 
-by_shape : (shape : Shape) (P Q R S T : Type 0) → (P → T) → (Q → T) → (R → T) → (S → T) → ByShape shape P Q R S → T
-by_shape Plain P Q R S T p q r s h = p h
-by_shape Date P Q R S T p q r s h = q h
-by_shape Binary P Q R S T p q r s h = r h
-by_shape Escape P Q R S T p q r s h = s h
-by_shape Unsupported P Q R S T p q r s h = absurd h
+named_valid : (d : Data) (name : List ℕ) → IsNamed d name → IsUserName name
+named_valid (tree.string s) name h = h.1
+named_valid tree.null name h = absurd h
+named_valid (tree.boolean b) name h = absurd h
+named_valid (tree.number n) name h = absurd h
+named_valid (tree.array ds) name h = absurd h
+named_valid (tree.object ms) name h = absurd h
+
+by_shape : (shape : Shape) (P Q R S T X : Type 0) → (P → X) → (Q → X) → (R → X) → (S → X) → (T → X) → ByShape shape P Q R S T → X
+by_shape Plain P Q R S T X p q r s t h = p h
+by_shape Date P Q R S T X p q r s t h = q h
+by_shape Binary P Q R S T X p q r s t h = r h
+by_shape Escape P Q R S T X p q r s t h = s h
+by_shape User P Q R S T X p q r s t h = t h
+by_shape Unsupported P Q R S T X p q r s t h = absurd h
 
 members_keys : (ms : Members) (es : Entries) → MembersRead ms es → keys_of_members ms ≡ keys_of es
 members_keys no_members es h = sym (ap keys_of h)
@@ -57,11 +66,12 @@ mutual
   reads_valid (tree.string s) v h k = subst IsValue (sym h) tt
   reads_valid (tree.array ds) v h k = subst IsValue (sym h.2) (items_valid ds h.0 h.1 k)
   reads_valid (tree.object ms) v h k =
-      by_shape (shape_of (keys_of_members ms)) ((es : Entries) × MembersRead ms es × (v ≡ object (fields_of es))) (IsDate (first_of ms) v) (IsBinary (first_of ms) v) (EscapeReads ms v) (IsValue v)
+      by_shape (shape_of (keys_of_members ms)) ((es : Entries) × MembersRead ms es × (v ≡ object (fields_of es))) (IsDate (first_of ms) v) (IsBinary (first_of ms) v) (EscapeReads ms v) (UserReads ms v) (IsValue v)
       (λ p. subst IsValue (sym p.2) (object_valid ms p.0 p.1 k.0 (fields_valid ms p.0 p.1 k.1)))
       (date_valid (first_of ms) v)
       (binary_valid (first_of ms) v)
       (λ p. escape_valid ms v p k.1)
+      (λ p. user_valid ms v p k.1)
       h
 
   items_valid : (ds : Items) (vs : List Val) → ItemsRead ds vs → ItemsHaveRisingKeys ds → AreValues (vals_of vs)
@@ -80,3 +90,8 @@ mutual
   escape_valid (member key (tree.string s) ms) v h k = absurd h
   escape_valid (member key (tree.array ds) ms) v h k = absurd h
   escape_valid (member key (tree.object inner) ms) v h k = subst IsValue (sym h.2) (object_valid inner h.0 h.1 k.0.0 (fields_valid inner h.0 h.1 k.0.1))
+
+  user_valid : (ms : Members) (v : Val) → UserReads ms v → MembersHaveRisingKeys ms → IsValue v
+  user_valid no_members v h k = absurd h
+  user_valid (member key named no_members) v h k = absurd h
+  user_valid (member key named (member other d ms)) v h k = subst IsValue (sym h.4) (named_valid named h.0 h.2, reads_valid d h.1 h.3 k.1.0)

@@ -7,15 +7,16 @@ use Rattle.std.proofs.lemmas.Int.{ints}
 use Rattle.serde_json.specs.Data.{Num, unsigned, negative, float, Data, Items, no_items, item, Members, no_members, member}
 use Rattle.serde_json.specs.Data as json
 use Rattle.serde_json.specs.Find.{of_integer}
-use Rattle.value_model.specs.Val.{Val, null, boolean, int, text, date, bytes, list, object, Vals, no_vals, val, Fields, no_fields, field, vals_of, list_of, Entries, fields_of, entries_of, vals_of-list_of, fields_of-entries_of}
+use Rattle.value_model.specs.Val.{Val, null, boolean, int, text, date, bytes, list, object, user, Vals, no_vals, val, Fields, no_fields, field, vals_of, list_of, Entries, fields_of, entries_of, vals_of-list_of, fields_of-entries_of}
+use Rattle.value_model.specs.TruthLaws.{both_true}
 use Rattle.value_model.specs.Valid.{IsWhole, IsValue, AreValues, HaveValues}
 use Rattle.value_model.specs.Size.{is_name, names_of, is_special}
 use Rattle.ejson_codec.specs.Shape.{keys_of_members, shape_of, shape_of_one, shape_of_two, first_of}
-use Rattle.ejson_codec.specs.Reads.{IsAccepted, IsDate, IsBinary, ByShape, Reads, ItemsRead, MembersRead, EscapeReads}
-use Rattle.ejson_codec.specs.Written.{alone, escaped_if, written, items_written, members_written}
+use Rattle.ejson_codec.specs.Reads.{IsAccepted, IsDate, IsBinary, IsNamed, ByShape, Reads, ItemsRead, MembersRead, EscapeReads, UserReads}
+use Rattle.ejson_codec.specs.Written.{alone, escaped_if, user_object, written, items_written, members_written}
 use Rattle.ejson_codec.specs.Trees.{IsHeldOnce, HoldsNumbersOnce, ItemsHoldNumbersOnce, MembersHoldNumbersOnce, IsEscapedExactly, ItemsAreEscapedExactly, MembersAreEscapedExactly, EscapesSpecial}
 use Rattle.ejson_codec.specs.declared.shape.Shape.{Shape}
-use Rattle.ejson_codec.specs.declared.shape.Shape.TheVariants.{Plain, Date, Binary, Escape, Unsupported}
+use Rattle.ejson_codec.specs.declared.shape.Shape.TheVariants.{Plain, Date, Binary, Escape, User, Unsupported}
 
 -- ---- a value's tree reads as the value
 
@@ -65,6 +66,7 @@ mutual
       escaped_reads (is_special (names_of fs)) (members_written fs) (entries_of fs) (object fs)
       (λ plain. ap shape_of (keys_of_members-members_written fs) ∙ plain_names (names_of fs) plain)
       (members_read_written fs h.1) (ap object (sym (fields_of-entries_of fs)))
+  reads_written (user name v) h = (name, v, (refl, h.0), reads_written v h.1, refl)
 
   items_read_written : (vs : Vals) → AreValues vs → ItemsRead (items_written vs) (list_of vs)
   items_read_written no_vals h = refl
@@ -91,6 +93,7 @@ OneKey Plain a = is_special (a ∷ []) ≡ false
 OneKey Date a = a ≡ codes "$date"
 OneKey Binary a = a ≡ codes "$binary"
 OneKey Escape a = a ≡ codes "$escape"
+OneKey User a = ⊥
 OneKey Unsupported a = Unit {0}
 
 one_key_at : (a : List ℕ) (d b e i : Bool) → is_name a (codes "$date") ≡ d → is_name a (codes "$binary") ≡ b → is_name a (codes "$escape") ≡ e → is_name a (codes "$InfNaN") ≡ i
@@ -113,6 +116,7 @@ KeySet Plain names = is_special names ≡ false
 KeySet Date names = names ≡ codes "$date" ∷ []
 KeySet Binary names = names ≡ codes "$binary" ∷ []
 KeySet Escape names = names ≡ codes "$escape" ∷ []
+KeySet User names = names ≡ codes "$type" ∷ codes "$value" ∷ []
 KeySet Unsupported names = Unit {0}
 
 key_set_one : (shape : Shape) (a : List ℕ) → OneKey shape a → KeySet shape (a ∷ [])
@@ -120,12 +124,16 @@ key_set_one Plain a h = h
 key_set_one Date a h = ap (λ (k : List ℕ). k ∷ []) h
 key_set_one Binary a h = ap (λ (k : List ℕ). k ∷ []) h
 key_set_one Escape a h = ap (λ (k : List ℕ). k ∷ []) h
+key_set_one User a h = absurd h
 key_set_one Unsupported a h = tt
 
 key_set_two : (a b : List ℕ) (r t : Bool) → (is_name a (codes "$flags") && is_name b (codes "$regexp")) ≡ r → (is_name a (codes "$type") && is_name b (codes "$value")) ≡ t
     → KeySet (shape_of_two a b) (a ∷ b ∷ [])
 key_set_two a b true t hr ht = rw hr tt
-key_set_two a b false true hr ht = rw (hr, ht) tt
+key_set_two a b false true hr ht =
+    let parts = both_true (is_name a (codes "$type")) (is_name b (codes "$value")) ht in
+    let names : a ∷ b ∷ [] ≡ codes "$type" ∷ codes "$value" ∷ [] = ap₂ (λ (x y : List ℕ). x ∷ y ∷ []) (name_is a (codes "$type") parts.0) (name_is b (codes "$value") parts.1) in
+    rw (hr, ht) names
 key_set_two a b false false hr ht =
     let shape : shape_of_two a b ≡ Plain = rw (hr, ht) refl in
     let names : is_special (a ∷ b ∷ []) ≡ false = rw (hr, ht) refl in
@@ -141,12 +149,14 @@ key_set (a ∷ b ∷ c ∷ names) = refl
 not_below : (n : ℕ) → pos n <ℤ pos 0 → ⊥
 not_below n h = omega (arith, ints, h)
 
-by_shape_cases : (shape : Shape) (P Q R S T : Type 0) → (shape ≡ Plain → P → T) → (shape ≡ Date → Q → T) → (shape ≡ Binary → R → T) → (shape ≡ Escape → S → T) → ByShape shape P Q R S → T
-by_shape_cases Plain P Q R S T p q r s h = p refl h
-by_shape_cases Date P Q R S T p q r s h = q refl h
-by_shape_cases Binary P Q R S T p q r s h = r refl h
-by_shape_cases Escape P Q R S T p q r s h = s refl h
-by_shape_cases Unsupported P Q R S T p q r s h = absurd h
+by_shape_cases : (shape : Shape) (P Q R S T X : Type 0) → (shape ≡ Plain → P → X) → (shape ≡ Date → Q → X) → (shape ≡ Binary → R → X) → (shape ≡ Escape → S → X) → (shape ≡ User → T → X)
+    → ByShape shape P Q R S T → X
+by_shape_cases Plain P Q R S T X p q r s t h = p refl h
+by_shape_cases Date P Q R S T X p q r s t h = q refl h
+by_shape_cases Binary P Q R S T X p q r s t h = r refl h
+by_shape_cases Escape P Q R S T X p q r s t h = s refl h
+by_shape_cases User P Q R S T X p q r s t h = t refl h
+by_shape_cases Unsupported P Q R S T X p q r s t h = absurd h
 
 number_only : (n : Num) (z : ℤ) → IsAccepted n z → IsHeldOnce n → n ≡ of_integer z
 number_only (unsigned n) z h once = ap of_integer (sym h.0)
@@ -193,6 +203,28 @@ escape_only ms inner v es whole is same special =
     let names : is_special (names_of (fields_of es)) ≡ true = ap is_special (sym (keys_of_members-members_written (fields_of es)) ∙ ap keys_of_members (sym same)) ∙ special in
     ap json.object whole ∙ ap (λ (x : Members). alone (codes "$escape") (json.object x)) same ∙ sym (ap (λ (b : Bool). escaped_if b (members_written (fields_of es))) names) ∙ ap written (sym is)
 
+no_keys : (ms : Members) → keys_of_members ms ≡ [] → ms ≡ no_members
+no_keys no_members h = refl
+no_keys (member key d ms) h = absurd (cc h)
+
+-- the object of a value of a user type
+user_from : (key other : List ℕ) (named d : Data) (ms : Members) (v : Val) (name : List ℕ) (w : Val)
+    → keys_of_members (member key named (member other d ms)) ≡ codes "$type" ∷ codes "$value" ∷ [] → IsNamed named name → d ≡ written w → v ≡ user name w
+    → json.object (member key named (member other d ms)) ≡ written v
+user_from key other (json.string s) d ms v name w keys is same whole =
+    let first : key ≡ codes "$type" = cc keys in
+    let second : other ≡ codes "$value" = cc keys in
+    let none : keys_of_members ms ≡ [] = cc keys in
+    ap (λ (x : List ℕ). json.object (member x (json.string s) (member other d ms))) first
+    ∙ ap (λ (x : List ℕ). json.object (member (codes "$type") (json.string s) (member x d ms))) second
+    ∙ ap (λ (x : Members). json.object (member (codes "$type") (json.string s) (member (codes "$value") d x))) (no_keys ms none)
+    ∙ ap₂ user_object (sym is.0) same ∙ ap written (sym whole)
+user_from key other json.null d ms v name w keys is same whole = absurd is
+user_from key other (json.boolean b) d ms v name w keys is same whole = absurd is
+user_from key other (json.number n) d ms v name w keys is same whole = absurd is
+user_from key other (json.array ds) d ms v name w keys is same whole = absurd is
+user_from key other (json.object inner) d ms v name w keys is same whole = absurd is
+
 mutual
   pub only_written : (d : Data) (v : Val) → Reads d v → HoldsNumbersOnce d → IsEscapedExactly d → d ≡ written v
   only_written json.null v h once exact = ap written (sym h)
@@ -201,16 +233,19 @@ mutual
   only_written (json.string s) v h once exact = ap written (sym h)
   only_written (json.array ds) v h once exact = ap json.array (items_only_written ds h.0 h.1 once exact) ∙ ap written (sym h.2)
   only_written (json.object ms) v h once exact =
-      by_shape_cases (shape_of (keys_of_members ms)) ((es : Entries) × MembersRead ms es × (v ≡ object (fields_of es))) (IsDate (first_of ms) v) (IsBinary (first_of ms) v) (EscapeReads ms v) (json.object ms ≡ written v)
+      by_shape_cases (shape_of (keys_of_members ms)) ((es : Entries) × MembersRead ms es × (v ≡ object (fields_of es))) (IsDate (first_of ms) v) (IsBinary (first_of ms) v) (EscapeReads ms v) (UserReads ms v) (json.object ms ≡ written v)
       (λ shape r.
-      let inside : MembersAreEscapedExactly ms = subst (λ (s : Shape). ByShape s (MembersAreEscapedExactly ms) (Unit {0}) (Unit {0}) (EscapesSpecial ms)) shape exact in
+      let inside : MembersAreEscapedExactly ms = subst (λ (s : Shape). ByShape s (MembersAreEscapedExactly ms) (Unit {0}) (Unit {0}) (EscapesSpecial ms) (MembersAreEscapedExactly ms)) shape exact in
       let plain : is_special (keys_of_members ms) ≡ false = subst (λ (s : Shape). KeySet s (keys_of_members ms)) shape (key_set (keys_of_members ms)) in
       plain_only ms v r.0 r.2 (members_only_written ms r.0 r.1 once inside) plain)
       (λ shape r. date_only ms v (subst (λ (s : Shape). KeySet s (keys_of_members ms)) shape (key_set (keys_of_members ms))) r once)
       (λ shape r. binary_only ms v (subst (λ (s : Shape). KeySet s (keys_of_members ms)) shape (key_set (keys_of_members ms))) r)
       (λ shape r.
       escape_only_written ms v (subst (λ (s : Shape). KeySet s (keys_of_members ms)) shape (key_set (keys_of_members ms))) r once
-      (subst (λ (s : Shape). ByShape s (MembersAreEscapedExactly ms) (Unit {0}) (Unit {0}) (EscapesSpecial ms)) shape exact))
+      (subst (λ (s : Shape). ByShape s (MembersAreEscapedExactly ms) (Unit {0}) (Unit {0}) (EscapesSpecial ms) (MembersAreEscapedExactly ms)) shape exact))
+      (λ shape r.
+      user_only_written ms v (subst (λ (s : Shape). KeySet s (keys_of_members ms)) shape (key_set (keys_of_members ms))) r once
+      (subst (λ (s : Shape). ByShape s (MembersAreEscapedExactly ms) (Unit {0}) (Unit {0}) (EscapesSpecial ms) (MembersAreEscapedExactly ms)) shape exact))
       h
 
   pub items_only_written : (ds : Items) (vs : List Val) → ItemsRead ds vs → ItemsHoldNumbersOnce ds → ItemsAreEscapedExactly ds → ds ≡ items_written (vals_of vs)
@@ -233,3 +268,9 @@ mutual
   escape_only_written (member key (json.object inner) ms) v keys h once exact =
       escape_only (member key (json.object inner) ms) inner v h.0 (only_member (member key (json.object inner) ms) (codes "$escape") keys) h.2
       (members_only_written inner h.0 h.1 once.0 exact.1) exact.0
+
+  user_only_written : (ms : Members) (v : Val) → keys_of_members ms ≡ codes "$type" ∷ codes "$value" ∷ [] → UserReads ms v → MembersHoldNumbersOnce ms → MembersAreEscapedExactly ms → json.object ms ≡ written v
+  user_only_written no_members v keys h once exact = absurd h
+  user_only_written (member key named no_members) v keys h once exact = absurd h
+  user_only_written (member key named (member other d ms)) v keys h once exact =
+      user_from key other named d ms v h.0 h.1 keys h.2 (only_written d h.1 h.3 once.1.0 exact.1.0) h.4

@@ -20,12 +20,15 @@ pub enum EjsonFault {
     /// An `$escape` that isn't an object.
     #[error("an $escape that isn't an object")]
     BadEscape = 4,
-    /// A form of EJSON that no value here has: `$InfNaN`, a regular expression, a type of the user's.
+    /// A form of EJSON that no value here has: `$InfNaN` or a regular expression.
     #[error("a form of EJSON that isn't supported")]
     Unsupported = 5,
-    /// A list or an object at more than 32 levels.
-    #[error("lists and objects nest too deep")]
+    /// A list, an object or a value of a user type at more than 32 levels.
+    #[error("lists, objects and values of user types nest too deep")]
     TooDeep = 6,
+    /// A `$type` that isn't a text of 1 to 128 bytes.
+    #[error("a $type that isn't a text of 1 to 128 bytes")]
+    BadUser = 7,
 }
 
 /// Why a tree wasn't read.

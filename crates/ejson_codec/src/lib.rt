@@ -14,10 +14,7 @@ pub use fault::{EjsonFault, ParseFault, ReadFault};
 pub use laws::{one_tree, size_of_text};
 pub use reading::read;
 pub use texts::{parse, text};
-pub use writing::write;
+pub use writing::{put_member, write, write_document};
 
 /// Texts, one for each line.
 pub type Lines = ListOf<Text>;
-
-#[cfg(test)]
-mod tests;

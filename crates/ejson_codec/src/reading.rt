@@ -1,22 +1,23 @@
 //! Reading JSON trees.
-ghost use Rattle.std.specs.Prelude.{◌≡◌, ℕ, ◌≤◌, Ok, IfOk, MatchOption};
+ghost use Rattle.std.specs.Prelude.{◌≡◌, ℕ, ◌≤◌, Ok, IfOk, OnOk, MatchOption};
 ghost use Rattle.serde_json.specs.View.{view as json_view, number_view, items_view, members_view};
-ghost use Rattle.value_model.specs.Val.{Val};
+ghost use Rattle.value_model.specs.Val.{Val, user as user_value};
+ghost use Rattle.value_model.specs.Doc.{put};
 ghost use Rattle.value_model.specs.Depth.{depth};
 ghost use Rattle.ejson_value.specs.View.{view};
 ghost use Rattle.ejson_codec.specs.Shape.{first_of};
 ghost use Rattle.ejson_codec.specs.Reads.{Reads};
-ghost use Rattle.ejson_codec.specs.Reading.{max_levels, number_reading, date_reading, binary_reading, below, object_made, reading, items_reading, members_reading, escape_reading, Gives};
+ghost use Rattle.ejson_codec.specs.Reading.{max_levels, number_reading, date_reading, binary_reading, name_reading, below, object_made, reading, items_reading, members_reading, escape_reading, user_reading, Gives};
 ghost use Rattle.serde_json.specs.Data.{null, object as json_object};
 
 use crate::base64_text::decoded;
 use crate::fault::{EjsonFault, ReadFault};
 use crate::shape::{Shape, of_members};
-use ejson_value::{Doc, Items, Text, Value, Whole};
+use ejson_value::{Boxed, Doc, Items, Mem, Text, UserName, Value, Whole};
 use serde_json::{Map, Number, Value as Json};
 use std::alloc::Global;
 
-/// How many lists and objects may stand in one another.
+/// How many lists, objects and values of user types may stand in one another.
 const MAX_LEVELS: u8 = 32;
 
 /// Reads a tree as a value.
@@ -79,6 +80,36 @@ fn binary(alloc: Global, tree: &Json) -> Result<Value, ReadFault>
     }
 }
 
+// What stands at `$type`.
+fn user_name(alloc: Global, tree: &Json) -> Result<UserName, ReadFault>
+    ensures { Gives (λ name. name) result (name_reading (json_view tree.now)) }
+{
+    match tree {
+        Json::String(text) => match UserName::of(Text::from_str(alloc, text.as_str())?) {
+            Ok(name) => Ok(name),
+            Err(_) => Err(ReadFault::Ejson(EjsonFault::BadUser)),
+        },
+        _ => Err(ReadFault::Ejson(EjsonFault::BadUser)),
+    }
+}
+
+// The value of the user type of this name that this value stands for.
+fn user_of(alloc: Global, name: UserName, value: Value) -> Result<Value, Mem>
+    ensures { IfOk result (λ v. view v ≡ user_value name (view value)) }
+{
+    Ok(Value::User {
+        name,
+        value: Boxed::of(alloc, value)?,
+    })
+}
+
+// Puts the value at the key.
+fn put_field(alloc: Global, doc: &mut Doc, key: &str, value: Value) -> Result<(), Mem>
+    ensures { OnOk result (doc.new ≡ put doc.old key.now (view value)) }
+{
+    doc.put(Text::from_str(alloc, key)?, value)
+}
+
 // A tree, with so many levels left.
 #[cycle(reading)]
 fn value(alloc: Global, levels: u8, tree: &Json) -> Result<Value, ReadFault>
@@ -125,6 +156,7 @@ fn object(alloc: Global, levels: u8, members: &Map<String, Json>) -> Result<Valu
             None => Err(ReadFault::Ejson(EjsonFault::BadBinary)),
         },
         Shape::Escape => escaped(alloc, levels, members),
+        Shape::User => user(alloc, levels, members),
         Shape::Unsupported => Err(ReadFault::Ejson(EjsonFault::Unsupported)),
     }
 }
@@ -143,6 +175,25 @@ fn escaped(alloc: Global, levels: u8, members: &Map<String, Json>) -> Result<Val
     }
 }
 
+// What stands at `$type` and at `$value`.
+#[cycle(reading)]
+fn user(alloc: Global, levels: u8, members: &Map<String, Json>) -> Result<Value, ReadFault>
+    ensures { Gives view result (user_reading levels (members_view members.now.entries)) }
+{
+    let mut trees = members.values();
+    let Some(named) = trees.next() else {
+        return Err(ReadFault::Ejson(EjsonFault::BadUser));
+    };
+    let Some(tree) = trees.next() else {
+        return Err(ReadFault::Ejson(EjsonFault::BadUser));
+    };
+    if levels == 0 {
+        return Err(ReadFault::Ejson(EjsonFault::TooDeep));
+    }
+    let name = user_name(alloc, named)?;
+    Ok(user_of(alloc, name, value(alloc, levels - 1, tree)?)?)
+}
+
 // The members of an object by rising key, each under its own key.
 #[cycle(reading)]
 fn fields(alloc: Global, levels: u8, members: &Map<String, Json>) -> Result<Doc, ReadFault>
@@ -153,8 +204,12 @@ fn fields(alloc: Global, levels: u8, members: &Map<String, Json>) -> Result<Doc,
     }
     let mut doc = Doc::new(alloc);
     for (key, tree) in members {
-        let found = value(alloc, levels - 1, tree)?;
-        doc.put(Text::from_str(alloc, key.as_str())?, found)?;
+        put_field(
+            alloc,
+            &mut doc,
+            key.as_str(),
+            value(alloc, levels - 1, tree)?,
+        )?;
     }
     Ok(doc)
 }

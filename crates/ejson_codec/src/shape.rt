@@ -6,12 +6,13 @@ ghost use Rattle.ejson_codec.specs.Shape.{keys_of_members, shape_of, shape_of_on
 use serde_json::{Map, Value as Json};
 
 /// What an object stands for, by the exact set of its keys.
-#[derive(Clone, Copy, Debug, PartialEq, Eq)]
+#[derive(Clone, Copy)]
 pub(crate) enum Shape {
     Plain,
     Date,
     Binary,
     Escape,
+    User,
     Unsupported,
 }
 
@@ -33,7 +34,8 @@ fn of_two(first: &str, second: &str) -> Shape
     ensures { result ≡ shape_of_two first.now second.now }
 {
     match (first, second) {
-        ("$flags", "$regexp") | ("$type", "$value") => Shape::Unsupported,
+        ("$flags", "$regexp") => Shape::Unsupported,
+        ("$type", "$value") => Shape::User,
         _ => Shape::Plain,
     }
 }

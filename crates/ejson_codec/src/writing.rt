@@ -1,19 +1,19 @@
 //! Writing JSON trees.
-ghost use Rattle.std.specs.Prelude.{◌≡◌, IfOk, OnOk, OnErr, string_bytes, List, ℕ};
-ghost use Rattle.serde_json.specs.Data.{Data, number, put};
+ghost use Rattle.std.specs.Prelude.{◌≡◌, IfOk, OnOk, OnErr, List, ℕ};
+ghost use Rattle.serde_json.specs.Data.{Data, number, string, put};
 ghost use Rattle.serde_json.specs.Find.{of_integer};
 ghost use Rattle.serde_json.specs.View.{view as json_view, items_view, members_view};
-ghost use Rattle.value_model.specs.Val.{vals_of, fields_of};
+ghost use Rattle.value_model.specs.Val.{vals_of, fields_of, object as object_value};
 ghost use Rattle.ejson_value.specs.View.{view};
 ghost use Rattle.ejson_codec.specs.Reads.{Reads};
 ghost use Rattle.ejson_codec.specs.Trees.{IsTree, IsEscapedExactly};
-ghost use Rattle.ejson_codec.specs.Written.{alone, written, items_written, members_written, escaped_if};
+ghost use Rattle.ejson_codec.specs.Written.{alone, user_object, written, items_written, members_written, escaped_if};
 ghost use Rattle.value_model.specs.Size.{is_special};
 ghost use Rattle.ejson_codec.specs.Shape.{keys_of_members};
 
 use crate::base64_text::encoded;
 use crate::shape::{Shape, of_members};
-use ejson_value::{Doc, Items, Mem, Value, Whole};
+use ejson_value::{Doc, Items, Mem, Text, UserName, Value, Whole};
 use serde_json::{Map, Number, Value as Json};
 use std::alloc::Global;
 
@@ -28,6 +28,13 @@ pub fn write(alloc: Global, value: &Value) -> Result<Json, Mem>
     tree(alloc, value)
 }
 
+/// Writes a document as its tree.
+pub fn write_document(alloc: Global, doc: &Doc) -> Result<Json, Mem>
+    ensures { IfOk result (λ tree. json_view tree ≡ written (object_value (fields_of doc.now))) }
+{
+    escaped(alloc, members(alloc, doc)?)
+}
+
 // A whole number.
 fn whole(integer: &Whole) -> Json
     ensures { json_view result ≡ number (of_integer integer.now) }
@@ -35,11 +42,16 @@ fn whole(integer: &Whole) -> Json
     Json::Number(Number::from(integer.get()))
 }
 
-// Puts the tree at the key.
-fn put_member(members: &mut Map<String, Json>, key: String, tree: Json) -> Result<(), Mem>
-    ensures { OnOk result (members_view members.new.entries ≡ put (string_bytes key) (json_view tree) (members_view members.old.entries)) }
+/// Puts the tree at the key.
+pub fn put_member(
+    alloc: Global,
+    members: &mut Map<String, Json>,
+    key: &str,
+    tree: Json,
+) -> Result<(), Mem>
+    ensures { OnOk result (members_view members.new.entries ≡ put key.now (json_view tree) (members_view members.old.entries)) }
 {
-    drop(members.insert(key, tree)?);
+    drop(members.insert(String::from_str(alloc, key)?, tree)?);
     Ok(())
 }
 
@@ -48,7 +60,24 @@ fn object_of(alloc: Global, key: &str, tree: Json) -> Result<Json, Mem>
     ensures { IfOk result (λ object. json_view object ≡ alone key.now (json_view tree)) }
 {
     let mut members = Map::new(alloc);
-    put_member(&mut members, String::from_str(alloc, key)?, tree)?;
+    put_member(alloc, &mut members, key, tree)?;
+    Ok(Json::Object(members))
+}
+
+// A text.
+fn text(alloc: Global, text: &Text) -> Result<Json, Mem>
+    ensures { IfOk result (λ tree. json_view tree ≡ string text.now) }
+{
+    Ok(Json::String(String::from_str(alloc, text.as_str())?))
+}
+
+// A value of the user type of this name, over the tree of what stands for it.
+fn user(alloc: Global, name: &UserName, tree: Json) -> Result<Json, Mem>
+    ensures { IfOk result (λ object. json_view object ≡ user_object name.now (json_view tree)) }
+{
+    let mut members = Map::new(alloc);
+    put_member(alloc, &mut members, "$value", tree)?;
+    put_member(alloc, &mut members, "$type", text(alloc, name.get())?)?;
     Ok(Json::Object(members))
 }
 
@@ -71,7 +100,7 @@ fn tree(alloc: Global, value: &Value) -> Result<Json, Mem>
         Value::Null => Ok(Json::Null),
         Value::Bool(truth) => Ok(Json::Bool(*truth)),
         Value::Int(number) => Ok(whole(number)),
-        Value::Text(text) => Ok(Json::String(String::from_str(alloc, text.as_str())?)),
+        Value::Text(words) => text(alloc, words),
         Value::Date(moment) => object_of(alloc, "$date", whole(moment)),
         Value::Bytes(bytes) => object_of(
             alloc,
@@ -80,6 +109,7 @@ fn tree(alloc: Global, value: &Value) -> Result<Json, Mem>
         ),
         Value::List(items) => Ok(Json::Array(trees(alloc, items)?)),
         Value::Object(doc) => escaped(alloc, members(alloc, doc)?),
+        Value::User { name, value } => user(alloc, name, tree(alloc, value.get())?),
     }
 }
 
@@ -102,12 +132,7 @@ fn members(alloc: Global, doc: &Doc) -> Result<Map<String, Json>, Mem>
 {
     let mut members = Map::new(alloc);
     for (name, value) in doc.iter() {
-        let written = tree(alloc, value)?;
-        put_member(
-            &mut members,
-            String::from_str(alloc, name.as_str())?,
-            written,
-        )?;
+        put_member(alloc, &mut members, name.as_str(), tree(alloc, value)?)?;
     }
     Ok(members)
 }

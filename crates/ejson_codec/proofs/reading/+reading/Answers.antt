@@ -1,14 +1,15 @@
-use Rattle.std.proofs.Common.{◌≡◌, ◌-◌, List, None, sym, ap, ◌∙◌, arith, rules}
+use Rattle.std.proofs.Common.{◌≡◌, ◌-◌, ℕ, ◌∷◌, Ok, Result, List, None, sym, ap, ap₂, ◌∙◌, arith, rules}
 use Rattle.std.proofs.lemmas.Result.{err_from_is_err_and}
 use Rattle.serde_json.specs.Find.{as_object}
 use Rattle.serde_json.specs.View.{view as json_view}
 use Rattle.serde_json.specs.View.{items_view, members_view}
 use Rattle.serde_json.specs.declared.value.Value.{Value as Json}
 use Rattle.value_model.specs.Val.{Val, Entries}
-use Rattle.ejson_codec.specs.Reading.{reading, items_reading, members_reading}
+use Rattle.ejson_codec.specs.declared.fault.EjsonFault.{EjsonFault}
+use Rattle.ejson_codec.specs.Reading.{user_made, reading, items_reading, members_reading}
 use Rattle.serde_json.specs.declared.value.Value.{the_lemmas}
 use Rattle.ejson_value.specs.View.{view}
-use Rattle.ejson_codec.proofs.Exits.{fault_passed, fault_passed_below, below_some, escape_object, escape_other, object_made_ok, object_made_err}
+use Rattle.ejson_codec.proofs.Exits.{fault_passed, fault_passed_below, below_some, escape_object, escape_other, user_too_deep, user_below, user_alone, object_made_ok, object_made_err}
 use Rattle.ejson_codec.proofs.Lists.{no_item_yet, item_more, item_fails}
 use Rattle.ejson_codec.proofs.Fields.{none_read, one_more_read, member_fails, all_read}
 use Rattle.ejson_codec.proofs.reading.+reading.Goals as goal
@@ -44,10 +45,10 @@ escaped-returns-in_err-fields-in-Object t c =
     let p = err_from_is_err_and c.from_residual.result c.from_residual.ensures.1 in
     rw (p.1, p.2) (fault_passed (λ es. es) view _ _ _ c.in_err-fields-in-Object.ensures (λ x refused. escape_object _ _ _ _ _ (sym c.values.ensures.rest ∙ c.in-Some.ensures.steps) c.in-Object.is ∙ object_made_err _ x refused))
 
-pub fields-returns-in_err-found : goal.fields-returns-in_err-found
-fields-returns-in_err-found t c =
+pub fields-returns-in_err-value : goal.fields-returns-in_err-value
+fields-returns-in_err-value t c =
     let p = err_from_is_err_and c.from_residual.result c.from_residual.ensures.1 in
-    rw (p.1, p.2) (fault_passed_below view (λ (es : Entries). es) c.in_err-found.field-0.0 (reading (c.args.levels - 1) (json_view c.in-Some.tree.now)) c.args.levels (λ n. members_reading n (members_view c.args.members.now.entries)) c.if-levels-eq0.false c.in_err-found.ensures
+    rw (p.1, p.2) (fault_passed_below view (λ (es : Entries). es) c.in_err-value.field-0.0 (reading (c.args.levels - 1) (json_view c.in-Some.tree.now)) c.args.levels (λ n. members_reading n (members_view c.args.members.now.entries)) c.if-levels-eq0.false c.in_err-value.ensures
     (λ x refused. member_fails (c.args.levels - 1) c.args.members.now.entries c.loop-key.key-iterator c.next.new.self c.in-Some.key.now c.in-Some.tree.now x c.loop-key.doc c.in-Some.ensures.steps refused c.loop-key.invariant))
 
 pub fields-returns : goal.fields-returns
@@ -62,5 +63,34 @@ fields-loop-key-init t c =
 
 pub fields-loop-key-preserved : goal.fields-loop-key-preserved
 fields-loop-key-preserved t c =
-    one_more_read (c.args.levels - 1) c.args.members.now.entries c.loop-key.key-iterator c.next.new.self c.in-Some.key.now c.in-Some.tree.now c.in_ok-from_str.field-0 (view c.in_ok-found.found) c.loop-key.doc c.put.new.self
-    c.in-Some.ensures.steps (c.in_ok-from_str.ensures ∙ c.as_str.ensures.value) c.in_ok-found.ensures c.in_ok-put.ensures.ok c.loop-key.invariant
+    one_more_read (c.args.levels - 1) c.args.members.now.entries c.loop-key.key-iterator c.next.new.self c.in-Some.key.now c.in-Some.tree.now c.as_str.result.now (view c.in_ok-value.field-0) c.loop-key.doc c.put_field.new.doc
+    c.in-Some.ensures.steps c.as_str.ensures.value c.in_ok-value.ensures c.in_ok-put_field.ensures c.loop-key.invariant
+
+pub user-returns-in_default-next : goal.user-returns-in_default-next
+user-returns-in_default-next t c =
+    user_alone _ _ _ (sym c.values-trees.ensures.rest ∙ c.in-Some.ensures.steps ∙ ap (λ (more : List Json). c.in-Some.named.now ∷ more) c.in_default-next.ensures.steps.0)
+
+pub user-returns-then-levels-eq0 : goal.user-returns-then-levels-eq0
+user-returns-then-levels-eq0 t c =
+    user_too_deep _ _ _ _ _ (sym c.values-trees.ensures.rest ∙ c.in-Some.ensures.steps ∙ ap (λ (more : List Json). c.in-Some.named.now ∷ more) c.in-Some-next.ensures.steps) c.if-levels-eq0.true
+
+pub user-returns-in_err-name : goal.user-returns-in_err-name
+user-returns-in_err-name t c =
+    let p = err_from_is_err_and c.from_residual.result c.from_residual.ensures.1 in
+    let below = user_below c.args.levels c.args.members.now.entries c.in-Some.named.now c.in-Some-next.tree.now c.next-2.new.self
+    (sym c.values-trees.ensures.rest ∙ c.in-Some.ensures.steps ∙ ap (λ (more : List Json). c.in-Some.named.now ∷ more) c.in-Some-next.ensures.steps) c.if-levels-eq0.false in
+    let inner = reading (c.args.levels - 1) (json_view c.in-Some-next.tree.now) in
+    rw (p.1, p.2) (fault_passed (λ (n : List ℕ). n) view _ _ _ c.in_err-name.ensures (λ x refused. below ∙ ap (λ (r : Result (List ℕ) EjsonFault). user_made r inner) refused))
+
+pub user-returns-in_err-value : goal.user-returns-in_err-value
+user-returns-in_err-value t c =
+    let p = err_from_is_err_and c.from_residual-in_err-value.result c.from_residual-in_err-value.ensures.1 in
+    let below = user_below c.args.levels c.args.members.now.entries c.in-Some.named.now c.in-Some-next.tree.now c.next-2.new.self
+    (sym c.values-trees.ensures.rest ∙ c.in-Some.ensures.steps ∙ ap (λ (more : List Json). c.in-Some.named.now ∷ more) c.in-Some-next.ensures.steps) c.if-levels-eq0.false in
+    rw (p.1, p.2) (fault_passed view view _ _ _ c.in_err-value.ensures (λ x refused. below ∙ ap₂ user_made c.in_ok-name.ensures refused))
+
+pub user-returns : goal.user-returns
+user-returns t c =
+    let below = user_below c.args.levels c.args.members.now.entries c.in-Some.named.now c.in-Some-next.tree.now c.next-2.new.self
+    (sym c.values-trees.ensures.rest ∙ c.in-Some.ensures.steps ∙ ap (λ (more : List Json). c.in-Some.named.now ∷ more) c.in-Some-next.ensures.steps) c.if-levels-eq0.false in
+    below ∙ ap₂ user_made c.in_ok-name.ensures c.in_ok-value.ensures ∙ ap (λ (v : Val). Ok v) (sym c.in_ok-user_of.ensures)

@@ -30,8 +30,8 @@ members-loop-name-preserved t c =
     let sorted = subst (λ es. IsStrictlySortedBy text_cmp (keys_of es)) (sym c.into_iter-name-iterator.ensures.into_iter_gives) c.iter-name-items.ensures.ordered in (
       done ++ (name, value) ∷ [],
       all ∙ sym (append_assoc done ((name, value) ∷ []) c.next.new.self),
-      member_more c.into_iter-name-iterator.result done name _ value c.next.new.self (json_view c.in_ok-written.written) (members_view c.loop-name.members.entries) (members_view c.put_member.new.members.entries)
-          all sorted (c.in_ok-from_str.ensures.ok ∙ c.as_str.ensures) c.in_ok-written.ensures c.in_ok-put_member.ensures c.loop-name.invariant.2,
+      member_more c.into_iter-name-iterator.result done name _ value c.next.new.self (json_view c.in_ok-tree.field-0) (members_view c.loop-name.members.entries) (members_view c.put_member.new.members.entries)
+          all sorted c.as_str.ensures c.in_ok-tree.ensures c.in_ok-put_member.ensures c.loop-name.invariant.2,
     )
 
 pub trees-tree-requires : goal.trees-tree-requires

@@ -1,0 +1,162 @@
+//! Texts of EJSON.
+use crate::texts::{filled, parts};
+use ejson_codec::{EjsonFault, Lines, ParseFault, parse, read, text, write};
+use ejson_value::{Text, depth, size};
+use serde_json::Value as Json;
+use std::alloc::Global;
+use std::test::Fail;
+
+// Each row: a text, and what is written of the value that it reads as, or what refuses it.
+const ROWS: &str = r#"null => same
+true => same
+-9007199254740991 => same
+9007199254740991 => same
+"a\n\u0001\"\\" => same
+[] => same
+{} => same
+[1,["x",{"a":null}]] => same
+ { "b" : 1 , "a" : 2 }  => {"a":2,"b":1}
+{"a":1,"a":2} => {"a":2}
+{"$date":32491} => same
+{"$binary":""} => same
+{"$binary":"AAE="} => same
+{"$binary":"+/8="} => same
+{"$date":1,"x":2} => same
+{"$binary":"AA","$date":1} => same
+{"$flags":1} => same
+{"$type":"t"} => same
+{"$escape":{"$date":{"$date":32491}}} => same
+{"$escape":{"$binary":1}} => same
+{"$escape":{"$escape":{"$escape":{"$InfNaN":0}}}} => same
+{"$escape":{"$flags":"i","$regexp":"a"}} => same
+{"$escape":{"$type":"t","$value":[1]}} => same
+{"$escape":{"a":1}} => {"a":1}
+ => not JSON
+{"a":1 => not JSON
+1e999 => not JSON
+9007199254740992 => 1
+-9007199254740992 => 1
+123456789012345678901234567890 => 1
+1.5 => 1
+{"$date":1.5} => 1
+{"$date":"x"} => 2
+{"$binary":"AA"} => 3
+{"$binary":"AAH="} => 3
+{"$binary":"-_8="} => 3
+{"$binary":0} => 3
+{"$escape":5} => 4
+{"$InfNaN":0} => 5
+{"$flags":"i","$regexp":"a"} => 5
+{"$value":1,"$type":"t"} => 5
+[{"$date":null},1.5] => 2
+{"b":{"$escape":1},"a":1.5} => 1
+"#;
+
+// The same inside 32 lists.
+const DEEP_ROWS: &str = r#"{"$date":1} => same
+{"$date":"x"} => 2
+{"$binary":"x"} => 3
+{"$escape":5} => 4
+{"$InfNaN":0} => 5
+{"$flags":"i","$regexp":"a"} => 5
+[] => 6
+{} => 6
+{"$escape":{}} => 6
+{"$escape":{"$InfNaN":0}} => 6
+"#;
+
+fn number(fault: ParseFault) -> &'static str {
+    match fault {
+        ParseFault::NotJson => "not JSON",
+        ParseFault::Ejson(EjsonFault::BadNumber) => "1",
+        ParseFault::Ejson(EjsonFault::BadDate) => "2",
+        ParseFault::Ejson(EjsonFault::BadBinary) => "3",
+        ParseFault::Ejson(EjsonFault::BadEscape) => "4",
+        ParseFault::Ejson(EjsonFault::Unsupported) => "5",
+        ParseFault::Ejson(EjsonFault::TooDeep) => "6",
+        ParseFault::Memory => "memory",
+    }
+}
+
+fn answer(alloc: Global, input: &Text) -> Result<Text, Fail> {
+    match parse(alloc, input) {
+        Ok(value) => Ok(text(alloc, &value)?),
+        Err(fault) => Ok(Text::from_str(alloc, number(fault))?),
+    }
+}
+
+fn is_right(alloc: Global, row: &str) -> Result<bool, Fail> {
+    let (input, wanted) = parts(row);
+    let given = answer(alloc, &Text::from_str(alloc, input)?)?;
+    Ok(given.as_str() == wanted)
+}
+
+// The text inside so many lists.
+fn nested(alloc: Global, text: &str, lists: u16) -> Result<Text, Fail> {
+    let mut nest = filled(alloc, "@", "[", lists)?;
+    nest.push_str(text)?;
+    nest.push_str(filled(alloc, "@", "]", lists)?.as_str())?;
+    Ok(nest)
+}
+
+fn is_right_inside(alloc: Global, row: &str) -> Result<bool, Fail> {
+    let (inner, wanted) = parts(row);
+    let input = nested(alloc, inner, 32)?;
+    let given = answer(alloc, &input)?;
+    Ok(given.as_str() == wanted || (inner == wanted && given.as_str() == input.as_str()))
+}
+
+#[test]
+fn texts(rt: HostRuntime) -> Result<(), Fail> {
+    for row in ROWS.lines() {
+        assert!(rt; is_right(rt.alloc(), row)?, "at {row}");
+    }
+    Ok(())
+}
+
+#[test]
+fn texts_inside_32_lists(rt: HostRuntime) -> Result<(), Fail> {
+    for row in DEEP_ROWS.lines() {
+        assert!(rt; is_right_inside(rt.alloc(), row)?, "at {row}");
+    }
+    Ok(())
+}
+
+// How a text of so many lists is answered.
+fn answer_to_lists(alloc: Global, lists: u16) -> Result<Text, Fail> {
+    answer(alloc, &nested(alloc, "", lists)?)
+}
+
+#[test]
+fn json_has_127_levels(rt: HostRuntime) -> Result<(), Fail> {
+    assert_eq!(rt; answer_to_lists(rt.alloc(), 127)?.as_str(), "6");
+    assert_eq!(rt; answer_to_lists(rt.alloc(), 128)?.as_str(), "not JSON");
+    Ok(())
+}
+
+// Whether the tree of the text is written as it was read.
+fn is_kept(alloc: Global, input: &str) -> Result<bool, Fail> {
+    let tree = Json::from_str(alloc, input)?;
+    is_written(alloc, &tree)
+}
+
+fn is_written(alloc: Global, tree: &Json) -> Result<bool, Fail> {
+    let value = read(alloc, tree)?;
+    Ok(write(alloc, &value)? == *tree)
+}
+
+// The size and the depth of the value of a text.
+fn measures(alloc: Global, input: &str) -> Result<(u64, u64), Fail> {
+    let value = parse(alloc, &Text::from_str(alloc, input)?)?;
+    Ok((size(&value), depth(&value)))
+}
+
+#[test]
+fn trees(rt: HostRuntime) -> Result<(), Fail> {
+    let alloc = rt.alloc();
+    assert!(rt; is_kept(alloc, r#"{"a":{"$binary":"AAE="}}"#)?);
+    assert_eq!(rt; measures(alloc, r#"{"a":{"$binary":"AAE="}}"#)?, (24, 1));
+    assert_eq!(rt; EjsonFault::TooDeep as u8, 6);
+    assert!(rt; Lines::new(alloc).is_empty());
+    Ok(())
+}
