@@ -46,6 +46,3 @@ fn letter(word: u32) -> char
     let place = (u64::from(word) * 55) >> 32;
     char::from(ALPHABET[place as usize])
 }
-
-#[cfg(test)]
-mod tests;

@@ -1,3 +1,1 @@
-pub mod ArmedFences
-pub mod ListsSteps
-pub mod Pairs
+pub mod Armed
