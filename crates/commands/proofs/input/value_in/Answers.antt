@@ -1,0 +1,15 @@
+use Rattle.std.proofs.Common.{Some, ap, sym, ◌∙◌}
+use Rattle.std.specs.Result.{result_ok}
+use Rattle.ejson_value.specs.View.{view}
+use Rattle.ejson_codec.specs.Reading.{parsed}
+use Rattle.commands.specs.InputLaws.{value_of_text, no_value}
+use Rattle.commands.proofs.input.value_in.Goals as goal
+
+pub returns-in_default : goal.returns-in_default
+returns-in_default c = sym (no_value c.args.line.now c.in_default.ensures.cases.0)
+
+pub returns-in-Ok-parse : goal.returns-in-Ok-parse
+returns-in-Ok-parse c =
+    let same = c.in_ok-from_str.ensures ∙ c.in-Ok.ensures.cases.0 in
+    sym (value_of_text c.args.line.now (Some (view c.in-Ok-parse.value)) c.in-Ok.ensures.cases.1
+    (ap (λ text. result_ok (parsed text)) (sym same) ∙ ap result_ok c.in-Ok-parse.ensures.exact))

@@ -1,0 +1,61 @@
+-- The first line of an input, and what follows it.
+use Rattle.std.specs.Prelude.{◌≡◌, ◌≢◌, ℕ, zero, suc, ◌<◌, List, [], ◌∷◌, length, take, drop, get_or, Bool, true, false, if◌then◌else◌, ◌==◌, IsUtf8, refl}
+use Rattle.std.proofs.Common.{ap, ◌∙◌, arith}
+use Rattle.std.specs.Str.{is_utf8}
+use Rattle.std.proofs.lemmas.Str.{IsUtf8-from_is_utf8, is_utf8-from_IsUtf8}
+use Rattle.std.proofs.lemmas.Bool.{eqb-true}
+use Rattle.std.proofs.Common.{eq-eqb}
+use Rattle.std.specs.Prelude.{Option, None}
+use Rattle.std.specs.Result.{result_ok}
+use Rattle.value_model.specs.Val.{Val}
+use Rattle.ejson_codec.specs.Reading.{parsed}
+use Rattle.commands.specs.Input.{line_feed, with_byte, lines_in, value_in}
+
+not_feed : (b : ℕ) → b ≢ line_feed → (b == line_feed) ≡ false
+not_feed b n = by (b == line_feed) refl
+  where
+    by : (t : Bool) → (b == line_feed) ≡ t → (b == line_feed) ≡ false
+    by true e = absurd (n (eqb-true b line_feed e))
+    by false e = e
+
+-- a line up to the first line feed
+pub lines-cut : (xs : List ℕ) (i : ℕ) → i < length xs → ((k : ℕ) → k < i → get_or xs k 0 ≢ line_feed) → get_or xs i 0 ≡ line_feed →
+    lines_in xs ≡ take i xs ∷ lines_in (drop (suc i) xs)
+lines-cut [] i less before here = absurd (omega (arith, less))
+lines-cut (b ∷ bs) zero less before here = ap (λ t. if t then [] ∷ lines_in bs else with_byte b (lines_in bs)) (eq-eqb b line_feed here)
+lines-cut (b ∷ bs) (suc i) less before here =
+    let first : b ≢ line_feed = before 0 (omega arith) in
+    let shorter : i < length bs = omega (arith, less) in
+    ap (λ t. if t then [] ∷ lines_in bs else with_byte b (lines_in bs)) (not_feed b first)
+    ∙ ap (with_byte b) (lines-cut bs i shorter (λ k h. before (suc k) (omega (arith, h))) here)
+
+-- a last line without a line feed
+pub lines-last : (b : ℕ) (bs : List ℕ) → ((k : ℕ) → k < length (b ∷ bs) → get_or (b ∷ bs) k 0 ≢ line_feed) → lines_in (b ∷ bs) ≡ (b ∷ bs) ∷ []
+lines-last b [] before = ap (λ t. if t then [] ∷ lines_in [] else with_byte b (lines_in [])) (not_feed b (before 0 (omega arith)))
+lines-last b (c ∷ bs) before =
+    ap (λ t. if t then [] ∷ lines_in (c ∷ bs) else with_byte b (lines_in (c ∷ bs))) (not_feed b (before 0 (omega arith)))
+    ∙ ap (with_byte b) (lines-last c bs (λ k h. before (suc k) (omega (arith, h))))
+
+pub lines-whole : (xs : List ℕ) → 0 < length xs → ((k : ℕ) → k < length xs → get_or xs k 0 ≢ line_feed) → lines_in xs ≡ xs ∷ []
+lines-whole [] less before = absurd (omega (arith, less))
+lines-whole (b ∷ bs) less before = lines-last b bs before
+
+pub not_utf8 : (bs : List ℕ) → ¬ (IsUtf8 bs) → is_utf8 bs ≡ false
+not_utf8 bs n = by (is_utf8 bs) refl
+  where
+    by : (t : Bool) → is_utf8 bs ≡ t → is_utf8 bs ≡ false
+    by true e = absurd (n (IsUtf8-from_is_utf8 bs e))
+    by false e = e
+
+pub take_length : {A : Type 0} (xs : List A) (n : ℕ) → length xs ≡ n → take n xs ≡ xs
+take_length [] zero e = refl
+take_length [] (suc n) e = refl
+take_length (x ∷ xs) zero e = cc
+take_length (x ∷ xs) (suc n) e = let e' : length xs ≡ n = omega (arith, e) in ap (λ ys. x ∷ ys) (take_length xs n e')
+
+-- what parsing answers, as the value of a line
+pub value_of_text : (line : List ℕ) (o : Option Val) → IsUtf8 line → result_ok (parsed line) ≡ o → value_in line ≡ o
+value_of_text line o u e = ap (λ t. if t then result_ok (parsed line) else None) (is_utf8-from_IsUtf8 line u) ∙ e
+
+pub no_value : (line : List ℕ) → ¬ (IsUtf8 line) → value_in line ≡ None
+no_value line n = ap (λ t. if t then result_ok (parsed line) else None) (not_utf8 line n)

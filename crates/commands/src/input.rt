@@ -1,0 +1,59 @@
+//! The lines of an input.
+ghost use Rattle.std.specs.Prelude.{◌≡◌, ◌≢◌, ◌<◌, ◌≤◌, ◌∷◌, ℕ, length, slice_index, option_map, IfOk};
+ghost use Rattle.commands.specs.Input.{line_feed, lines_in, is_blank, value_in};
+ghost use Rattle.ejson_value.specs.View.{view};
+
+use ejson_codec::{ParseFault, parse};
+use ejson_value::{Mem, Text, Value};
+use std::alloc::Global;
+use std::str;
+
+// The place of the first line feed, the length where there is none.
+fn line_end(input: &[u8]) -> usize
+    ensures within { result ≤ length input.now }
+    ensures before { (k : ℕ) → k < result → slice_index input.now k ≢ line_feed }
+    ensures found { result < length input.now → slice_index input.now result ≡ line_feed }
+{
+    for (i, byte) in input.iter().enumerate() {
+        if *byte == b'\n' {
+            return i;
+        }
+    }
+    input.len()
+}
+
+/// The first line of the input, without its line feed, and what follows.
+pub fn first_line(input: &[u8]) -> (&[u8], &[u8])
+    requires { 0 < length input.now }
+    ensures lines { lines_in input.now ≡ result.0.now ∷ lines_in result.1.now }
+    ensures shorter { length result.1.now < length input.now }
+{
+    let end = line_end(input);
+    if end < input.len() {
+        (&input[..end], &input[end + 1..])
+    } else {
+        (input, &[])
+    }
+}
+
+/// Whether the line has spaces, tabs and carriage returns alone.
+pub fn is_blank(line: &[u8]) -> bool
+    ensures { result ≡ is_blank line.now }
+{
+    line.iter()
+        .all(|b| *b == b' ' || *b == b'\t' || *b == b'\r')
+}
+
+/// The value of a line, if it has one.
+pub fn value_in(alloc: Global, line: &[u8]) -> Result<Option<Value>, Mem>
+    ensures { IfOk result (λ v. option_map view v ≡ value_in line.now) }
+{
+    let Ok(text) = str::from_utf8(line) else {
+        return Ok(None);
+    };
+    match parse(alloc, &Text::from_str(alloc, text)?) {
+        Ok(value) => Ok(Some(value)),
+        Err(ParseFault::Memory) => Err(Mem),
+        Err(_) => Ok(None),
+    }
+}

@@ -1,0 +1,106 @@
+//! What is wrong with a line that isn't of the grammar, in words.
+use crate::input::first_line;
+use app_model::{App, AppFault, Flaw};
+use ejson_codec::{EjsonFault, ParseFault, parse, text};
+use ejson_value::{Mem, Text, Value};
+use std::alloc::Global;
+use std::str;
+
+/// How many characters of a text of the input a reason shows.
+const SHOWN: usize = 100;
+
+// The line of this number, counted from 1; nothing where there are fewer.
+fn line_of(input: &[u8], number: u64) -> &[u8] {
+    let mut rest = input;
+    for _ in 1..number {
+        if !rest.is_empty() {
+            rest = first_line(rest).1;
+        }
+    }
+    if rest.is_empty() {
+        rest
+    } else {
+        first_line(rest).0
+    }
+}
+
+// The text in quotes on one line, cut off where it is long.
+fn quoted(alloc: Global, shown: &Text) -> Result<Text, Mem> {
+    let short: String = shown.as_str().chars().take(SHOWN).collect(alloc)?;
+    let is_cut = short.len() < shown.len();
+    let mut quoted = text(alloc, &Value::Text(Text::from_string(short)))?;
+    if is_cut {
+        quoted.push_str("..")?;
+    }
+    Ok(quoted)
+}
+
+fn wrong_value(alloc: Global, fault: EjsonFault) -> Result<Text, Mem> {
+    let what = format!(in alloc; "it is no EJSON value: {fault}")?;
+    Ok(Text::from_string(what))
+}
+
+fn wrong_part(alloc: Global, flaw: Flaw, place: &Text) -> Result<Text, Mem> {
+    if place.is_empty() {
+        let what = format!(in alloc; "{flaw}, at its top")?;
+        return Ok(Text::from_string(what));
+    }
+    let place = quoted(alloc, place)?;
+    let place = place.as_str();
+    let what = format!(in alloc; "{flaw}, at {place}")?;
+    Ok(Text::from_string(what))
+}
+
+fn wrong_application(alloc: Global, value: &Value) -> Result<Text, Mem> {
+    match App::read(alloc, value) {
+        Ok(_) => Ok(Text::new(alloc)),
+        Err(AppFault::Bad { flaw, place }) => wrong_part(alloc, flaw, &place),
+        Err(AppFault::Memory) => Err(Mem),
+    }
+}
+
+fn wrong_name(alloc: Global, name: &Text) -> Result<Text, Mem> {
+    let name = quoted(alloc, name)?;
+    let name = name.as_str();
+    let what = format!(in alloc; "there is none named {name} with these parts")?;
+    Ok(Text::from_string(what))
+}
+
+fn wrong_event(alloc: Global, value: &Value) -> Result<Text, Mem> {
+    let Value::List(items) = value else {
+        return Text::from_str(alloc, "it is not a list");
+    };
+    match items.as_slice().first() {
+        Some(Value::Text(name)) => wrong_name(alloc, name),
+        _ => Text::from_str(alloc, "it does not begin with the name of an event"),
+    }
+}
+
+// What is wrong with the line of this number.
+fn wrong_line(alloc: Global, line: &[u8], number: u64) -> Result<Text, Mem> {
+    if line.is_empty() {
+        return Text::from_str(alloc, "it is empty");
+    }
+    let Ok(line) = str::from_utf8(line) else {
+        return Text::from_str(alloc, "it is not UTF-8");
+    };
+    match parse(alloc, &Text::from_str(alloc, line)?) {
+        Ok(value) if number == 1 => wrong_application(alloc, &value),
+        Ok(value) => wrong_event(alloc, &value),
+        Err(ParseFault::NotJson) => Text::from_str(alloc, "it is not JSON"),
+        Err(ParseFault::Ejson(fault)) => wrong_value(alloc, fault),
+        Err(ParseFault::Memory) => Err(Mem),
+    }
+}
+
+/// Why the line of this number of the input, which isn't of the grammar, is none: a line of text.
+pub fn reason_for(alloc: Global, input: &[u8], number: u64) -> Result<Text, Mem> {
+    let what = wrong_line(alloc, line_of(input, number), number)?;
+    let what = what.as_str();
+    let reason = if number == 1 {
+        format!(in alloc; "line 1 is no application: {what}")?
+    } else {
+        format!(in alloc; "line {number} is no event: {what}; the lines before it were run")?
+    };
+    Ok(Text::from_string(reason))
+}

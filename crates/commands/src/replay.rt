@@ -1,0 +1,203 @@
+//! The command `replay`.
+ghost use Rattle.std.specs.Prelude.{◌≡◌, ◌≤◌, ◌<◌, ◌+◌, ◌++◌, ◌∷◌, [], List, length, flat_map, map, Some, None, IfOk, IfSome, OnOk};
+ghost use Rattle.world_model.specs.World.{start};
+ghost use Rattle.world_model.specs.Lines.{line_text, lines_of};
+ghost use Rattle.world_model.specs.Run.{step, AreEvents};
+ghost use Rattle.commands.specs.Input.{line_feed, lines_in};
+ghost use Rattle.commands.specs.Replay.{input_limit, app_of, events_of, bad_line, first_bad, rest_of, replay_text, printed, printed_by, all_bytes, bad_value, bad_lines};
+ghost use Rattle.commands.specs.Replay.{AreReplayed, GivesEventOf, StepsLine, RunsLine};
+
+use crate::input::{first_line, is_blank, value_in};
+use app_model::{App, AppFault};
+use ejson_codec::{Lines, text};
+use ejson_value::{Items, Mem, Text, Value, Whole};
+use replay_core::World;
+use replay_events::{Event, LineFault};
+use std::alloc::Global;
+
+/// What a replay writes, and the number of the first line that isn't of the grammar.
+#[derive(Debug, Drop)]
+pub struct Outcome {
+    pub text: Vec<u8>,
+    pub bad_line: Option<u64>,
+}
+
+// The application of the first line, if it describes one.
+fn read_app(alloc: Global, line: &[u8]) -> Result<Option<App>, Mem>
+    ensures { IfOk result (λ app. app ≡ app_of (line.now ∷ [])) }
+{
+    let Some(value) = value_in(alloc, line)? else {
+        return Ok(None);
+    };
+    match App::read(alloc, &value) {
+        Ok(app) => Ok(Some(app)),
+        Err(AppFault::Bad { .. }) => Ok(None),
+        Err(AppFault::Memory) => Err(Mem),
+    }
+}
+
+// The event that the line is, if it is one.
+fn event_in(alloc: Global, line: &[u8]) -> Result<Option<Event>, Mem>
+    ensures { IfOk result (GivesEventOf line.now) }
+{
+    let Some(value) = value_in(alloc, line)? else {
+        return Ok(None);
+    };
+    match Event::read(alloc, &value) {
+        Ok(event) => {
+            event.known();
+            Ok(Some(event))
+        }
+        Err(LineFault::NotAnEvent) => Ok(None),
+        Err(LineFault::Memory) => Err(Mem),
+    }
+}
+
+// Adds a line to the output.
+fn add_line(output: &mut Vec<u8>, line: &Text) -> Result<(), Mem>
+    ensures { OnOk result (output.new.items ≡ output.old.items ++ (line.now ++ line_feed ∷ [])) }
+{
+    output.extend_from_slice(line.as_bytes())?;
+    output.push(b'\n')?;
+    Ok(())
+}
+
+fn add_lines(output: &mut Vec<u8>, lines: &Lines) -> Result<(), Mem>
+    ensures { OnOk result (output.new.items ≡ output.old.items ++ flat_map (λ line. line ++ line_feed ∷ []) lines.now) }
+{
+    for line in lines.as_slice() {
+        add_line(output, line)?;
+    }
+    Ok(())
+}
+
+// Adds the line that names a bad line.
+fn add_bad(alloc: Global, output: &mut Vec<u8>, number: u64) -> Result<(), Mem>
+    requires { number ≤ input_limit + 2 }
+    ensures { OnOk result (output.new.items ≡ output.old.items ++ all_bytes (bad_value number ∷ [])) }
+{
+    let Some(number) = Whole::of(number as i64) else {
+        unreachable!()
+    };
+    let mut items = Items::new(alloc);
+    items.push(Value::Text(Text::from_str(alloc, "bad")?))?;
+    items.push(Value::Int(number))?;
+    add_line(output, &text(alloc, &Value::List(items))?)
+}
+
+fn add_bad_line(alloc: Global, output: &mut Vec<u8>, bad: Option<u64>) -> Result<(), Mem>
+    requires { IfSome bad (λ n. n ≤ input_limit + 2) }
+    ensures { OnOk result (output.new.items ≡ output.old.items ++ all_bytes (bad_lines bad)) }
+{
+    match bad {
+        None => Ok(()),
+        Some(number) => add_bad(alloc, output, number),
+    }
+}
+
+// Runs an event, and answers what it prints.
+fn run_event(world: &mut World, event: &Event) -> Result<Option<Lines>, Mem>
+    ensures { IfOk result (λ lines. (world.new ≡ step world.old event.now) × (lines ≡ Some (map line_text (lines_of world.old event.now)))) }
+{
+    Ok(Some(world.event(event)?))
+}
+
+// Runs a line, if it is an event, and answers what it prints.
+fn step(alloc: Global, world: &mut World, line: &[u8]) -> Result<Option<Lines>, Mem>
+    ensures { IfOk result (StepsLine line.now world.old world.new) }
+{
+    match event_in(alloc, line)? {
+        None => Ok(None),
+        Some(event) => run_event(world, &event),
+    }
+}
+
+// Runs a line, if it is an event or blank, and answers whether it is.
+fn run_line(
+    alloc: Global,
+    world: &mut World,
+    line: &[u8],
+    output: &mut Vec<u8>,
+) -> Result<bool, Mem>
+    ensures { IfOk result (RunsLine line.now world.old world.new output.old.items output.new.items) }
+{
+    if is_blank(line) {
+        return Ok(true);
+    }
+    match step(alloc, world, line)? {
+        None => Ok(false),
+        Some(lines) => {
+            add_lines(output, &lines)?;
+            Ok(true)
+        }
+    }
+}
+
+// Runs the lines that follow the application, and answers the number of the first bad one.
+fn run_lines(
+    alloc: Global,
+    world: &mut World,
+    lines: &[u8],
+    output: &mut Vec<u8>,
+) -> Result<Option<u64>, Mem>
+    requires { length lines.now ≤ input_limit }
+    ensures text { OnOk result (output.new.items ≡ output.old.items ++ all_bytes (printed world.old (events_of (lines_in lines.now)))) }
+    ensures bad { IfOk result (λ bad. bad ≡ bad_line 2 (lines_in lines.now)) }
+    ensures within { IfOk result (λ bad. IfSome bad (λ n. n ≤ input_limit + 2)) }
+    ensures events { OnOk result (AreEvents (events_of (lines_in lines.now))) }
+{
+    let mut rest = lines;
+    let mut number = 2;
+    while !rest.is_empty() {
+        let (line, more) = first_line(rest);
+        if !run_line(alloc, world, line, output)? {
+            return Ok(Some(number));
+        }
+        rest = more;
+        number += 1;
+    }
+    Ok(None)
+}
+
+// Runs the lines of an application.
+fn run_app(alloc: Global, app: App, lines: &[u8], output: &mut Vec<u8>) -> Result<Option<u64>, Mem>
+    requires { length lines.now ≤ input_limit }
+    ensures text { OnOk result (output.new.items ≡ output.old.items ++ all_bytes (printed (start app) (events_of (lines_in lines.now)))) }
+    ensures bad { IfOk result (λ bad. bad ≡ bad_line 2 (lines_in lines.now)) }
+    ensures within { IfOk result (λ bad. IfSome bad (λ n. n ≤ input_limit + 2)) }
+    ensures events { OnOk result (AreEvents (events_of (lines_in lines.now))) }
+{
+    let mut world = World::new(alloc, app);
+    run_lines(alloc, &mut world, lines, output)
+}
+
+// Runs an input up to its first bad line, and answers the number of that.
+fn run_input(alloc: Global, input: &[u8], output: &mut Vec<u8>) -> Result<Option<u64>, Mem>
+    requires { length input.now ≤ input_limit }
+    ensures text { OnOk result (output.new.items ≡ output.old.items ++ all_bytes (printed_by (app_of (lines_in input.now)) (rest_of (lines_in input.now)))) }
+    ensures bad { IfOk result (λ bad. bad ≡ first_bad input.now) }
+    ensures within { IfOk result (λ bad. IfSome bad (λ n. n ≤ input_limit + 2)) }
+    ensures events { OnOk result (AreReplayed input.now) }
+{
+    if input.is_empty() {
+        return Ok(Some(1));
+    }
+    let (line, rest) = first_line(input);
+    match read_app(alloc, line)? {
+        None => Ok(Some(1)),
+        Some(app) => run_app(alloc, app, rest, output),
+    }
+}
+
+/// Runs an input, and answers the whole output.
+pub fn replay(alloc: Global, input: &[u8]) -> Result<Outcome, Mem>
+    requires { length input.now ≤ input_limit }
+    ensures text { IfOk result (λ o. o.text.items ≡ replay_text input.now) }
+    ensures bad { IfOk result (λ o. o.bad_line ≡ first_bad input.now) }
+    ensures events { OnOk result (AreReplayed input.now) }
+{
+    let mut text = Vec::new(alloc);
+    let bad_line = run_input(alloc, input, &mut text)?;
+    add_bad_line(alloc, &mut text, bad_line)?;
+    Ok(Outcome { text, bad_line })
+}

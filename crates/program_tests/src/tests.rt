@@ -1,0 +1,187 @@
+use commands::{INPUT_LIMIT, Status, run_plain};
+use ejson_value::{Bytes, Mem, Text};
+use io_edge::{Calls, MemorySink, MemorySource};
+use std::alloc::Global;
+use std::str;
+use std::test::Fail;
+
+const APPLICATION: &str =
+    r#"{"collections":["tasks"],"methods":{},"publications":{"all":[{"collection":"tasks"}]}}"#;
+
+// Each row: an input, ` => `, the exit status, what was written and the reason. In a row `|` is the end of a line, `@` the application above and `~` a byte
+// that is no UTF-8.
+const INPUTS: &str = r#"@ => 0; ; 
+@| => 0; ; 
+@|["admin",["insert","tasks",{"_id":"t1","n":1}]]|["client","a"]|["settle"]|["sub","a","1","all",[]]|["settle"]|["show","a"]| => 0; ["show","a"]|["doc","tasks","t1",{"n":1}]|["sub","1","ready"]|; 
+@|["admin",["insert","tasks",{"_id":"t1","n":1}]]|["admin",["insert","tasks",{"_id":"t1","n":1}]]|["show","a"] => 0; ["refused",409]|["idle"]|; 
+@||["show","zz"]|  |["show","a"|["show","zz"] => 3; ["idle"]|["bad",5]|; line 5 is no event: it is not JSON; the lines before it were run
+@|["show","zz"]|~|["show","zz"] => 3; ["idle"]|["bad",3]|; line 3 is no event: it is not UTF-8; the lines before it were run
+@|["show",1.5] => 3; ["bad",2]|; line 2 is no event: it is no EJSON value: a number that isn't whole within 53 bits; the lines before it were run
+@|{"show":"a"} => 3; ["bad",2]|; line 2 is no event: it is not a list; the lines before it were run
+@|[] => 3; ["bad",2]|; line 2 is no event: it does not begin with the name of an event; the lines before it were run
+@|[5] => 3; ["bad",2]|; line 2 is no event: it does not begin with the name of an event; the lines before it were run
+@|["shew","a"] => 3; ["bad",2]|; line 2 is no event: there is none named "shew" with these parts; the lines before it were run
+@|["show"] => 3; ["bad",2]|; line 2 is no event: there is none named "show" with these parts; the lines before it were run
+@|["a\nb"] => 3; ["bad",2]|; line 2 is no event: there is none named "a\nb" with these parts; the lines before it were run
+@|["0123456789012345678901234567890123456789012345678901234567890123456789012345678901234567890123456789ab"] => 3; ["bad",2]|; line 2 is no event: there is none named "0123456789012345678901234567890123456789012345678901234567890123456789012345678901234567890123456789".. with these parts; the lines before it were run
+ => 3; ["bad",1]|; line 1 is no application: it is empty
+|@ => 3; ["bad",1]|; line 1 is no application: it is empty
+  |@ => 3; ["bad",1]|; line 1 is no application: it is not JSON
+~ => 3; ["bad",1]|; line 1 is no application: it is not UTF-8
+{"collections":[1.5]} => 3; ["bad",1]|; line 1 is no application: it is no EJSON value: a number that isn't whole within 53 bits
+5 => 3; ["bad",1]|; line 1 is no application: a part of another form, at its top
+{"collections":["a","a"]} => 3; ["bad",1]|; line 1 is no application: a name that stands twice, at "collections/1"
+{"collections":[""]}|["show","zz"] => 3; ["bad",1]|; line 1 is no application: a name that is not of 1 to 128 bytes, at "collections/0"
+{"collections":["a"],"publications":{"p":[{"collection":"b"}]}} => 3; ["bad",1]|; line 1 is no application: a collection that is not listed, at "publications/p/0/collection"
+"#;
+
+// Each row: which call of `read` and of `write` fails, ` => `, and what comes of it.
+const FAULTS: &str = r#"1 9 => 4; ; 
+2 9 => 4; ; 
+9 1 => 5; ; 
+9 9 => 0; ["idle"]|; 
+"#;
+
+// Each row: words that name no command.
+const WORDS: &str = r#"
+replay x
+replay 
+ replay
+-- replay
+replay --
+--
+--help
+-h
+--version
+help
+Replay
+check
+serve 3000 1
+"#;
+
+fn add(bytes: &mut Vec<u8>, byte: u8) -> Result<(), Mem> {
+    match byte {
+        b'@' => bytes.extend_from_slice(APPLICATION.as_bytes())?,
+        b'|' => bytes.push(b'\n')?,
+        b'~' => bytes.push(255)?,
+        _ => bytes.push(byte)?,
+    }
+    Ok(())
+}
+
+// A source of the bytes that a row stands for, of which this read fails.
+fn source(alloc: Global, row: &str, read: u64) -> Result<MemorySource, Mem> {
+    let mut bytes = Vec::new(alloc);
+    for byte in row.as_bytes() {
+        add(&mut bytes, *byte)?;
+    }
+    Ok(MemorySource::new(Bytes::from_vec(bytes), call(alloc, read)?))
+}
+
+fn call(alloc: Global, number: u64) -> Result<Calls, Mem> {
+    let mut calls = Calls::new(alloc);
+    calls.push(number)?;
+    Ok(calls)
+}
+
+fn words_of(alloc: Global, row: &str) -> Result<Vec<Text>, Mem> {
+    let mut words = Vec::new(alloc);
+    if !row.is_empty() {
+        for word in row.split(' ') {
+            words.push(Text::from_str(alloc, word)?)?;
+        }
+    }
+    Ok(words)
+}
+
+// What a run came to, as the rows show it.
+fn shown(alloc: Global, status: Status, output: &[u8], reason: &Text) -> Result<String, Fail> {
+    let output = str::from_utf8(output)?.replace(alloc, "\n", "|")?;
+    let (status, output, reason) = (status.code(), output.as_str(), reason.as_str());
+    Ok(format!(in alloc; "{status}; {output}; {reason}")?)
+}
+
+fn ran(
+    alloc: Global,
+    words: &[Text],
+    source: &mut MemorySource,
+    sink: &mut MemorySink,
+) -> Result<String, Fail> {
+    let mut reason = Text::new(alloc);
+    let status = run_plain(alloc, words, source, sink, &mut reason);
+    shown(alloc, status, sink.written(), &reason)
+}
+
+// What these words come to on the input of a row, where this read and this write fail.
+fn outcome(alloc: Global, words: &str, row: &str, read: u64, write: u64) -> Result<String, Fail> {
+    let words = words_of(alloc, words)?;
+    let mut source = source(alloc, row, read)?;
+    let mut sink = MemorySink::new(alloc, 4096, call(alloc, write)?)?;
+    ran(alloc, words.as_slice(), &mut source, &mut sink)
+}
+
+fn is_right(alloc: Global, row: &str) -> Result<bool, Fail> {
+    match row.split_once(" => ") {
+        Some((input, wanted)) => Ok(outcome(alloc, "replay", input, 9, 9)?.as_str() == wanted),
+        None => Ok(false),
+    }
+}
+
+fn fails_right(alloc: Global, row: &str) -> Result<bool, Fail> {
+    let Some((calls, wanted)) = row.split_once(" => ") else {
+        return Ok(false);
+    };
+    let Some((read, write)) = calls.split_once(' ') else {
+        return Ok(false);
+    };
+    let (read, write) = (read.parse::<u64>()?, write.parse::<u64>()?);
+    let ran = outcome(alloc, "replay", "@|[\"show\",\"zz\"]", read, write)?;
+    Ok(ran.as_str() == wanted)
+}
+
+fn is_usage(alloc: Global, words: &str) -> Result<bool, Fail> {
+    Ok(outcome(alloc, words, "@|[\"show\",\"zz\"]", 1, 1)?.as_str() == "2; ; ")
+}
+
+// What comes of the application and so many spaces more than the limit leaves room for.
+fn of_length(alloc: Global, more: u64) -> Result<String, Fail> {
+    let mut bytes = Vec::from_slice(alloc, APPLICATION.as_bytes())?;
+    bytes.push(b'\n')?;
+    bytes.resize((INPUT_LIMIT + more) as usize, b' ')?;
+    let mut source = MemorySource::new(Bytes::from_vec(bytes), Calls::new(alloc));
+    let mut sink = MemorySink::new(alloc, 16, Calls::new(alloc))?;
+    let words = words_of(alloc, "replay")?;
+    ran(alloc, words.as_slice(), &mut source, &mut sink)
+}
+
+#[test]
+fn inputs(rt: HostRuntime) -> Result<(), Fail> {
+    for row in INPUTS.lines() {
+        assert!(rt; is_right(rt.alloc(), row)?, "at {row}");
+    }
+    Ok(())
+}
+
+#[test]
+fn calls_that_fail(rt: HostRuntime) -> Result<(), Fail> {
+    for row in FAULTS.lines() {
+        assert!(rt; fails_right(rt.alloc(), row)?, "at {row}");
+    }
+    Ok(())
+}
+
+#[test]
+fn words_that_name_no_command(rt: HostRuntime) -> Result<(), Fail> {
+    for words in WORDS.lines() {
+        assert!(rt; is_usage(rt.alloc(), words)?, "at {words}");
+    }
+    Ok(())
+}
+
+#[test]
+fn lengths(rt: HostRuntime) -> Result<(), Fail> {
+    assert_eq!(rt; of_length(rt.alloc(), 0)?.as_str(), "0; ; ");
+    assert_eq!(rt; of_length(rt.alloc(), 1)?.as_str(), "6; ; ");
+    assert!(rt; Status::TooLong.message().contains("65536"));
+    Ok(())
+}

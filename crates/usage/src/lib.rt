@@ -1,0 +1,24 @@
+//! The usage text of the program.
+#![tactic(auto)]
+
+use clap::Command;
+use std::alloc::{AllocError, Global};
+
+// Each command that is built: its words, and what it does.
+const COMMANDS: [(&str, &str); 1] = [(
+    "replay",
+    "Runs the application and the events on standard input, a line each, and prints what they show",
+)];
+
+/// The text that tells how to call the program, as `clap` lays it out. It ends with a line feed.
+pub fn usage_text(alloc: Global) -> Result<String, AllocError> {
+    let mut command = Command::new(alloc, "ddp")
+        .about("A reactive data server and its client")
+        .disable_help_flag(true)
+        .disable_help_subcommand(true)
+        .subcommand_required(true);
+    for (words, about) in COMMANDS {
+        command = command.subcommand(Command::new(alloc, words).about(about))?;
+    }
+    command.render_help()
+}
