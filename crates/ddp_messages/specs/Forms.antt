@@ -3,7 +3,7 @@ use Rattle.std.specs.Prelude.{ℕ, List, [], ◌∷◌, length, nat_le, Option, 
 use Rattle.std.specs.Fmt.{signed_decimal}
 use Rattle.serde_json.specs.Data.{Data, Items, no_items, item, Num}
 use Rattle.serde_json.specs.Find.{as_str, as_array, as_number}
-use Rattle.value_model.specs.Val.{Val, Entries, null, boolean, int, text, date, bytes, list, object, entries_of}
+use Rattle.value_model.specs.Val.{Val, Entries, object, entries_of}
 use Rattle.ejson_codec.specs.Reading.{max_levels, reading, number_reading}
 use Rattle.ejson_codec.specs.declared.fault.EjsonFault.{EjsonFault}
 use Rattle.ddp_messages.specs.Wire.{own_of}
@@ -52,14 +52,8 @@ abbrev pub values_of : Data → Option (List Val)
 values_of d = option_and_then (each_of value_of) (as_array d)
 
 abbrev pub fields_of_value : Val → Option Entries
-fields_of_value null = None
-fields_of_value (boolean b) = None
-fields_of_value (int z) = None
-fields_of_value (text s) = None
-fields_of_value (date z) = None
-fields_of_value (bytes s) = None
-fields_of_value (list vs) = None
 fields_of_value (object fs) = Some (entries_of fs)
+fields_of_value _ = None
 
 -- the fields of a document: an EJSON value that is an object
 abbrev pub document_of : Data → Option Entries

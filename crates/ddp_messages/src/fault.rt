@@ -28,7 +28,7 @@ impl From<Mem> for MsgFault {
 }
 
 /// Why a field wasn't read: it lacks or isn't of its form, or memory is wanting.
-#[derive(Clone, Copy, Debug, PartialEq, Eq)]
+#[derive(Clone, Copy)]
 pub(crate) enum FieldFault {
     Malformed,
     Memory,

@@ -129,7 +129,8 @@ fn document(alloc: Global, tree: &Json) -> Result<Doc, FieldFault>
         | Value::Text(_)
         | Value::Date(_)
         | Value::Bytes(_)
-        | Value::List(_) => Err(FieldFault::Malformed),
+        | Value::List(_)
+        | Value::User { .. } => Err(FieldFault::Malformed),
     }
 }
 

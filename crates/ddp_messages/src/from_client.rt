@@ -17,7 +17,7 @@ use ejson_value::{Items, Mem, Names, Text, Value};
 use std::alloc::Global;
 
 /// A message from a client to a server.
-#[derive(Debug, Drop)]
+#[derive(Drop)]
 pub enum FromClient {
     /// Opens the session, with a version of DDP; `support` lists the versions that the client has.
     Connect {

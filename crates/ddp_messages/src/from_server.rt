@@ -21,7 +21,7 @@ use serde_json::Map;
 use std::alloc::Global;
 
 /// A message from a server to a client.
-#[derive(Debug, Drop)]
+#[derive(Drop)]
 pub enum FromServer {
     /// The session is open.
     Connected {

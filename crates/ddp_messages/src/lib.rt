@@ -23,4 +23,3 @@ pub use laws::{
     one_server_message, server_message_reads_back, server_table_is_exact, wire_form_has_its_id,
 };
 pub use wire::{own_id, wire_id};
-

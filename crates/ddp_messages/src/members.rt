@@ -2,13 +2,13 @@
 ghost use Rattle.std.specs.Prelude.{◌≡◌, IfOk, OnOk, option_map, codes};
 ghost use Rattle.serde_json.specs.Data.{string, array, put as put_at, no_members, member};
 ghost use Rattle.serde_json.specs.View.{view as json_view, items_view, members_view};
-ghost use Rattle.value_model.specs.Val.{vals_of, fields_of, object as object_value};
+ghost use Rattle.value_model.specs.Val.{vals_of};
 ghost use Rattle.ejson_value.specs.View.{view};
 ghost use Rattle.ejson_codec.specs.Written.{written, items_written};
 ghost use Rattle.ddp_messages.specs.Written.{text_items, texts_tree as every_text, document_tree as fields_tree, unless_empty, told, fault_written};
 ghost use Rattle.ddp_messages.specs.Built.{put_if as put_some};
 
-use ejson_codec::write;
+use ejson_codec::{put_member, write, write_document};
 use ejson_value::{Doc, Fault, Items, Mem, Names, Text, Value};
 use serde_json::{Map, Value as Json};
 use std::alloc::Global;
@@ -96,13 +96,6 @@ pub(crate) fn optional_value_tree(alloc: Global, value: &Option<Value>) -> Resul
     }
 }
 
-/// The tree of a document's fields.
-pub(crate) fn document_tree(alloc: Global, fields: &Doc) -> Result<Json, Mem>
-    ensures { IfOk result (λ tree. json_view tree ≡ written (object_value (fields_of fields.now))) }
-{
-    write(alloc, &Value::Object(fields.copy()?))
-}
-
 /// The tree of a document's fields, None where there are none.
 pub(crate) fn some_document_tree(alloc: Global, fields: &Doc) -> Result<Option<Json>, Mem>
     ensures { IfOk result (λ tree. option_map json_view tree ≡ unless_empty fields_tree fields.now) }
@@ -110,7 +103,7 @@ pub(crate) fn some_document_tree(alloc: Global, fields: &Doc) -> Result<Option<J
     if fields.is_empty() {
         Ok(None)
     } else {
-        Ok(Some(document_tree(alloc, fields)?))
+        Ok(Some(write_document(alloc, fields)?))
     }
 }
 
@@ -149,14 +142,6 @@ pub(crate) fn optional_fault_tree(alloc: Global, fault: &Option<Fault>) -> Resul
 
 // ---- members
 
-/// Puts the tree at the key.
-pub(crate) fn put(alloc: Global, members: &mut Members, key: &str, tree: Json) -> Result<(), Mem>
-    ensures { OnOk result (members_view members.new.entries ≡ put_at key.now (json_view tree) (members_view members.old.entries)) }
-{
-    drop(members.insert(String::from_str(alloc, key)?, tree)?);
-    Ok(())
-}
-
 /// Puts the tree at the key, if there is one.
 pub(crate) fn put_if(
     alloc: Global,
@@ -167,7 +152,7 @@ pub(crate) fn put_if(
     ensures { OnOk result (members_view members.new.entries ≡ put_some key.now (option_map json_view tree) (members_view members.old.entries)) }
 {
     match tree {
-        Some(tree) => put(alloc, members, key, tree),
+        Some(tree) => put_member(alloc, members, key, tree),
         None => Ok(()),
     }
 }
@@ -181,14 +166,14 @@ pub(crate) fn put_text(
 ) -> Result<(), Mem>
     ensures { OnOk result (members_view members.new.entries ≡ put_at key.now (string text.now) (members_view members.old.entries)) }
 {
-    put(alloc, members, key, text_tree(alloc, text)?)
+    put_member(alloc, members, key, text_tree(alloc, text)?)
 }
 
 // Puts the text at the key.
 fn put_str(alloc: Global, members: &mut Members, key: &str, text: &str) -> Result<(), Mem>
     ensures { OnOk result (members_view members.new.entries ≡ put_at key.now (string text.now) (members_view members.old.entries)) }
 {
-    put(
+    put_member(
         alloc,
         members,
         key,

@@ -13,11 +13,12 @@ ghost use Rattle.ddp_messages.specs.Wire.{wire_of};
 ghost use Rattle.ddp_messages.specs.Written.{present, text_tree as every_text, text_items, client_members, data_members, server_members};
 
 use crate::members::{
-    Members, document_tree, named, optional_fault_tree, optional_text_tree, optional_texts_tree,
-    optional_value_tree, put, put_if, put_text, some_document_tree, some_texts_tree, texts_tree,
+    Members, named, optional_fault_tree, optional_text_tree, optional_texts_tree,
+    optional_value_tree, put_if, put_text, some_document_tree, some_texts_tree, texts_tree,
     values_tree,
 };
 use crate::wire::wire_id;
+use ejson_codec::{put_member, write_document};
 use ejson_value::{Doc, Fault, Items, Key, Mem, Names, Text, Value};
 use serde_json::Value as Json;
 use std::alloc::Global;
@@ -54,7 +55,7 @@ pub(crate) fn of_texts(alloc: Global, name: &str, key: &str, texts: &Names) -> R
     ensures { IfOk result (λ ms. members_view ms.entries ≡ put key.now (array (text_items texts.now)) (member (codes "msg") (string name.now) no_members)) }
 {
     let mut members = named(alloc, name)?;
-    put(alloc, &mut members, key, texts_tree(alloc, texts)?)?;
+    put_member(alloc, &mut members, key, texts_tree(alloc, texts)?)?;
     Ok(members)
 }
 
@@ -89,7 +90,7 @@ pub(crate) fn sub(alloc: Global, id: &Text, name: &Text, params: &Items) -> Resu
 {
     let mut members = of_text(alloc, "sub", "id", id)?;
     put_text(alloc, &mut members, "name", name)?;
-    put(alloc, &mut members, "params", values_tree(alloc, params)?)?;
+    put_member(alloc, &mut members, "params", values_tree(alloc, params)?)?;
     Ok(members)
 }
 
@@ -104,7 +105,7 @@ pub(crate) fn method(
 {
     let mut members = of_text(alloc, "method", "id", id)?;
     put_text(alloc, &mut members, "method", method)?;
-    put(alloc, &mut members, "params", values_tree(alloc, params)?)?;
+    put_member(alloc, &mut members, "params", values_tree(alloc, params)?)?;
     put_if(
         alloc,
         &mut members,
@@ -177,7 +178,12 @@ pub(crate) fn added(alloc: Global, key: &Key, fields: &Doc) -> Result<Members, M
     ensures { IfOk result (λ ms. members_view ms.entries ≡ data_members (Added key.now fields.now)) }
 {
     let mut members = about(alloc, "added", key)?;
-    put(alloc, &mut members, "fields", document_tree(alloc, fields)?)?;
+    put_member(
+        alloc,
+        &mut members,
+        "fields",
+        write_document(alloc, fields)?,
+    )?;
     Ok(members)
 }
 

@@ -47,7 +47,15 @@ true => same
 {"$escape":5} => 4
 {"$InfNaN":0} => 5
 {"$flags":"i","$regexp":"a"} => 5
-{"$value":1,"$type":"t"} => 5
+{"$value":1,"$type":"t"} => {"$type":"t","$value":1}
+{"$type":"dist","$value":{"$date":5}} => same
+{"$type":"a","$value":{"$type":"b","$value":[1]}} => same
+{"$type":"","$value":1} => 7
+{"$type":1,"$value":1.5} => 7
+{"$type":"d","$value":1.5} => 1
+{"$escape":{"$type":"d","$value":1}} => same
+{"$escape":{"$type":"","$value":1.5}} => 1
+{"$type":"d","$value":1,"x":2} => same
 [{"$date":null},1.5] => 2
 {"b":{"$escape":1},"a":1.5} => 1
 "#;
@@ -63,6 +71,8 @@ const DEEP_ROWS: &str = r#"{"$date":1} => same
 {} => 6
 {"$escape":{}} => 6
 {"$escape":{"$InfNaN":0}} => 6
+{"$type":"d","$value":1} => 6
+{"$type":1,"$value":1.5} => 6
 "#;
 
 fn number(fault: ParseFault) -> &'static str {
@@ -74,6 +84,7 @@ fn number(fault: ParseFault) -> &'static str {
         ParseFault::Ejson(EjsonFault::BadEscape) => "4",
         ParseFault::Ejson(EjsonFault::Unsupported) => "5",
         ParseFault::Ejson(EjsonFault::TooDeep) => "6",
+        ParseFault::Ejson(EjsonFault::BadUser) => "7",
         ParseFault::Memory => "memory",
     }
 }
@@ -122,6 +133,19 @@ fn texts_inside_32_lists(rt: HostRuntime) -> Result<(), Fail> {
     Ok(())
 }
 
+// How a value of a user type is answered, where the type's name has so many letters.
+fn answer_to_name(alloc: Global, letters: u16) -> Result<Text, Fail> {
+    let input = filled(alloc, r#"{"$type":"@","$value":null}"#, "a", letters)?;
+    answer(alloc, &input)
+}
+
+#[test]
+fn names_of_user_types_have_128_bytes(rt: HostRuntime) -> Result<(), Fail> {
+    assert_eq!(rt; answer_to_name(rt.alloc(), 128)?.len(), 154);
+    assert_eq!(rt; answer_to_name(rt.alloc(), 129)?.as_str(), "7");
+    Ok(())
+}
+
 // How a text of so many lists is answered.
 fn answer_to_lists(alloc: Global, lists: u16) -> Result<Text, Fail> {
     answer(alloc, &nested(alloc, "", lists)?)
@@ -156,7 +180,8 @@ fn trees(rt: HostRuntime) -> Result<(), Fail> {
     let alloc = rt.alloc();
     assert!(rt; is_kept(alloc, r#"{"a":{"$binary":"AAE="}}"#)?);
     assert_eq!(rt; measures(alloc, r#"{"a":{"$binary":"AAE="}}"#)?, (24, 1));
-    assert_eq!(rt; EjsonFault::TooDeep as u8, 6);
+    assert_eq!(rt; measures(alloc, r#"{"$type":"d","$value":[]}"#)?, (25, 2));
+    assert_eq!(rt; EjsonFault::BadUser as u8, 7);
     assert!(rt; Lines::new(alloc).is_empty());
     Ok(())
 }

@@ -15,6 +15,7 @@ const CLIENT: &str = r#"{"msg":"connect","support":["1","pre2"],"version":"1"} =
 {"id":"","msg":"pong"} => same
 {"id":"1","msg":"sub","name":"all","params":[{"$date":5},[1]]} => same
 {"id":"","msg":"sub","name":"","params":[null]} => same
+{"id":"1","msg":"sub","name":"all","params":[{"$type":"d","$value":{"$date":5}}]} => same
 {"id":"1","msg":"unsub"} => same
 {"id":"1","method":"m","msg":"method","params":[],"randomSeed":"S1-1"} => same
 {"id":"1","method":"m","msg":"method","params":[{"$escape":{"$date":5}}],"randomSeed":null} => same
@@ -46,6 +47,7 @@ nope => Parse error
 {"id":"1","msg":"sub","name":"all","params":null} => sub
 {"id":"1","msg":"sub","name":"all","params":{}} => sub
 {"id":"1","msg":"sub","name":"all","params":[1.5]} => sub
+{"id":"1","msg":"sub","name":"all","params":[{"$type":"","$value":1}]} => sub
 {"id":1,"msg":"unsub"} => unsub
 {"method":"m","msg":"method"} => method
 {"id":"1","msg":"method"} => method
@@ -71,6 +73,9 @@ const SERVER: &str = r#"{"msg":"connected","session":"S1"} => same
 {"methods":["1"],"msg":"updated"} => same
 {"methods":[],"msg":"updated"} => same
 {"collection":"tasks","fields":{"n":0},"id":"t1","msg":"added"} => same
+{"collection":"tasks","fields":{"n":{"$type":"d","$value":1}},"id":"t1","msg":"added"} => same
+{"collection":"tasks","fields":{"$escape":{"$type":"d","$value":1}},"id":"t1","msg":"added"} => same
+{"collection":"tasks","fields":{"$type":"d","$value":1},"id":"t1","msg":"added"} => added
 {"collection":"tasks","fields":{"$escape":{"$date":1}},"id":"-0123456789abcdef01234567","msg":"added"} => same
 {"cleared":["a","b"],"collection":"tasks","fields":{"n":1},"id":"t1","msg":"changed"} => same
 {"cleared":["a"],"collection":"tasks","id":"--a","msg":"changed"} => same
