@@ -1,3 +1,4 @@
 pub mod Front
-pub mod Walks
+pub mod Neighbours
 pub mod Paths
+pub mod Walks

@@ -1,5 +1,6 @@
 pub mod Change
 pub mod Coding
 pub mod Modified
+pub mod Neighbours
 pub mod Reading
 pub mod View

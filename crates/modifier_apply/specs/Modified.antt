@@ -1,5 +1,5 @@
 -- What a modifier makes of a document (update operators, in MongoDB's documentation).
-use Rattle.std.specs.Prelude.{◌≡◌, ℕ, ℤ, pos, ◌+ℤ◌, neg_ℤ, Bool, true, false, not, codes, List, [], ◌∷◌, ◌++◌, length, drop, take, replicate, filter, Option, None, Some, is_some, unwrap_or, Result, Ok, Err, slice_get, slice_set, nat_le, nat_lt, int_lt, bytes_eq, if◌then◌else◌, ◌&&◌, ◌||◌, ◌-◌}
+use Rattle.std.specs.Prelude.{◌≡◌, ℕ, ℤ, pos, ◌+ℤ◌, neg_ℤ, Bool, true, false, not, codes, List, [], ◌∷◌, ◌++◌, length, drop, take, replicate, filter, map, Option, None, Some, is_some, unwrap_or, Result, Ok, Err, slice_get, slice_set, nat_le, nat_lt, int_lt, bytes_eq, if◌then◌else◌, ◌&&◌, ◌||◌, ◌-◌}
 use Rattle.std.specs.List.{list_any}
 use Rattle.std.specs.Ordering.{is_eq, is_lt, is_gt}
 use Rattle.value_model.specs.Val.{Val, null, int, text, list, object, Entries, vals_of, list_of, fields_of, entries_of}
@@ -58,8 +58,15 @@ abbrev pub elements : Val → Outcome (List Val)
 elements (list vs) = Ok (list_of vs)
 elements v = Err fault.NotArray
 
-abbrev pub in_list : (List Val → List Val) → Val → Outcome (Option Val)
-in_list f v = then_made (λ ws. Some (list (vals_of (f ws)))) (elements v)
+-- what an edit of a list leaves of its elements
+abbrev pub list_edited : Edit → List Val → List Val
+list_edited (append_all vs) ws = ws ++ vs
+list_edited (add_missing vs) ws = with_missing vs ws
+list_edited (drop_equal v) ws = filter (λ x. not (same x v)) ws
+list_edited (drop_passing t) ws = filter (λ x. not (fits t x)) ws
+list_edited drop_last ws = take (length ws - 1) ws
+list_edited drop_first ws = drop 1 ws
+list_edited _ ws = ws
 
 -- what an edit leaves of a value, if it leaves one
 abbrev pub edited : Edit → Val → Outcome (Option Val)
@@ -68,12 +75,7 @@ edited take_out w = Ok None
 edited (add n) w = to_number n w
 edited (keep_least v) w = Ok (Some (if is_lt (compare v w) then v else w))
 edited (keep_greatest v) w = Ok (Some (if is_gt (compare v w) then v else w))
-edited (append_all vs) w = in_list (λ ws. ws ++ vs) w
-edited (add_missing vs) w = in_list (λ ws. with_missing vs ws) w
-edited (drop_equal v) w = in_list (λ ws. filter (λ x. not (same x v)) ws) w
-edited (drop_passing t) w = in_list (λ ws. filter (λ x. not (fits t x)) ws) w
-edited drop_last w = in_list (λ ws. take (length ws - 1) ws) w
-edited drop_first w = in_list (λ ws. drop 1 ws) w
+edited e w = then_made (λ ws. Some (list (vals_of (list_edited e ws)))) (elements w)
 
 -- What an edit makes where nothing is: `$unset`, `$pull` and `$pop` make nothing.
 abbrev pub made_anew : Edit → Option Val
@@ -140,12 +142,16 @@ is_prefix [] path = true
 is_prefix (part ∷ parts) [] = false
 is_prefix (part ∷ parts) (other ∷ others) = bytes_eq part other && is_prefix parts others
 
-abbrev pub meets : Change → Change → Bool
-meets a b = is_prefix a.path b.path || is_prefix b.path a.path
+abbrev pub meets : List (List ℕ) → List (List ℕ) → Bool
+meets a b = is_prefix a b || is_prefix b a
 
-abbrev pub conflicts : List Change → Bool
+-- two of the paths meet
+abbrev pub conflicts : List (List (List ℕ)) → Bool
 conflicts [] = false
-conflicts (c ∷ cs) = list_any (λ other. meets c other) cs || conflicts cs
+conflicts (path ∷ paths) = list_any (λ other. meets path other) paths || conflicts paths
+
+abbrev pub paths_of : List Change → List (List (List ℕ))
+paths_of cs = map (λ c. c.path) cs
 
 abbrev pub begins_with_id : List (List ℕ) → Bool
 begins_with_id [] = false
@@ -167,7 +173,7 @@ replacement fields id (Some v) = if same v (text id) then Ok (remove fields (cod
 
 -- Conflicts are tested first, over all paths, then `_id`.
 abbrev pub updated : List Change → Entries → Outcome Entries
-updated cs doc = if conflicts cs then Err fault.Conflict else (if list_any changes_id cs then Err fault.IdChange else all_made cs (Ok doc))
+updated cs doc = if conflicts (paths_of cs) then Err fault.Conflict else (if list_any changes_id cs then Err fault.IdChange else all_made cs (Ok doc))
 
 abbrev pub modified : Modification → List ℕ → Entries → Outcome Entries
 modified (replaced_by fields) id doc = replacement fields id (get fields (codes "_id"))

@@ -6,8 +6,9 @@ ghost use Rattle.value_model.specs.Doc.{get};
 ghost use Rattle.value_model.specs.Branches.{position_of};
 ghost use Rattle.ejson_value.specs.View.{view};
 ghost use Rattle.modifier_apply.specs.View.{edit_view, change_view, changes_view};
-ghost use Rattle.modifier_apply.specs.Modified.{Gives, same, then_made, blocked, with_field, put_behind, with_element, field_changed, element_changed, changed_at, document_changed, is_prefix, meets, conflicts, begins_with_id, changes_id, all_made, updated, replacement, modified};
+ghost use Rattle.modifier_apply.specs.Modified.{Gives, same, then_made, blocked, with_field, put_behind, with_element, field_changed, element_changed, changed_at, document_changed, begins_with_id, changes_id, all_made, updated, replacement, modified};
 
+use crate::conflicts::have_conflict;
 use crate::edits::{edited_if_there, makes};
 use crate::fault::ApplyFault;
 use crate::modifier::{Modifier, ModifierKind, Operator, Update};
@@ -184,48 +185,6 @@ fn document_changed(alloc: Global, update: &Update, doc: Doc) -> Result<Doc, App
     }
 }
 
-// Whether the first path is the second, or begins it.
-fn is_prefix(path: &[Part], other: &[Part]) -> bool
-    ensures { result ≡ is_prefix path.now other.now }
-{
-    let Some((part, parts)) = path.split_first() else {
-        return true;
-    };
-    let Some((first, others)) = other.split_first() else {
-        return false;
-    };
-    part.name() == first.name() && is_prefix(parts, others)
-}
-
-fn meets(a: &Update, b: &Update) -> bool
-    ensures { result ≡ meets (change_view a.now) (change_view b.now) }
-{
-    is_prefix(a.path.parts(), b.path.parts()) || is_prefix(b.path.parts(), a.path.parts())
-}
-
-fn meets_some(update: &Update, others: &[Update]) -> bool
-    ensures { result ≡ list_any (λ other. meets (change_view update.now) other) (changes_view others.now) }
-{
-    for other in others {
-        if meets(update, other) {
-            return true;
-        }
-    }
-    false
-}
-
-// Whether two of the updates are at one path, or at a path and one that it begins.
-fn have_conflict(updates: &[Update]) -> bool
-    ensures { result ≡ conflicts (changes_view updates.now) }
-{
-    for (place, update) in updates.iter().enumerate() {
-        if meets_some(update, &updates[place + 1..]) {
-            return true;
-        }
-    }
-    false
-}
-
 fn begins_with_id(path: &Path) -> bool
     ensures { result ≡ begins_with_id path.now }
 {
@@ -259,7 +218,7 @@ fn all_made(alloc: Global, updates: &[Update], doc: &Doc) -> Result<Doc, ApplyFa
 fn updated(alloc: Global, updates: &[Update], doc: &Doc) -> Result<Doc, ApplyFault>
     ensures { Gives (λ made. made) result (updated (changes_view updates.now) doc.now) }
 {
-    if have_conflict(updates) {
+    if have_conflict(alloc, updates)? {
         return Err(ApplyFault::Conflict);
     }
     if some_changes_id(updates) {

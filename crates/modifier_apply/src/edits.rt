@@ -1,15 +1,15 @@
 //! What operators make of a value.
 ghost use Rattle.std.specs.Prelude.{◌≡◌, ◌<◌, ◌≤◌, ◌-◌, ◌∷◌, [], ◌++◌, Ok, Some, not, length, drop, take, replicate, filter, map, option_map, if◌then◌else◌, IfOk};
-ghost use Rattle.std.specs.List.{list_any};
 ghost use Rattle.std.specs.Ordering.{is_lt, is_gt};
 ghost use Rattle.value_model.specs.Val.{vals_of, list, null};
 ghost use Rattle.value_model.specs.Order.{compare};
 ghost use Rattle.selector_match.specs.Holds.{fits};
 ghost use Rattle.ejson_value.specs.View.{view, views};
 ghost use Rattle.modifier_apply.specs.View.{edit_view};
-ghost use Rattle.modifier_apply.specs.Modified.{Gives, same, elements, with_one, with_missing, added, to_number, edited, edited_if_there, made_anew, makes};
+ghost use Rattle.modifier_apply.specs.Modified.{Gives, same, elements, added, to_number, then_made, list_edited, edited, edited_if_there, made_anew, makes};
 
 use crate::fault::ApplyFault;
+use crate::missing::with_missing;
 use crate::modifier::Operator;
 use ejson_value::{Items, Mem, Value, Whole, compare, copy};
 use selector_match::{Test, fits};
@@ -39,44 +39,12 @@ fn incremented(amount: Whole, value: &Value) -> Result<Option<Value>, ApplyFault
     }
 }
 
-fn contains(items: &Items, operand: &Value) -> bool
-    ensures { result ≡ list_any (λ v. same v (view operand.now)) items.now }
-{
-    for item in items.as_slice() {
-        if compare(item, operand).is_eq() {
-            return true;
-        }
-    }
-    false
-}
-
 fn with_all(mut items: Items, operands: &Items) -> Result<Items, Mem>
     ensures { IfOk result (λ vs. vs ≡ items ++ operands.now) }
 {
     for operand in operands.as_slice() {
         let added = copy(operand)?;
         items.push(added)?;
-    }
-    Ok(items)
-}
-
-// The list with the value at its end, unless an equal one is there.
-fn with_one(mut items: Items, operand: &Value) -> Result<Items, Mem>
-    ensures { IfOk result (λ vs. vs ≡ with_one (view operand.now) items) }
-{
-    if contains(&items, operand) {
-        return Ok(items);
-    }
-    let added = copy(operand)?;
-    items.push(added)?;
-    Ok(items)
-}
-
-fn with_missing(mut items: Items, operands: &Items) -> Result<Items, Mem>
-    ensures { IfOk result (λ vs. vs ≡ with_missing operands.now items) }
-{
-    for operand in operands.as_slice() {
-        items = with_one(items, operand)?;
     }
     Ok(items)
 }
@@ -158,6 +126,37 @@ fn elements(value: Value) -> Result<Items, ApplyFault>
     }
 }
 
+// What an operator on lists leaves of the elements.
+fn list_edited(alloc: Global, operator: &Operator, items: Items) -> Result<Items, Mem>
+    ensures { IfOk result (λ vs. vs ≡ list_edited (edit_view operator.now) items) }
+{
+    match operator {
+        Operator::Push(operands) => with_all(items, operands),
+        Operator::AddToSet(operands) => with_missing(alloc, items, operands),
+        Operator::PullEqual(operand) => without_equal(alloc, &items, operand),
+        Operator::PullPassing(test) => without_passing(alloc, &items, test),
+        Operator::PopLast => Ok(without_last(items)),
+        Operator::PopFirst => Ok(without_first(items)),
+        Operator::Set(_)
+        | Operator::Unset
+        | Operator::Increment(_)
+        | Operator::Min(_)
+        | Operator::Max(_) => Ok(items),
+    }
+}
+
+fn edited_in_list(
+    alloc: Global,
+    operator: &Operator,
+    value: Value,
+) -> Result<Option<Value>, ApplyFault>
+    ensures { Gives (λ o. option_map view o) result (then_made (λ ws. Some (list (vals_of (list_edited (edit_view operator.now) ws)))) (elements (view value))) }
+{
+    let items = elements(value)?;
+    let left = list_edited(alloc, operator, items)?;
+    Ok(Some(Value::List(left)))
+}
+
 // What the operator leaves of a value, if it leaves one.
 fn edited(alloc: Global, operator: &Operator, value: Value) -> Result<Option<Value>, ApplyFault>
     ensures { Gives (λ o. option_map view o) result (edited (edit_view operator.now) (view value)) }
@@ -168,30 +167,12 @@ fn edited(alloc: Global, operator: &Operator, value: Value) -> Result<Option<Val
         Operator::Increment(amount) => incremented(*amount, &value),
         Operator::Min(operand) => Ok(Some(least(operand, value)?)),
         Operator::Max(operand) => Ok(Some(greatest(operand, value)?)),
-        Operator::Push(operands) => {
-            let items = elements(value)?;
-            Ok(Some(Value::List(with_all(items, operands)?)))
-        }
-        Operator::AddToSet(operands) => {
-            let items = elements(value)?;
-            Ok(Some(Value::List(with_missing(items, operands)?)))
-        }
-        Operator::PullEqual(operand) => {
-            let items = elements(value)?;
-            Ok(Some(Value::List(without_equal(alloc, &items, operand)?)))
-        }
-        Operator::PullPassing(test) => {
-            let items = elements(value)?;
-            Ok(Some(Value::List(without_passing(alloc, &items, test)?)))
-        }
-        Operator::PopLast => {
-            let items = elements(value)?;
-            Ok(Some(Value::List(without_last(items))))
-        }
-        Operator::PopFirst => {
-            let items = elements(value)?;
-            Ok(Some(Value::List(without_first(items))))
-        }
+        Operator::Push(_)
+        | Operator::AddToSet(_)
+        | Operator::PullEqual(_)
+        | Operator::PullPassing(_)
+        | Operator::PopLast
+        | Operator::PopFirst => edited_in_list(alloc, operator, value),
     }
 }
 
@@ -206,6 +187,7 @@ fn made_anew(alloc: Global, operator: &Operator) -> Result<Option<Value>, Mem>
         Operator::Max(operand) => Ok(Some(copy(operand)?)),
         Operator::Push(operands) => Ok(Some(Value::List(operands.copy()?))),
         Operator::AddToSet(operands) => Ok(Some(Value::List(with_missing(
+            alloc,
             Items::new(alloc),
             operands,
         )?))),

@@ -2,9 +2,11 @@
 #![tactic(auto)]
 
 mod applying;
+mod conflicts;
 mod copying;
 mod edits;
 mod fault;
+mod missing;
 mod modifier;
 mod names;
 mod reading;
@@ -12,6 +14,3 @@ mod reading;
 pub use applying::apply;
 pub use fault::{ApplyFault, ModifierFault};
 pub use modifier::Modifier;
-
-#[cfg(test)]
-mod tests;

@@ -4,27 +4,27 @@ use selector_match::Test;
 use std::marker::Model;
 
 /// A modifier: new fields of a document, or operators that change it.
-#[derive(Debug, Drop)]
+#[derive(Drop)]
 pub struct Modifier {
     pub(crate) kind: ModifierKind,
 }
 
 // New fields, or updates in the order in which they are made.
-#[derive(Debug, Drop)]
+#[derive(Drop)]
 pub(crate) enum ModifierKind {
     Replacement(Doc),
     Updates(Vec<Update>),
 }
 
 // One operator at one path.
-#[derive(Debug, Drop)]
+#[derive(Drop)]
 pub(crate) struct Update {
     pub(crate) path: Path,
     pub(crate) operator: Operator,
 }
 
 // One operator with its operand, in the order of `Edit` in specs/.
-#[derive(Debug, Drop)]
+#[derive(Drop)]
 pub(crate) enum Operator {
     Set(Value),
     Unset,

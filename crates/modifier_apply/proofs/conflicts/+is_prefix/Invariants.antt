@@ -1,5 +1,5 @@
 use Rattle.std.proofs.Common.{length}
-use Rattle.modifier_apply.proofs.applying.+is_prefix.Given as goal
+use Rattle.modifier_apply.proofs.conflicts.+is_prefix.Given as goal
 
 abbrev pub decreases-is_prefix : goal.decreases-is_prefix
 decreases-is_prefix l = length l.path.now
