@@ -145,6 +145,14 @@ impl Contents {
         let _ = &self.docs;
     }
 
+    // Puts a copy of the document at this key.
+    fn put_copy(&mut self, key: &Key, doc: &Doc) -> Result<(), Mem>
+        ensures { OnOk result (self.new ≡ set key_cmp self.old key.now (Some doc.now)) }
+    {
+        let key = key.copy()?;
+        self.put(key, doc.copy()?)
+    }
+
     /// Contents equal to these.
     pub fn copy(&self) -> Result<Contents, Mem>
         ensures { IfOk result (λ c. c ≡ self.now) }
@@ -153,7 +161,7 @@ impl Contents {
             docs: BTreeMap::emptied(&self.docs)?,
         };
         for (key, doc) in self.iter() {
-            copies.put(key.copy()?, doc.copy()?)?;
+            copies.put_copy(key, doc)?;
         }
         Ok(copies)
     }

@@ -1,9 +1,13 @@
 //! Copies of values.
-ghost use Rattle.std.specs.Prelude.{◌≡◌, IfOk};
+ghost use Rattle.std.specs.Prelude.{◌≡◌, IfOk, OnOk};
+ghost use Rattle.value_model.specs.Val.{user};
+ghost use Rattle.value_model.specs.Doc.{put};
 ghost use Rattle.ejson_value.specs.View.{view};
 
 use crate::list::Copied;
 use crate::memory::Mem;
+use crate::text::Text;
+use crate::user::UserName;
 use crate::value::{Boxed, Doc, Items, Value};
 
 /// A value equal to this one.
@@ -20,11 +24,19 @@ pub fn copy(value: &Value) -> Result<Value, Mem>
         Value::Bytes(bytes) => Ok(Value::Bytes(bytes.copy()?)),
         Value::List(items) => Ok(Value::List(items.copy()?)),
         Value::Object(doc) => Ok(Value::Object(doc.copy()?)),
-        Value::User { name, value } => Ok(Value::User {
-            name: name.copy()?,
-            value: value.copy()?,
-        }),
+        Value::User { name, value } => copy_user(name, value),
     }
+}
+
+#[cycle(copying)]
+fn copy_user(name: &UserName, value: &Boxed) -> Result<Value, Mem>
+    ensures { IfOk result (λ v. view v ≡ user name.now value.now) }
+{
+    let name = name.copy()?;
+    Ok(Value::User {
+        name,
+        value: value.copy()?,
+    })
 }
 
 impl Boxed {
@@ -52,6 +64,14 @@ impl Items {
 }
 
 impl Doc {
+    // Puts the value as the field of this name.
+    fn put_named(&mut self, name: &Text, value: Value) -> Result<(), Mem>
+        ensures { OnOk result (self.new ≡ put self.old name.now (view value)) }
+    {
+        let name = name.copy()?;
+        self.put(name, value)
+    }
+
     /// A document equal to this one.
     #[cycle(copying)]
     pub fn copy(&self) -> Result<Doc, Mem>
@@ -59,7 +79,7 @@ impl Doc {
     {
         let mut copies = self.emptied()?;
         for (name, value) in self.iter() {
-            copies.put(name.copy()?, copy(value)?)?;
+            copies.put_named(name, copy(value)?)?;
         }
         Ok(copies)
     }

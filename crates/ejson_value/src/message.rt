@@ -28,25 +28,40 @@ pub enum DataMsg {
     },
 }
 
+fn copy_added(key: &Key, fields: &Doc) -> Result<DataMsg, Mem>
+    ensures { IfOk result (λ message. message ≡ DataMsg.Added key.now fields.now) }
+{
+    let key = key.copy()?;
+    Ok(DataMsg::Added {
+        key,
+        fields: fields.copy()?,
+    })
+}
+
+fn copy_changed(key: &Key, fields: &Doc, cleared: &ListOf<Text>) -> Result<DataMsg, Mem>
+    ensures { IfOk result (λ message. message ≡ DataMsg.Changed key.now fields.now cleared.now) }
+{
+    let key = key.copy()?;
+    let fields = fields.copy()?;
+    Ok(DataMsg::Changed {
+        key,
+        fields,
+        cleared: cleared.copy()?,
+    })
+}
+
 impl DataMsg {
     /// A message equal to this one.
     pub fn copy(&self) -> Result<DataMsg, Mem>
         ensures { IfOk result (λ message. message ≡ self.now) }
     {
         match self {
-            DataMsg::Added { key, fields } => Ok(DataMsg::Added {
-                key: key.copy()?,
-                fields: fields.copy()?,
-            }),
+            DataMsg::Added { key, fields } => copy_added(key, fields),
             DataMsg::Changed {
                 key,
                 fields,
                 cleared,
-            } => Ok(DataMsg::Changed {
-                key: key.copy()?,
-                fields: fields.copy()?,
-                cleared: cleared.copy()?,
-            }),
+            } => copy_changed(key, fields, cleared),
             DataMsg::Removed { key } => Ok(DataMsg::Removed { key: key.copy()? }),
         }
     }

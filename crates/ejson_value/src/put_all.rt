@@ -1,6 +1,7 @@
 //! Changes put into contents, all or none: all copies are made first, then a place for each new key;
 //! the rest takes no memory.
 ghost use Rattle.std.specs.Prelude.{◌≡◌, true, false, Some, None, [], All, IsSome, IfOk, OnOk, OnErr, unwrap_or, if◌then◌else◌};
+ghost use Rattle.std.specs.BTreeMap.{insert_entry};
 ghost use Rattle.map_model.specs.Maps.{at, set};
 ghost use Rattle.map_model.specs.Changes.{changed, last_at};
 ghost use Rattle.value_model.specs.Val.{Entries};
@@ -9,6 +10,7 @@ ghost use Rattle.ejson_value.specs.Key.{key_cmp};
 ghost use Rattle.ejson_value.specs.Changes.{changes_of, has_new};
 
 use crate::Changes;
+use crate::change::Change;
 use crate::contents::Contents;
 use crate::key::Key;
 use crate::list::copy_option;
@@ -16,13 +18,21 @@ use crate::memory::Mem;
 use crate::value::Doc;
 use std::collections::BTreeMap;
 
+fn plan_change(plan: &mut BTreeMap<Key, Option<Doc>>, change: &Change) -> Result<(), Mem>
+    ensures { OnOk result (plan.new.entries ≡ insert_entry key_cmp plan.old.entries change.now.key change.now.after) }
+{
+    let key = change.key.copy()?;
+    drop(plan.insert(key, copy_option(&change.after)?)?);
+    Ok(())
+}
+
 // What the last change at each key leaves there.
 fn plan_of(changes: &Changes) -> Result<BTreeMap<Key, Option<Doc>>, Mem>
     ensures { IfOk result (λ plan. (k : Key) → at key_cmp plan.entries k ≡ last_at key_cmp k (changes_of changes.now)) }
 {
     let mut plan = BTreeMap::new(changes.allocator());
     for change in changes.as_slice() {
-        drop(plan.insert(change.key.copy()?, copy_option(&change.after)?)?);
+        plan_change(&mut plan, change)?;
     }
     Ok(plan)
 }

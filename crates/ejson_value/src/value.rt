@@ -396,33 +396,44 @@ impl Doc {
         ensures ok { OnOk result (self.new ≡ put self.old name (view value)) }
         ensures err { OnErr result (self.new ≡ self.old) }
     {
-        match self.place(&name) {
+        let place = self.place(&name);
+        self.put_at(place, Member { name, value })
+    }
+
+    // Puts the field where its name stands, or at the gap for it.
+    fn put_at(&mut self, place: Result<usize, usize>, member: Member) -> Result<(), Mem>
+        requires found { IfOk place (λ place. name_at self.old place ≡ Some member.name) }
+        requires gap { IfErr place (IsGapFor self.old member.name) }
+        ensures ok { OnOk result (self.new ≡ put self.old member.name (view member.value)) }
+        ensures err { OnErr result (self.new ≡ self.old) }
+    {
+        match place {
             Ok(place) => {
-                self.write_at(place, name, value);
+                self.write_at(place, member);
                 Ok(())
             }
-            Err(place) => self.insert_at(place, name, value),
+            Err(place) => self.insert_at(place, member),
         }
     }
 
-    // Puts the value in place of that of the field of this name, which stands at this place.
-    fn write_at(&mut self, place: usize, name: Text, value: Value)
-        requires { name_at self.old place ≡ Some name }
-        ensures { self.new ≡ put self.old name (view value) }
+    // Puts the field in place of that of the same name, which stands at this place.
+    fn write_at(&mut self, place: usize, member: Member)
+        requires { name_at self.old place ≡ Some member.name }
+        ensures { self.new ≡ put self.old member.name (view member.value) }
     {
-        value.known();
-        drop(mem::replace(&mut self.fields[place], Member { name, value }));
+        member.value.known();
+        drop(mem::replace(&mut self.fields[place], member));
     }
 
     // Puts a new field at the gap for it.
-    fn insert_at(&mut self, place: usize, name: Text, value: Value) -> Result<(), Mem>
-        requires { IsGapFor self.old name place }
-        ensures ok { OnOk result (self.new ≡ put self.old name (view value)) }
+    fn insert_at(&mut self, place: usize, member: Member) -> Result<(), Mem>
+        requires { IsGapFor self.old member.name place }
+        ensures ok { OnOk result (self.new ≡ put self.old member.name (view member.value)) }
         ensures err { OnErr result (self.new ≡ self.old) }
     {
-        value.known();
+        member.value.known();
         self.make_room()?;
-        self.fields.insert(place, Member { name, value })?;
+        self.fields.insert(place, member)?;
         Ok(())
     }
 

@@ -9,11 +9,11 @@ pub invariant_of-self : goal.invariant_of-self
 invariant_of-self c =
     let ms = c.self.inside.fields.items in
     let is = rw (← c.self.view_is) at c.requires in
-    let same = ap (λ (m : Member). entries (pairs (slice_set ms c.args.place m))) c.replace.ensures.after ∙ set_is_put c.args.name ms c.args.place (record { name = c.args.name; value = c.args.value }) c.self.invariant.names is refl in
-    subst IsDocument (sym same) (IsDocument-put _ c.args.name (view c.args.value) c.self.invariant c.known.ensures)
+    let same = ap (λ (m : Member). entries (pairs (slice_set ms c.args.place m))) c.replace.ensures.after ∙ set_is_put c.args.member.name ms c.args.place c.args.member c.self.invariant.names is refl in
+    subst IsDocument (sym same) (IsDocument-put _ c.args.member.name (view c.args.member.value) c.self.invariant c.known.ensures)
 
 pub returns : goal.returns
 returns c =
     let ms = c.self.inside.fields.items in
     let is = rw (← c.self.view_is) at c.requires in
-    rw (← c.self.view_is) (ap (λ (m : Member). entries (pairs (slice_set ms c.args.place m))) c.replace.ensures.after ∙ set_is_put c.args.name ms c.args.place (record { name = c.args.name; value = c.args.value }) c.self.invariant.names is refl)
+    rw (← c.self.view_is) (ap (λ (m : Member). entries (pairs (slice_set ms c.args.place m))) c.replace.ensures.after ∙ set_is_put c.args.member.name ms c.args.place c.args.member c.self.invariant.names is refl)
