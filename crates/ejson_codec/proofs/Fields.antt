@@ -13,7 +13,7 @@ use Rattle.value_model.specs.Val.{Val, Entries}
 use Rattle.value_model.specs.Order.{text_cmp}
 use Rattle.value_model.specs.Doc.{put}
 use Rattle.ejson_codec.specs.Reading.{with_field, reading, members_reading}
-use Rattle.ejson_codec.specs.Turns.{with_fields, with_fields-with_field, with_fields-nil}
+use Rattle.ejson_codec.proofs.Turns.{with_fields, with_fields-with_field, with_fields-nil}
 use Rattle.ejson_codec.specs.declared.fault.EjsonFault.{EjsonFault}
 use Rattle.ejson_codec.proofs.Members.{Entry}
 

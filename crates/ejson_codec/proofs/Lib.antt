@@ -1,4 +1,5 @@
 pub mod Members
+pub mod Turns
 pub mod Lists
 pub mod Exits
 pub mod Found

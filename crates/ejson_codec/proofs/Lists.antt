@@ -4,7 +4,7 @@ use Rattle.serde_json.specs.View.{view as json_view, items_view}
 use Rattle.serde_json.specs.declared.value.Value.{Value as Json}
 use Rattle.value_model.specs.Val.{Val}
 use Rattle.ejson_codec.specs.Reading.{with_item, reading, items_reading}
-use Rattle.ejson_codec.specs.Turns.{with_items, with_items-with_item, with_items-nil}
+use Rattle.ejson_codec.proofs.Turns.{with_items, with_items-with_item, with_items-nil}
 use Rattle.ejson_codec.specs.declared.fault.EjsonFault.{EjsonFault}
 
 -- the rest begins with this tree

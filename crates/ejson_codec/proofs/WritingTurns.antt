@@ -16,6 +16,7 @@ use Rattle.value_model.specs.Size.{is_special}
 use Rattle.value_model.specs.Order.{text_cmp}
 use Rattle.ejson_value.specs.declared.value.Value.{Value}
 use Rattle.ejson_value.specs.View.{view, views, entries}
+use Rattle.ejson_value.specs.Entries.{keys_of-entries}
 use Rattle.ejson_codec.specs.Written.{escaped_if, written, items_written, members_written}
 use Rattle.ejson_codec.specs.WrittenLaws.{keys_of_members-members_written}
 use Rattle.ejson_codec.specs.Shape.{keys_of_members}
@@ -44,10 +45,6 @@ tree_more trees new tree items i value pushed is within same so_far =
 put_last : (es : Entries) (name : List ℕ) (v : Val) → IsAbove text_cmp name (keys_of es) → json.put name (written v) (members_written (fields_of es)) ≡ members_written (fields_of (es ++ (name, v) ∷ []))
 put_last [] name v h = refl
 put_last (e ∷ es) name v h = rw h.0 (ap (member e.0 (written e.1)) (put_last es name v h.1))
-
-keys_of-entries : (es : List (List ℕ × Value)) → keys_of (entries es) ≡ keys_of es
-keys_of-entries [] = refl
-keys_of-entries (e ∷ es) = ap (λ (ks : List (List ℕ)). e.0 ∷ ks) (keys_of-entries es)
 
 pub member_more : (all done : List (List ℕ × Value)) (name key : List ℕ) (value : Value) (more : List (List ℕ × Value)) (tree : Data) (old new : Members)
     → all ≡ done ++ (name, value) ∷ more → IsStrictlySortedBy text_cmp (keys_of all) → key ≡ name → tree ≡ written (view value) → new ≡ json.put key tree old

@@ -4,7 +4,6 @@ pub mod Base64Laws
 pub mod Reads
 pub mod Reading
 pub mod ReadingLaws
-pub mod Turns
 pub mod Written
 pub mod WrittenLaws
 pub mod Faults

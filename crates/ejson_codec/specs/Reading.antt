@@ -6,6 +6,7 @@ use Rattle.serde_json.specs.Find.{as_integer}
 use Rattle.serde_json.specs.Read as json_text
 use Rattle.value_model.specs.Val.{Val, null, boolean, int, text, date, bytes, list, object, user, vals_of, Entries, fields_of}
 use Rattle.value_model.specs.Valid.{max_whole, max_user_name}
+use Rattle.ejson_value.specs.Results.{made}
 use Rattle.ejson_codec.specs.Shape.{keys_of_members, shape_of, first_of}
 use Rattle.ejson_codec.specs.Base64.{bytes_of}
 use Rattle.ejson_codec.specs.declared.shape.Shape.{Shape}
@@ -30,11 +31,6 @@ whole_reading (Some z) = if is_whole z then Ok z else Err fault.BadNumber
 
 abbrev pub number_reading : Num → Result ℤ EjsonFault
 number_reading n = whole_reading (as_integer n)
-
--- a value made of what was read
-abbrev pub made : {A B : Type 0} → (A → B) → Result A EjsonFault → Result B EjsonFault
-made f (Ok a) = Ok (f a)
-made f (Err e) = Err e
 
 abbrev pub date_reading : Data → Result Val EjsonFault
 date_reading (json.number n) = made date (number_reading n)

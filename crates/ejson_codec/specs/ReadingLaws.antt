@@ -1,7 +1,7 @@
 -- Reading answers exactly the value that the tree reads as, where its depth is within the levels.
 use Rattle.std.specs.Prelude.{◌≡◌, ℕ, zero, suc, ◌≤◌, ℤ, pos, neg_ℤ, int_le, ◌≤ℤ◌, true, false, length, nat_lt, nat_le, List, [], ◌∷◌, Option, Some, None, Result, Ok, Err, refl}
 use Rattle.std.proofs.Common.{sym, ap, ◌∙◌, subst, arith, inl, inr}
-use Rattle.std.proofs.lemmas.Bool.{cases_Bool, and_from, ltb-true, lt-ltb}
+use Rattle.std.proofs.lemmas.Bool.{cases_Bool, and_from, ltb-true, lt-ltb, leb-true, le-leb}
 use Rattle.std.proofs.lemmas.Int.{ints}
 use Rattle.serde_json.specs.Data.{Num, unsigned, negative, float, Data, Items, no_items, item, Members, no_members, member}
 use Rattle.serde_json.specs.Data as json
@@ -9,11 +9,12 @@ use Rattle.value_model.specs.Val.{Val, null, boolean, int, text, date, list, obj
 use Rattle.value_model.specs.Valid.{IsWhole, max_whole, IsUserName, max_user_name}
 use Rattle.value_model.specs.TruthLaws.{both_true}
 use Rattle.value_model.specs.Depth.{depth, vals_depth, fields_depth}
+use Rattle.ejson_value.specs.Results.{made, made-ok}
 use Rattle.ejson_codec.specs.Shape.{keys_of_members, shape_of, first_of}
 use Rattle.ejson_codec.specs.Base64.{bytes_of}
 use Rattle.ejson_codec.specs.Base64Laws.{bytes_of_some, bytes_of-base64}
 use Rattle.ejson_codec.specs.Reads.{IsAccepted, IsDate, IsBinary, IsNamed, ByShape, Reads, ItemsRead, MembersRead, EscapeReads, UserReads}
-use Rattle.ejson_codec.specs.Reading.{is_whole, whole_reading, number_reading, made, date_reading, bytes_reading, binary_reading, is_user_name, name_reading, user_made, below, list_made, object_made, with_item, with_field, by_shape, reading, items_reading, members_reading, escape_reading, user_reading}
+use Rattle.ejson_codec.specs.Reading.{is_whole, whole_reading, number_reading, date_reading, bytes_reading, binary_reading, is_user_name, name_reading, user_made, below, list_made, object_made, with_item, with_field, by_shape, reading, items_reading, members_reading, escape_reading, user_reading}
 use Rattle.ejson_codec.specs.declared.shape.Shape.{Shape}
 use Rattle.ejson_codec.specs.declared.shape.Shape.TheVariants.{Plain, Date, Binary, Escape, User, Unsupported}
 use Rattle.ejson_codec.specs.declared.fault.EjsonFault.{EjsonFault}
@@ -58,10 +59,6 @@ number_read (float x) z h = absurd h
 
 -- ---- answers made of answers
 
-made_ok : {A B : Type 0} (f : A → B) (r : Result A EjsonFault) (b : B) → made f r ≡ Ok b → (a : A) × (r ≡ Ok a) × (f a ≡ b)
-made_ok f (Ok a) b h = (a, refl, cc h)
-made_ok f (Err e) b h = absurd (cc h)
-
 below_ok : {A : Type 0} (levels : ℕ) (f : ℕ → Result A EjsonFault) (a : A) → below levels f ≡ Ok a → (left : ℕ) × (levels ≡ suc left) × (f left ≡ Ok a)
 below_ok zero f a h = absurd (cc h)
 below_ok (suc levels) f a h = (levels, refl, h)
@@ -82,7 +79,7 @@ with_field_ok key (Err e) rest es h = absurd (cc h)
 
 date_ok : (d : Data) (v : Val) → date_reading d ≡ Ok v → IsDate d v
 date_ok (json.number n) v h =
-    let p = made_ok date (number_reading n) v h in
+    let p = made-ok date (number_reading n) v h in
     (p.0, number_ok n p.0 p.1, sym p.2)
 date_ok json.null v h = cc h
 date_ok (json.boolean b) v h = cc h
@@ -122,19 +119,13 @@ binary_read (json.object ms) v h = absurd h
 
 -- ---- names of user types
 
-le_true : (m n : ℕ) → nat_le m n ≡ true → m ≤ n
-le_true m n h = grind arith
-
-le_from : (m n : ℕ) → m ≤ n → nat_le m n ≡ true
-le_from m n h = grind arith
-
 is_user_name_true : (s : List ℕ) → is_user_name s ≡ true → IsUserName s
 is_user_name_true s h =
     let parts = both_true (nat_lt 0 (length s)) (nat_le (length s) max_user_name) h in
-    record { some = ltb-true 0 (length s) parts.0; short = le_true (length s) max_user_name parts.1 }
+    record { some = ltb-true 0 (length s) parts.0; short = leb-true (length s) max_user_name parts.1 }
 
 pub is_user_name_from : (s : List ℕ) → IsUserName s → is_user_name s ≡ true
-is_user_name_from s h = and_from (nat_lt 0 (length s)) (nat_le (length s) max_user_name) (lt-ltb 0 (length s) h.some) (le_from (length s) max_user_name h.short)
+is_user_name_from s h = and_from (nat_lt 0 (length s)) (nat_le (length s) max_user_name) (lt-ltb 0 (length s) h.some) (le-leb (length s) max_user_name h.short)
 
 pub is_user_name_not : (s : List ℕ) → (IsUserName s → ⊥) → is_user_name s ≡ false
 is_user_name_not s h = elim (cases_Bool (is_user_name s)) [ inl is ↦ absurd (h (is_user_name_true s is)) | inr out ↦ out ]
@@ -240,11 +231,11 @@ mutual
   reads_ok levels json.null v h = let e : v ≡ null = cc h in (e, rw e (omega arith))
   reads_ok levels (json.boolean b) v h = let e : v ≡ boolean b = cc h in (e, rw e (omega arith))
   reads_ok levels (json.number n) v h =
-      let p = made_ok int (number_reading n) v h in
+      let p = made-ok int (number_reading n) v h in
       ((p.0, number_ok n p.0 p.1, sym p.2), rw (← p.2) (omega arith))
   reads_ok levels (json.string s) v h = let e : v ≡ text s = cc h in (e, rw e (omega arith))
   reads_ok levels (json.array ds) v h =
-      let p = made_ok (λ (vs : List Val). list (vals_of vs)) (below levels (λ left. items_reading left ds)) v h in
+      let p = made-ok (λ (vs : List Val). list (vals_of vs)) (below levels (λ left. items_reading left ds)) v h in
       let q = below_ok levels (λ left. items_reading left ds) p.0 p.1 in
       let inside = items_ok q.0 ds p.0 q.2 in
       ((p.0, inside.0, sym p.2), list_deep p.0 v q.0 levels q.1 inside.1 p.2)
@@ -252,7 +243,7 @@ mutual
       shape_ok (shape_of (keys_of_members ms)) (object_made (below levels (λ left. members_reading left ms))) (date_reading (first_of ms)) (binary_reading (first_of ms)) (escape_reading levels ms) (user_reading levels ms)
       ((es : Entries) × MembersRead ms es × (v ≡ object (fields_of es))) (IsDate (first_of ms) v) (IsBinary (first_of ms) v) (EscapeReads ms v) (UserReads ms v) v levels
       (λ is.
-      let p = made_ok (λ (es : Entries). object (fields_of es)) (below levels (λ left. members_reading left ms)) v is in
+      let p = made-ok (λ (es : Entries). object (fields_of es)) (below levels (λ left. members_reading left ms)) v is in
       let q = below_ok levels (λ left. members_reading left ms) p.0 p.1 in
       let inside = members_ok q.0 ms p.0 q.2 in
       ((p.0, inside.0, sym p.2), object_deep p.0 v q.0 levels q.1 inside.1 p.2))
@@ -286,7 +277,7 @@ mutual
   escape_ok levels (member key (json.string s) ms) v h = cc h
   escape_ok levels (member key (json.array ds) ms) v h = cc h
   escape_ok levels (member key (json.object inner) ms) v h =
-      let p = made_ok (λ (es : Entries). object (fields_of es)) (below levels (λ left. members_reading left inner)) v h in
+      let p = made-ok (λ (es : Entries). object (fields_of es)) (below levels (λ left. members_reading left inner)) v h in
       let q = below_ok levels (λ left. members_reading left inner) p.0 p.1 in
       let inside = members_ok q.0 inner p.0 q.2 in
       ((p.0, inside.0, sym p.2), object_deep p.0 v q.0 levels q.1 inside.1 p.2)

@@ -84,7 +84,7 @@ only_member no_members key h = absurd (cc h)
 only_member (member k d no_members) key h = let e : k ≡ key = cc h in ap (λ (x : List ℕ). member x d no_members) e
 only_member (member k d (member l f ms)) key h = absurd (cc h)
 
-name_is : (a b : List ℕ) → is_name a b ≡ true → a ≡ b
+pub name_is : (a b : List ℕ) → is_name a b ≡ true → a ≡ b
 name_is a b h = (bytes_eq-Decides a b).0 h
 
 -- which key an object has, by what it stands for

@@ -1,7 +1,7 @@
 use Rattle.std.proofs.Common.{◌≡◌, ◌-◌, drop}
 use Rattle.serde_json.specs.View.{items_view}
 use Rattle.ejson_codec.specs.Reading.{items_reading}
-use Rattle.ejson_codec.specs.Turns.{with_items}
+use Rattle.ejson_codec.proofs.Turns.{with_items}
 use Rattle.ejson_codec.proofs.Fields.{AreRead}
 use Rattle.ejson_codec.proofs.reading.+reading.Given as goal
 

@@ -3,7 +3,8 @@ use Rattle.std.specs.Prelude.{◌≡◌, ℕ, List, [], ◌∷◌, ◌++◌, Res
 use Rattle.std.proofs.Common.{sym, ap}
 use Rattle.std.proofs.lemmas.List.{append_assoc}
 use Rattle.value_model.specs.Val.{Val, Entries}
-use Rattle.ejson_codec.specs.Reading.{made, with_item, with_field}
+use Rattle.ejson_value.specs.Results.{made}
+use Rattle.ejson_codec.specs.Reading.{with_item, with_field}
 use Rattle.ejson_codec.specs.declared.fault.EjsonFault.{EjsonFault}
 
 abbrev pub with_items : List Val → Result (List Val) EjsonFault → Result (List Val) EjsonFault
