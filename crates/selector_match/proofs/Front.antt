@@ -1,32 +1,12 @@
--- Lemmas of loops that read parts one after another: what was read so far goes in front of what the rest reads as.
-use Rattle.std.proofs.Common.{◌≡◌, ◌==◌, false, length, List, [], ◌∷◌, ◌++◌, Ok, Err, refl, ap, sym, ◌∙◌}
+-- Lemmas of selectors that are read part by part.
+use Rattle.std.proofs.Common.{◌≡◌, ◌==◌, false, length, List, [], ◌∷◌, Ok, Err, refl, ap}
 use Rattle.std.specs.Prelude.{if◌then◌else◌}
 use Rattle.std.specs.List.{list_all}
 use Rattle.value_model.specs.Val.{Val, list, vals_of, list_of-vals_of}
-use Rattle.selector_match.specs.declared.fault.SelectorFault.{SelectorFault}
+use Rattle.ejson_value.specs.Results.{after}
 use Rattle.selector_match.specs.declared.fault.SelectorFault.TheVariants.{BadOperand}
 use Rattle.selector_match.specs.Query.{Query, no_clauses, clause, Clause, query_of, no_queries, query, queries_of, no_predicates, predicate, Predicate, predicates_of}
-use Rattle.selector_match.specs.Reading.{Reading, made, with_both, is_literal, list_operand, literals_operand, some_queries_reading, more_queries_reading}
-
-abbrev pub after : {X Q : Type 0} → (X → Q → Q) → List X → Q → Q
-after cons [] q = q
-after cons (x ∷ xs) q = cons x (after cons xs q)
-
-module _ {X Q : Type 0} (cons : X → Q → Q) where
-  pub after-append : (xs : List X) (x : X) (q : Q) → after cons (xs ++ x ∷ []) q ≡ after cons xs (cons x q)
-  after-append [] x q = refl
-  after-append (y ∷ xs) x q = ap (λ r. cons y r) (after-append xs x q)
-
-  pub made_none : (r : Reading Q) → r ≡ made (λ q. after cons [] q) r
-  made_none (Ok q) = refl
-  made_none (Err e) = refl
-
-  pub made_more : (xs : List X) (x : X) (c : Reading X) (r : Reading Q) → c ≡ Ok x → made (λ q. after cons xs q) (with_both cons c r) ≡ made (λ q. after cons (xs ++ x ∷ []) q) r
-  made_more xs x c (Ok q) is = ap (λ o. made (λ q. after cons xs q) (with_both cons o (Ok q))) is ∙ ap (λ s. Ok s) (sym (after-append xs x q))
-  made_more xs x c (Err e) is = ap (λ o. made (λ q. after cons xs q) (with_both cons o (Err e))) is
-
-  pub made_fails : (xs : List X) (e : SelectorFault) (c : Reading X) (r : Reading Q) → c ≡ Err e → made (λ q. after cons xs q) (with_both cons c r) ≡ Err e
-  made_fails xs e c r is = ap (λ o. made (λ q. after cons xs q) (with_both cons o r)) is
+use Rattle.selector_match.specs.Reading.{is_literal, list_operand, literals_operand, some_queries_reading, more_queries_reading}
 
 pub after-query : (cs : List Clause) → after clause cs no_clauses ≡ query_of cs
 after-query [] = refl

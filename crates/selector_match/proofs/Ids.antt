@@ -7,6 +7,7 @@ use Rattle.std.proofs.Common.{arith}
 use Rattle.std.proofs.lemmas.Bool.Decides.{nat_tests}
 use Rattle.std.proofs.lemmas.Cmp.{nat_list_cmp_total}
 use Rattle.std.proofs.lemmas.Map.Lookups.{exact_bytes}
+use Rattle.value_model.specs.TruthLaws.{equal_of}
 use Rattle.value_model.specs.Val.{Val, text, object, Entries, fields_of, entries_of-fields_of}
 use Rattle.value_model.specs.Order.{text_cmp}
 use Rattle.value_model.specs.OrderLaws.{own_reverse_ties}
@@ -54,13 +55,8 @@ pub at_id : (part : List ℕ) (rest : List (List ℕ)) (id : List ℕ) (doc : En
 at_id part rest id doc same =
     sym (ap (λ x. branches rest x false)
     (ap (λ es. get es part) (entries_of-fields_of (put doc (codes "_id") (text id)))
-    ∙ (ap (λ n. get (put doc (codes "_id") (text id)) n) (exact_bytes part (codes "_id") (eq_of (text_cmp part (codes "_id")) same))
+    ∙ (ap (λ n. get (put doc (codes "_id") (text id)) n) (exact_bytes part (codes "_id") (equal_of (text_cmp part (codes "_id")) same))
     ∙ get-put_same doc (codes "_id") (text id))))
-  where
-    eq_of : (o : Ordering) → is_eq o ≡ true → o ≡ Equal
-    eq_of Less h = cc
-    eq_of Equal h = refl
-    eq_of Greater h = cc
 
 -- a text has no parts
 pub through_text : (rest : List (List ℕ)) (id : List ℕ) → (length rest == 0) ≡ false → (None, false) ∷ [] ≡ branches rest (Some (text id)) false

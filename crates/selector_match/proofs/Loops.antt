@@ -66,3 +66,25 @@ by_elements test reached whole vs fails part is =
     ∙ (ap (λ w. list_any test (cond w [] (map Some (elements reached)))) part
     ∙ (list_any-map test Some (elements reached)
     ∙ ap (λ ws. list_any (λ v. test (Some v)) ws) (elements-list reached vs is))))
+
+any_none : {X : Type 0} (xs : List X) → false ≡ list_any (λ x. false) xs
+any_none [] = refl
+any_none (x ∷ xs) = any_none xs
+
+or_true : (b : Bool) → (b || true) ≡ true
+or_true true = refl
+or_true false = refl
+
+any_or : {X : Type 0} (p q : X → Bool) (xs : List X) → (list_any p xs || list_any q xs) ≡ list_any (λ x. p x || q x) xs
+any_or p q [] = refl
+any_or p q (x ∷ xs) = by (p x) (q x) (any_or p q xs)
+  where
+    by : (a b : Bool) → (list_any p xs || list_any q xs) ≡ list_any (λ x. p x || q x) xs → ((a || list_any p xs) || (b || list_any q xs)) ≡ ((a || b) || list_any (λ x. p x || q x) xs)
+    by true b e = refl
+    by false true e = or_true (list_any p xs)
+    by false false e = e
+
+-- some pair of two lists passes a test, whichever list is gone through first
+pub any_either_way : {X Y : Type 0} (test : Y → X → Bool) (xs : List X) (ys : List Y) → list_any (λ x. list_any (λ y. test y x) ys) xs ≡ list_any (λ y. list_any (λ x. test y x) xs) ys
+any_either_way test [] ys = any_none ys
+any_either_way test (x ∷ xs) ys = ap (λ r. list_any (λ y. test y x) ys || r) (any_either_way test xs ys) ∙ any_or (λ y. test y x) (λ y. list_any (λ w. test y w) xs) ys

@@ -1,9 +1,8 @@
 -- Lemmas of the id that a selector names.
-use Rattle.std.proofs.Common.{◌≡◌, ℕ, zero, suc, ◌<◌, ◌&&◌, ◌||◌, Bool, true, false, codes, List, [], ◌∷◌, length, get_or, take, map, Option, Some, None, refl, ap, ◌∙◌, arith}
-use Rattle.std.specs.declared.cmp.Ordering.{Ordering}
-use Rattle.std.specs.declared.cmp.Ordering.TheVariants.{Less, Equal, Greater}
+use Rattle.std.proofs.Common.{◌≡◌, ℕ, zero, suc, ◌<◌, ◌||◌, Bool, true, false, codes, List, [], ◌∷◌, length, get_or, take, map, Option, Some, None, refl, ap, ◌∙◌, arith}
 use Rattle.std.specs.Ordering.{is_eq}
 use Rattle.std.proofs.lemmas.Map.Lookups.{exact_bytes}
+use Rattle.value_model.specs.TruthLaws.{both_true, equal_of}
 use Rattle.value_model.specs.Val.{text, Entries}
 use Rattle.value_model.specs.Order.{text_cmp}
 use Rattle.selector_match.specs.Query.{Query, no_clauses, clause, Clause, at_path, Predicates, no_predicates, predicate, Predicate, equal, query_of, predicates_of}
@@ -48,24 +47,15 @@ pub named_id-is : (cs : List Condition) → named_id (query_of (map clause_view 
 named_id-is [] = refl
 named_id-is (c ∷ cs) = ap (λ o. first_of_both (named_by_clause (clause_view c)) o) (named_id-is cs)
 
-both_true : (a b : Bool) → (a && b) ≡ true → (a ≡ true) × (b ≡ true)
-both_true true b e = (refl, e)
-both_true false b e = cc
-
 or_false : (a : Bool) → (a || false) ≡ true → a ≡ true
 or_false true e = refl
 or_false false e = cc
-
-eq_of : (o : Ordering) → is_eq o ≡ true → o ≡ Equal
-eq_of Less e = cc
-eq_of Equal e = refl
-eq_of Greater e = cc
 
 same_some : (s t : List ℕ) → Some s ≡ Some t → s ≡ t
 same_some s t e = cc
 
 predicate_only : (p : Predicate) (t id : List ℕ) → named_by_predicate p ≡ Some t → predicate_holds p ((Some (text id), false) ∷ []) ≡ true → id ≡ t
-predicate_only (equal (text s)) t id e holds = exact_bytes id s (eq_of (text_cmp id s) (or_false (is_eq (text_cmp id s)) holds)) ∙ same_some s t e
+predicate_only (equal (text s)) t id e holds = exact_bytes id s (equal_of (text_cmp id s) (or_false (is_eq (text_cmp id s)) holds)) ∙ same_some s t e
 predicate_only p t id e holds = cc
 
 predicates_only : (ps : Predicates) (t id : List ℕ) → named_by_predicates ps ≡ Some t → predicates_hold ps ((Some (text id), false) ∷ []) ≡ true → id ≡ t

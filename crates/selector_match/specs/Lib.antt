@@ -1,8 +1,10 @@
 pub mod Query
 pub mod Coding
+pub mod Holds
+pub mod Operands
 pub mod View
 pub mod Falls
-pub mod Holds
+pub mod Reached
 pub mod Asked
 pub mod Reading
 pub mod Named

@@ -1,28 +1,21 @@
 -- How a value is read as a selector (query operators, in MongoDB's documentation). The first fault in reading order is answered, keys by bytes.
-use Rattle.std.specs.Prelude.{◌≡◌, ℕ, Bool, true, false, not, List, [], ◌∷◌, codes, bytes_eq, Option, None, Some, ok_or, Result, Ok, Err, if◌then◌else◌, ◌&&◌, ◌||◌, ◌==◌, pos}
+use Rattle.std.specs.Prelude.{◌≡◌, ℕ, Bool, true, false, not, List, [], ◌∷◌, codes, bytes_eq, Option, None, Some, option_map, ok_or, Result, Ok, Err, if◌then◌else◌, ◌&&◌, ◌||◌, ◌==◌, pos}
 use Rattle.std.specs.List.{list_all}
-use Rattle.value_model.specs.Val.{Val, null, boolean, int, list, object, Vals, no_vals, val, Fields, no_fields, field, list_of}
+use Rattle.value_model.specs.Val.{Val, null, boolean, int, list, object, user, Vals, no_vals, val, Fields, no_fields, field, list_of}
 use Rattle.value_model.specs.Branches.{path_of}
+use Rattle.ejson_value.specs.Results.{made, with_both}
 use Rattle.selector_match.specs.declared.fault.SelectorFault.{SelectorFault}
 use Rattle.selector_match.specs.declared.fault.SelectorFault.TheVariants as fault
 use Rattle.selector_match.specs.declared.names.OperatorName.{OperatorName}
 use Rattle.selector_match.specs.declared.names.OperatorName.TheVariants as name
+use Rattle.selector_match.specs.declared.names.PlainName.{PlainName}
+use Rattle.selector_match.specs.declared.names.PlainName.TheVariants as plain
 use Rattle.selector_match.specs.declared.names.Connective.{Connective}
 use Rattle.selector_match.specs.declared.names.Connective.TheVariants as connective
 use Rattle.selector_match.specs.Query.{Query, no_clauses, clause, Clause, all_of, any_of, none_of, at_path, Queries, no_queries, query, Predicates, no_predicates, predicate, Predicate, equal, not_equal, among, not_among, greater, at_least, less, at_most, present, sized, has_all, has_element, negated, ElementTest, by_predicates, by_query}
 
 abbrev pub Reading : Type 0 → Type 0
 Reading X = Result X SelectorFault
-
--- what is made of two parts, where both can be read
-abbrev pub with_both : {A B C : Type 0} → (A → B → C) → Reading A → Reading B → Reading C
-with_both f (Err e) b = Err e
-with_both f (Ok a) (Err e) = Err e
-with_both f (Ok a) (Ok b) = Ok (f a b)
-
-abbrev pub made : {A B : Type 0} → (A → B) → Reading A → Reading B
-made f (Ok a) = Ok (f a)
-made f (Err e) = Err e
 
 -- a name that begins with `$`
 abbrev pub begins_with_dollar : List ℕ → Bool
@@ -46,21 +39,24 @@ abbrev pub connective_named : List ℕ → Option Connective
 connective_named n =
     if bytes_eq n (codes "$and") then Some connective.And else (if bytes_eq n (codes "$or") then Some connective.Or else (if bytes_eq n (codes "$nor") then Some connective.Nor else None))
 
+-- the operators whose operands hold no operators
+abbrev pub plain_named : List ℕ → Option PlainName
+plain_named n =
+    if bytes_eq n (codes "$eq") then Some plain.Equal else (
+    if bytes_eq n (codes "$ne") then Some plain.NotEqual else (
+    if bytes_eq n (codes "$in") then Some plain.Among else (
+    if bytes_eq n (codes "$nin") then Some plain.NotAmong else (
+    if bytes_eq n (codes "$gt") then Some plain.Greater else (
+    if bytes_eq n (codes "$gte") then Some plain.AtLeast else (
+    if bytes_eq n (codes "$lt") then Some plain.Less else (
+    if bytes_eq n (codes "$lte") then Some plain.AtMost else (
+    if bytes_eq n (codes "$exists") then Some plain.Exists else (
+    if bytes_eq n (codes "$size") then Some plain.Size else (
+    if bytes_eq n (codes "$all") then Some plain.All else None))))))))))
+
 abbrev pub operator_named : List ℕ → Option OperatorName
 operator_named n =
-    if bytes_eq n (codes "$eq") then Some name.Equal else (
-    if bytes_eq n (codes "$ne") then Some name.NotEqual else (
-    if bytes_eq n (codes "$in") then Some name.Among else (
-    if bytes_eq n (codes "$nin") then Some name.NotAmong else (
-    if bytes_eq n (codes "$gt") then Some name.Greater else (
-    if bytes_eq n (codes "$gte") then Some name.AtLeast else (
-    if bytes_eq n (codes "$lt") then Some name.Less else (
-    if bytes_eq n (codes "$lte") then Some name.AtMost else (
-    if bytes_eq n (codes "$exists") then Some name.Exists else (
-    if bytes_eq n (codes "$size") then Some name.Size else (
-    if bytes_eq n (codes "$all") then Some name.All else (
-    if bytes_eq n (codes "$elemMatch") then Some name.ElementMatch else (
-    if bytes_eq n (codes "$not") then Some name.Not else None))))))))))))
+    if bytes_eq n (codes "$elemMatch") then Some name.ElementMatch else (if bytes_eq n (codes "$not") then Some name.Not else option_map name.Plain (plain_named n))
 
 -- Operands: a list; what can be compared; a boolean; a number from 0; a list of literals, in which no object has an operator.
 abbrev pub list_operand : Val → Reading (List Val)
@@ -71,6 +67,7 @@ abbrev pub is_comparable : Val → Bool
 is_comparable null = false
 is_comparable (list vs) = false
 is_comparable (object fs) = false
+is_comparable (user name v) = false
 is_comparable _ = true
 
 abbrev pub compared_operand : Val → Reading Val
@@ -114,20 +111,24 @@ abbrev pub clause_made : Bool → List ℕ → Reading Queries → Reading Predi
 clause_made top n queries condition =
     if begins_with_dollar n then (if top then by_connective (connective_named n) queries else Err fault.UnknownOperator) else with_both at_path (path_reading n) condition
 
+-- an operator with an operand that holds no operators
+abbrev pub plain_made : PlainName → Val → Reading Predicate
+plain_made plain.Equal v = Ok (equal v)
+plain_made plain.NotEqual v = Ok (not_equal v)
+plain_made plain.Among v = made among (list_operand v)
+plain_made plain.NotAmong v = made not_among (list_operand v)
+plain_made plain.Greater v = made greater (compared_operand v)
+plain_made plain.AtLeast v = made at_least (compared_operand v)
+plain_made plain.Less v = made less (compared_operand v)
+plain_made plain.AtMost v = made at_most (compared_operand v)
+plain_made plain.Exists v = made present (boolean_operand v)
+plain_made plain.Size v = made sized (size_operand v)
+plain_made plain.All v = made has_all (literals_operand v)
+
 -- an operator with its operand, which is also read as the test of an element and as a set of operators
 abbrev pub predicate_made : Option OperatorName → Val → Reading ElementTest → Reading Predicates → Reading Predicate
 predicate_made None v element set = Err fault.UnknownOperator
-predicate_made (Some name.Equal) v element set = Ok (equal v)
-predicate_made (Some name.NotEqual) v element set = Ok (not_equal v)
-predicate_made (Some name.Among) v element set = made among (list_operand v)
-predicate_made (Some name.NotAmong) v element set = made not_among (list_operand v)
-predicate_made (Some name.Greater) v element set = made greater (compared_operand v)
-predicate_made (Some name.AtLeast) v element set = made at_least (compared_operand v)
-predicate_made (Some name.Less) v element set = made less (compared_operand v)
-predicate_made (Some name.AtMost) v element set = made at_most (compared_operand v)
-predicate_made (Some name.Exists) v element set = made present (boolean_operand v)
-predicate_made (Some name.Size) v element set = made sized (size_operand v)
-predicate_made (Some name.All) v element set = made has_all (literals_operand v)
+predicate_made (Some (name.Plain n)) v element set = plain_made n v
 predicate_made (Some name.ElementMatch) v element set = made has_element element
 predicate_made (Some name.Not) v element set = made negated set
 

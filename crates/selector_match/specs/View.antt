@@ -4,6 +4,8 @@ use Rattle.ejson_value.specs.View.{view}
 use Rattle.selector_match.specs.Query.{Query, Clause, all_of, any_of, none_of, at_path, Predicate, equal, not_equal, among, not_among, greater, at_least, less, at_most, present, sized, has_all, has_element, negated, ElementTest, by_predicates, by_query, Predicates, query_of, predicates_of}
 use Rattle.selector_match.specs.declared.selector.Condition.{Condition}
 use Rattle.selector_match.specs.declared.selector.Condition.TheVariants as condition
+use Rattle.selector_match.specs.declared.selector.Plain.{Plain}
+use Rattle.selector_match.specs.declared.selector.Plain.TheVariants as plain
 use Rattle.selector_match.specs.declared.selector.Operator.{Operator}
 use Rattle.selector_match.specs.declared.selector.Operator.TheVariants as operator
 use Rattle.selector_match.specs.declared.selector.TestKind.{TestKind}
@@ -15,18 +17,21 @@ clause_view (condition.Any qs) = any_of qs
 clause_view (condition.Neither qs) = none_of qs
 clause_view (condition.AtPath path ps) = at_path path ps
 
+abbrev pub plain_view : Plain → Predicate
+plain_view (plain.Equal v) = equal (view v)
+plain_view (plain.NotEqual v) = not_equal (view v)
+plain_view (plain.Among vs) = among vs
+plain_view (plain.NotAmong vs) = not_among vs
+plain_view (plain.Greater v) = greater (view v)
+plain_view (plain.AtLeast v) = at_least (view v)
+plain_view (plain.Less v) = less (view v)
+plain_view (plain.AtMost v) = at_most (view v)
+plain_view (plain.Present b) = present b
+plain_view (plain.Sized n) = sized n
+plain_view (plain.HasAll vs) = has_all vs
+
 abbrev pub predicate_view : Operator → Predicate
-predicate_view (operator.Equal v) = equal (view v)
-predicate_view (operator.NotEqual v) = not_equal (view v)
-predicate_view (operator.Among vs) = among vs
-predicate_view (operator.NotAmong vs) = not_among vs
-predicate_view (operator.Greater v) = greater (view v)
-predicate_view (operator.AtLeast v) = at_least (view v)
-predicate_view (operator.Less v) = less (view v)
-predicate_view (operator.AtMost v) = at_most (view v)
-predicate_view (operator.Present b) = present b
-predicate_view (operator.Sized n) = sized n
-predicate_view (operator.HasAll vs) = has_all vs
+predicate_view (operator.Plain p) = plain_view p
 predicate_view (operator.HasElement t) = has_element t
 predicate_view (operator.Negated ps) = negated ps
 

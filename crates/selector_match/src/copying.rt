@@ -1,8 +1,8 @@
 //! Copies of selectors.
 ghost use Rattle.std.specs.Prelude.{◌≡◌, IfOk};
-ghost use Rattle.selector_match.specs.View.{clause_view, predicate_view};
+ghost use Rattle.selector_match.specs.View.{clause_view, plain_view, predicate_view};
 
-use crate::selector::{Condition, Operator, Operators, Selector, Selectors, Test, TestKind};
+use crate::selector::{Condition, Operator, Operators, Plain, Selector, Selectors, Test, TestKind};
 use ejson_value::{Mem, copy};
 
 #[cycle(copying)]
@@ -10,9 +10,9 @@ fn copy_condition(condition: &Condition) -> Result<Condition, Mem>
     ensures { IfOk result (λ c. clause_view c ≡ clause_view condition.now) }
 {
     match condition {
-        Condition::All(selectors) => Ok(Condition::All(copy_selectors(selectors)?)),
-        Condition::Any(selectors) => Ok(Condition::Any(copy_selectors(selectors)?)),
-        Condition::Neither(selectors) => Ok(Condition::Neither(copy_selectors(selectors)?)),
+        Condition::All(selectors) => copy_selectors(selectors).map(Condition::All),
+        Condition::Any(selectors) => copy_selectors(selectors).map(Condition::Any),
+        Condition::Neither(selectors) => copy_selectors(selectors).map(Condition::Neither),
         Condition::AtPath(path, operators) => Ok(Condition::AtPath(
             path.copy()?,
             copy_operators(operators)?,
@@ -49,19 +49,27 @@ fn copy_operator(operator: &Operator) -> Result<Operator, Mem>
     ensures { IfOk result (λ p. predicate_view p ≡ predicate_view operator.now) }
 {
     match operator {
-        Operator::Equal(operand) => Ok(Operator::Equal(copy(operand)?)),
-        Operator::NotEqual(operand) => Ok(Operator::NotEqual(copy(operand)?)),
-        Operator::Among(operands) => Ok(Operator::Among(operands.copy()?)),
-        Operator::NotAmong(operands) => Ok(Operator::NotAmong(operands.copy()?)),
-        Operator::Greater(operand) => Ok(Operator::Greater(copy(operand)?)),
-        Operator::AtLeast(operand) => Ok(Operator::AtLeast(copy(operand)?)),
-        Operator::Less(operand) => Ok(Operator::Less(copy(operand)?)),
-        Operator::AtMost(operand) => Ok(Operator::AtMost(copy(operand)?)),
-        Operator::Present(wanted) => Ok(Operator::Present(*wanted)),
-        Operator::Sized(length) => Ok(Operator::Sized(*length)),
-        Operator::HasAll(operands) => Ok(Operator::HasAll(operands.copy()?)),
-        Operator::HasElement(test) => Ok(Operator::HasElement(test.copy()?)),
-        Operator::Negated(operators) => Ok(Operator::Negated(copy_operators(operators)?)),
+        Operator::Plain(plain) => copy_plain(plain).map(Operator::Plain),
+        Operator::HasElement(test) => test.copy().map(Operator::HasElement),
+        Operator::Negated(operators) => copy_operators(operators).map(Operator::Negated),
+    }
+}
+
+fn copy_plain(operator: &Plain) -> Result<Plain, Mem>
+    ensures { IfOk result (λ p. plain_view p ≡ plain_view operator.now) }
+{
+    match operator {
+        Plain::Equal(operand) => copy(operand).map(Plain::Equal),
+        Plain::NotEqual(operand) => copy(operand).map(Plain::NotEqual),
+        Plain::Among(operands) => operands.copy().map(Plain::Among),
+        Plain::NotAmong(operands) => operands.copy().map(Plain::NotAmong),
+        Plain::Greater(operand) => copy(operand).map(Plain::Greater),
+        Plain::AtLeast(operand) => copy(operand).map(Plain::AtLeast),
+        Plain::Less(operand) => copy(operand).map(Plain::Less),
+        Plain::AtMost(operand) => copy(operand).map(Plain::AtMost),
+        Plain::Present(wanted) => Ok(Plain::Present(*wanted)),
+        Plain::Sized(length) => Ok(Plain::Sized(*length)),
+        Plain::HasAll(operands) => operands.copy().map(Plain::HasAll),
     }
 }
 

@@ -1,11 +1,15 @@
 //! Selectors over documents (MongoDB's documentation of query operators).
 #![tactic(auto)]
 
+mod asking;
 mod copying;
 mod fault;
+mod marking;
 mod matching;
 mod named;
 mod names;
+mod operands;
+mod reached;
 mod reading;
 mod selector;
 mod steps;

@@ -3,12 +3,12 @@ ghost use Rattle.std.specs.Prelude.{◌≡◌, ℕ, List, true, IfSome};
 ghost use Rattle.std.specs.Option.{option_copied};
 ghost use Rattle.value_model.specs.Val.{Entries};
 ghost use Rattle.ejson_value.specs.View.{view};
-ghost use Rattle.selector_match.specs.View.{clause_view, predicate_view};
+ghost use Rattle.selector_match.specs.View.{clause_view, plain_view, predicate_view};
 ghost use Rattle.selector_match.specs.Holds.{holds};
 ghost use Rattle.selector_match.specs.Named.{text_in, named_by_predicate, named_by_predicates, is_id_path, named_by_clause, named_id};
 
-use crate::matching::is_id;
-use crate::selector::{Condition, Operator, Operators, Selector};
+use crate::asking::is_id;
+use crate::selector::{Condition, Operator, Operators, Plain, Selector};
 use ejson_value::{Path, Text, Value};
 
 fn text_in(value: &Value) -> Option<&Text>
@@ -22,7 +22,8 @@ fn text_in(value: &Value) -> Option<&Text>
         | Value::Date(_)
         | Value::Bytes(_)
         | Value::List(_)
-        | Value::Object(_) => None,
+        | Value::Object(_)
+        | Value::User { .. } => None,
     }
 }
 
@@ -30,19 +31,26 @@ fn named_by_operator(operator: &Operator) -> Option<&Text>
     ensures { option_copied result ≡ named_by_predicate (predicate_view operator.now) }
 {
     match operator {
-        Operator::Equal(operand) => text_in(operand),
-        Operator::NotEqual(_)
-        | Operator::Among(_)
-        | Operator::NotAmong(_)
-        | Operator::Greater(_)
-        | Operator::AtLeast(_)
-        | Operator::Less(_) => None,
-        Operator::AtMost(_)
-        | Operator::Present(_)
-        | Operator::Sized(_)
-        | Operator::HasAll(_)
-        | Operator::HasElement(_)
-        | Operator::Negated(_) => None,
+        Operator::Plain(plain) => named_by_plain(plain),
+        Operator::HasElement(_) | Operator::Negated(_) => None,
+    }
+}
+
+fn named_by_plain(operator: &Plain) -> Option<&Text>
+    ensures { option_copied result ≡ named_by_predicate (plain_view operator.now) }
+{
+    match operator {
+        Plain::Equal(operand) => text_in(operand),
+        Plain::NotEqual(_)
+        | Plain::Among(_)
+        | Plain::NotAmong(_)
+        | Plain::Greater(_)
+        | Plain::AtLeast(_)
+        | Plain::Less(_)
+        | Plain::AtMost(_)
+        | Plain::Present(_)
+        | Plain::Sized(_)
+        | Plain::HasAll(_) => None,
     }
 }
 

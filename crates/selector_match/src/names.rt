@@ -1,6 +1,6 @@
 //! The names of operators.
 ghost use Rattle.std.specs.Prelude.{◌≡◌};
-ghost use Rattle.selector_match.specs.Reading.{begins_with_dollar, connective_named, operator_named, has_operator, has_plain_name, is_operator_set, is_literal};
+ghost use Rattle.selector_match.specs.Reading.{begins_with_dollar, connective_named, plain_named, operator_named, has_operator, has_plain_name, is_operator_set, is_literal};
 ghost use Rattle.value_model.specs.Val.{fields_of};
 ghost use Rattle.ejson_value.specs.View.{view};
 
@@ -15,6 +15,14 @@ pub(crate) enum Connective {
 
 #[derive(Clone, Copy)]
 pub(crate) enum OperatorName {
+    Plain(PlainName),
+    ElementMatch,
+    Not,
+}
+
+// The names of the operators whose operands hold no operators.
+#[derive(Clone, Copy)]
+pub(crate) enum PlainName {
     Equal,
     NotEqual,
     Among,
@@ -26,8 +34,6 @@ pub(crate) enum OperatorName {
     Exists,
     Size,
     All,
-    ElementMatch,
-    Not,
 }
 
 pub(crate) fn connective_named(name: &Text) -> Option<Connective>
@@ -41,24 +47,32 @@ pub(crate) fn connective_named(name: &Text) -> Option<Connective>
     }
 }
 
+fn plain_named(name: &Text) -> Option<PlainName>
+    ensures { result ≡ plain_named name.now }
+{
+    match name.as_str() {
+        "$eq" => Some(PlainName::Equal),
+        "$ne" => Some(PlainName::NotEqual),
+        "$in" => Some(PlainName::Among),
+        "$nin" => Some(PlainName::NotAmong),
+        "$gt" => Some(PlainName::Greater),
+        "$gte" => Some(PlainName::AtLeast),
+        "$lt" => Some(PlainName::Less),
+        "$lte" => Some(PlainName::AtMost),
+        "$exists" => Some(PlainName::Exists),
+        "$size" => Some(PlainName::Size),
+        "$all" => Some(PlainName::All),
+        _ => None,
+    }
+}
+
 pub(crate) fn operator_named(name: &Text) -> Option<OperatorName>
     ensures { result ≡ operator_named name.now }
 {
     match name.as_str() {
-        "$eq" => Some(OperatorName::Equal),
-        "$ne" => Some(OperatorName::NotEqual),
-        "$in" => Some(OperatorName::Among),
-        "$nin" => Some(OperatorName::NotAmong),
-        "$gt" => Some(OperatorName::Greater),
-        "$gte" => Some(OperatorName::AtLeast),
-        "$lt" => Some(OperatorName::Less),
-        "$lte" => Some(OperatorName::AtMost),
-        "$exists" => Some(OperatorName::Exists),
-        "$size" => Some(OperatorName::Size),
-        "$all" => Some(OperatorName::All),
         "$elemMatch" => Some(OperatorName::ElementMatch),
         "$not" => Some(OperatorName::Not),
-        _ => None,
+        _ => plain_named(name).map(OperatorName::Plain),
     }
 }
 
@@ -111,6 +125,7 @@ pub(crate) fn is_literal(value: &Value) -> bool
         | Value::Text(_)
         | Value::Date(_)
         | Value::Bytes(_)
-        | Value::List(_) => true,
+        | Value::List(_)
+        | Value::User { .. } => true,
     }
 }

@@ -3,15 +3,16 @@ ghost use Rattle.std.specs.Prelude.{◌≡◌, Ok, IfOk};
 ghost use Rattle.std.specs.List.{list_all};
 ghost use Rattle.value_model.specs.Val.{fields_of, vals_of};
 ghost use Rattle.ejson_value.specs.View.{view, views};
-ghost use Rattle.selector_match.specs.View.{clause_view, predicate_view};
-ghost use Rattle.selector_match.specs.Reading.{Gives, reading, clauses_reading, clause_made, path_reading, joined, queries_reading, more_queries_reading, condition_reading, predicates_reading, predicate_made, operator_named, literal, is_literal, list_operand, compared_operand, boolean_operand, size_operand, literals_operand, element_operand, set_operand, test_reading};
+ghost use Rattle.selector_match.specs.View.{clause_view, plain_view, predicate_view};
+ghost use Rattle.selector_match.specs.Reading.{Gives, reading, clauses_reading, clause_made, path_reading, joined, queries_reading, more_queries_reading, condition_reading, predicates_reading, plain_made, predicate_made, operator_named, literal, is_literal, list_operand, compared_operand, boolean_operand, size_operand, literals_operand, element_operand, set_operand, test_reading};
 
 use crate::fault::SelectorFault;
 use crate::names::{
-    Connective, OperatorName, begins_with_dollar, connective_named, has_operator, is_literal,
-    is_operator_set, operator_named,
+    Connective, OperatorName, PlainName, begins_with_dollar, connective_named, has_operator,
+    is_literal, is_operator_set, operator_named,
 };
-use crate::selector::{Condition, Operator, Operators, Selector, Selectors, Test, TestKind};
+use crate::operands::Operands;
+use crate::selector::{Condition, Operator, Operators, Plain, Selector, Selectors, Test, TestKind};
 use ejson_value::{Doc, Items, Path, PathFault, Text, Value, copy};
 use std::alloc::Global;
 
@@ -25,18 +26,25 @@ fn read_path(alloc: Global, text: &Text) -> Result<Path, SelectorFault>
     }
 }
 
-fn list_operand(value: &Value) -> Result<Items, SelectorFault>
+fn any_operand(value: &Value) -> Result<Value, SelectorFault>
+    ensures { Gives view result (Ok (view value.now)) }
+{
+    Ok(copy(value)?)
+}
+
+fn list_operand(alloc: Global, value: &Value) -> Result<Operands, SelectorFault>
     ensures { Gives (λ vs. vs) result (list_operand (view value.now)) }
 {
     match value {
-        Value::List(items) => Ok(items.copy()?),
+        Value::List(items) => Ok(Operands::read(alloc, items)?),
         Value::Null
         | Value::Bool(_)
         | Value::Int(_)
         | Value::Text(_)
         | Value::Date(_)
         | Value::Bytes(_)
-        | Value::Object(_) => Err(SelectorFault::BadOperand),
+        | Value::Object(_)
+        | Value::User { .. } => Err(SelectorFault::BadOperand),
     }
 }
 
@@ -47,7 +55,9 @@ fn compared_operand(value: &Value) -> Result<Value, SelectorFault>
         Value::Bool(_) | Value::Int(_) | Value::Text(_) | Value::Date(_) | Value::Bytes(_) => Ok(
             copy(value)?,
         ),
-        Value::Null | Value::List(_) | Value::Object(_) => Err(SelectorFault::BadOperand),
+        Value::Null | Value::List(_) | Value::Object(_) | Value::User { .. } => {
+            Err(SelectorFault::BadOperand)
+        },
     }
 }
 
@@ -62,7 +72,8 @@ fn boolean_operand(value: &Value) -> Result<bool, SelectorFault>
         | Value::Date(_)
         | Value::Bytes(_)
         | Value::List(_)
-        | Value::Object(_) => Err(SelectorFault::BadOperand),
+        | Value::Object(_)
+        | Value::User { .. } => Err(SelectorFault::BadOperand),
     }
 }
 
@@ -84,7 +95,8 @@ fn size_operand(value: &Value) -> Result<u64, SelectorFault>
         | Value::Date(_)
         | Value::Bytes(_)
         | Value::List(_)
-        | Value::Object(_) => Err(SelectorFault::BadOperand),
+        | Value::Object(_)
+        | Value::User { .. } => Err(SelectorFault::BadOperand),
     }
 }
 
@@ -94,13 +106,13 @@ fn are_literals(values: &[Value]) -> bool
     values.iter().all(|value| is_literal(value))
 }
 
-fn literals_operand(value: &Value) -> Result<Items, SelectorFault>
+fn literals_operand(alloc: Global, value: &Value) -> Result<Operands, SelectorFault>
     ensures { Gives (λ vs. vs) result (literals_operand (view value.now)) }
 {
     match value {
         Value::List(items) => {
             if are_literals(items.as_slice()) {
-                Ok(items.copy()?)
+                Ok(Operands::read(alloc, items)?)
             } else {
                 Err(SelectorFault::BadOperand)
             }
@@ -111,7 +123,8 @@ fn literals_operand(value: &Value) -> Result<Items, SelectorFault>
         | Value::Text(_)
         | Value::Date(_)
         | Value::Bytes(_)
-        | Value::Object(_) => Err(SelectorFault::BadOperand),
+        | Value::Object(_)
+        | Value::User { .. } => Err(SelectorFault::BadOperand),
     }
 }
 
@@ -121,7 +134,7 @@ fn literal(alloc: Global, value: &Value) -> Result<Operators, SelectorFault>
 {
     let mut operators = Vec::new(alloc);
     let operand = copy(value)?;
-    operators.push(Operator::Equal(operand))?;
+    operators.push(Operator::Plain(Plain::Equal(operand)))?;
     Ok(Operators { operators })
 }
 
@@ -147,7 +160,8 @@ fn read_selector(alloc: Global, value: &Value) -> Result<Selector, SelectorFault
         | Value::Text(_)
         | Value::Date(_)
         | Value::Bytes(_)
-        | Value::List(_) => Err(SelectorFault::NotObject),
+        | Value::List(_)
+        | Value::User { .. } => Err(SelectorFault::NotObject),
     }
 }
 
@@ -207,7 +221,8 @@ fn read_selectors(alloc: Global, value: &Value) -> Result<Selectors, SelectorFau
         | Value::Text(_)
         | Value::Date(_)
         | Value::Bytes(_)
-        | Value::Object(_) => Err(SelectorFault::BadOperand),
+        | Value::Object(_)
+        | Value::User { .. } => Err(SelectorFault::BadOperand),
     }
 }
 
@@ -244,7 +259,8 @@ fn read_path_value(alloc: Global, value: &Value) -> Result<Operators, SelectorFa
         | Value::Text(_)
         | Value::Date(_)
         | Value::Bytes(_)
-        | Value::List(_) => literal(alloc, value),
+        | Value::List(_)
+        | Value::User { .. } => literal(alloc, value),
     }
 }
 
@@ -268,19 +284,27 @@ fn read_operator(alloc: Global, name: &Text, value: &Value) -> Result<Operator, 
         return Err(SelectorFault::UnknownOperator);
     };
     match name {
-        OperatorName::Equal => Ok(Operator::Equal(copy(value)?)),
-        OperatorName::NotEqual => Ok(Operator::NotEqual(copy(value)?)),
-        OperatorName::Among => Ok(Operator::Among(list_operand(value)?)),
-        OperatorName::NotAmong => Ok(Operator::NotAmong(list_operand(value)?)),
-        OperatorName::Greater => Ok(Operator::Greater(compared_operand(value)?)),
-        OperatorName::AtLeast => Ok(Operator::AtLeast(compared_operand(value)?)),
-        OperatorName::Less => Ok(Operator::Less(compared_operand(value)?)),
-        OperatorName::AtMost => Ok(Operator::AtMost(compared_operand(value)?)),
-        OperatorName::Exists => Ok(Operator::Present(boolean_operand(value)?)),
-        OperatorName::Size => Ok(Operator::Sized(size_operand(value)?)),
-        OperatorName::All => Ok(Operator::HasAll(literals_operand(value)?)),
-        OperatorName::ElementMatch => Ok(Operator::HasElement(read_element_operand(alloc, value)?)),
-        OperatorName::Not => Ok(Operator::Negated(read_set_operand(alloc, value)?)),
+        OperatorName::ElementMatch => read_element_operand(alloc, value).map(Operator::HasElement),
+        OperatorName::Not => read_set_operand(alloc, value).map(Operator::Negated),
+        OperatorName::Plain(name) => read_plain(alloc, name, value).map(Operator::Plain),
+    }
+}
+
+fn read_plain(alloc: Global, name: PlainName, value: &Value) -> Result<Plain, SelectorFault>
+    ensures { Gives plain_view result (plain_made name (view value.now)) }
+{
+    match name {
+        PlainName::Equal => any_operand(value).map(Plain::Equal),
+        PlainName::NotEqual => any_operand(value).map(Plain::NotEqual),
+        PlainName::Among => list_operand(alloc, value).map(Plain::Among),
+        PlainName::NotAmong => list_operand(alloc, value).map(Plain::NotAmong),
+        PlainName::Greater => compared_operand(value).map(Plain::Greater),
+        PlainName::AtLeast => compared_operand(value).map(Plain::AtLeast),
+        PlainName::Less => compared_operand(value).map(Plain::Less),
+        PlainName::AtMost => compared_operand(value).map(Plain::AtMost),
+        PlainName::Exists => boolean_operand(value).map(Plain::Present),
+        PlainName::Size => size_operand(value).map(Plain::Sized),
+        PlainName::All => literals_operand(alloc, value).map(Plain::HasAll),
     }
 }
 
@@ -308,7 +332,8 @@ fn read_element_operand(alloc: Global, value: &Value) -> Result<Test, SelectorFa
         | Value::Text(_)
         | Value::Date(_)
         | Value::Bytes(_)
-        | Value::List(_) => Err(SelectorFault::BadOperand),
+        | Value::List(_)
+        | Value::User { .. } => Err(SelectorFault::BadOperand),
     }
 }
 
@@ -330,7 +355,8 @@ fn read_set_operand(alloc: Global, value: &Value) -> Result<Operators, SelectorF
         | Value::Text(_)
         | Value::Date(_)
         | Value::Bytes(_)
-        | Value::List(_) => Err(SelectorFault::BadOperand),
+        | Value::List(_)
+        | Value::User { .. } => Err(SelectorFault::BadOperand),
     }
 }
 
@@ -357,7 +383,8 @@ impl Test {
             | Value::Text(_)
             | Value::Date(_)
             | Value::Bytes(_)
-            | Value::List(_) => Err(SelectorFault::NotObject),
+            | Value::List(_)
+            | Value::User { .. } => Err(SelectorFault::NotObject),
         }
     }
 }

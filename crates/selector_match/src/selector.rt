@@ -1,16 +1,17 @@
 //! Selectors in memory.
-use ejson_value::{Items, Path, Value};
+use crate::operands::Operands;
+use ejson_value::{Path, Value};
 use std::marker::Model;
 
 /// A selector: conditions on a document, all of which must hold.
-#[derive(Debug, Drop)]
+#[derive(Drop)]
 #[cycle(selector)]
 pub struct Selector {
     pub(crate) conditions: Vec<Condition>,
 }
 
 // One condition: `$and`, `$or` and `$nor` of selectors, or operators at a path.
-#[derive(Debug, Drop)]
+#[derive(Drop)]
 #[cycle(selector)]
 pub(crate) enum Condition {
     All(Selectors),
@@ -19,47 +20,53 @@ pub(crate) enum Condition {
     AtPath(Path, Operators),
 }
 
-#[derive(Debug, Drop)]
+#[derive(Drop)]
 #[cycle(selector)]
 pub(crate) struct Selectors {
     pub(crate) selectors: Vec<Selector>,
 }
 
 // A set of operators, all of which must hold.
-#[derive(Debug, Drop)]
+#[derive(Drop)]
 #[cycle(selector)]
 pub(crate) struct Operators {
     pub(crate) operators: Vec<Operator>,
 }
 
-// One operator with its operand, in the order of `Predicate` in specs/.
-#[derive(Debug, Drop)]
+// One operator with its operand.
+#[derive(Drop)]
 #[cycle(selector)]
 pub(crate) enum Operator {
+    Plain(Plain),
+    HasElement(Test),
+    Negated(Operators),
+}
+
+// An operator whose operand holds no operators.
+#[derive(Drop)]
+pub(crate) enum Plain {
     Equal(Value),
     NotEqual(Value),
-    Among(Items),
-    NotAmong(Items),
+    Among(Operands),
+    NotAmong(Operands),
     Greater(Value),
     AtLeast(Value),
     Less(Value),
     AtMost(Value),
     Present(bool),
     Sized(u64),
-    HasAll(Items),
-    HasElement(Test),
-    Negated(Operators),
+    HasAll(Operands),
 }
 
 /// The test of one element of a list, as in `$elemMatch` and `$pull`.
-#[derive(Debug, Drop)]
+#[derive(Drop)]
 #[cycle(selector)]
 pub struct Test {
     pub(crate) kind: TestKind,
 }
 
 // A set of operators, or a selector for elements that are objects.
-#[derive(Debug, Drop)]
+#[derive(Drop)]
 #[cycle(selector)]
 pub(crate) enum TestKind {
     Operators(Operators),

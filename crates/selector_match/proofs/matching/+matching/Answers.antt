@@ -1,6 +1,5 @@
 use Rattle.std.proofs.Common.{ap, sym, ◌∙◌, rules, option_map}
 use Rattle.std.specs.List.{list_any, list_all}
-use Rattle.std.proofs.lemmas.List.Folds.{list_all-map}
 use Rattle.value_model.specs.Val.{vals_of}
 use Rattle.value_model.specs.Branches.{Branch}
 use Rattle.ejson_value.specs.View.{view}
@@ -9,19 +8,11 @@ use Rattle.selector_match.specs.declared.selector.Condition.{Condition}
 use Rattle.selector_match.specs.declared.selector.Operator.{Operator}
 use Rattle.selector_match.specs.Query.{Query}
 use Rattle.selector_match.specs.View.{clause_view, predicate_view}
-use Rattle.selector_match.specs.Holds.{branch_candidates, has_equal, query_holds, clause_holds, all_hold, some_holds, predicates_hold, predicate_holds, fits}
-use Rattle.selector_match.specs.Asked.{reached_view, asked, relates, subject_branches, fields_seen}
-use Rattle.ejson_value.proofs.Branching.{list_any-flat_map}
+use Rattle.selector_match.specs.Holds.{elements, query_holds, clause_holds, all_hold, some_holds, predicates_hold, predicate_holds, fits}
+use Rattle.selector_match.specs.Reached.{reached_view}
+use Rattle.selector_match.specs.Asked.{subject_branches, fields_seen}
 use Rattle.selector_match.proofs.Loops.{elements-list, none_more, some_here, none_at_all, all_more, not_here, all_of_them, list_any-map, all_hold-is, some_holds-is, query_holds-is, predicates_hold-is}
 use Rattle.selector_match.proofs.matching.+matching.Goals as goal
-
-pub some_answer-returns-in-Branches : goal.some_answer-returns-in-Branches
-some_answer-returns-in-Branches t c =
-    c.some_branch.ensures (λ x whole. asked c.args.question x whole) (λ x whole r h. search rules)
-    ∙ ap (λ s. list_any (λ (b : Branch). asked c.args.question b.0 b.1) (subject_branches s)) (sym c.in-Branches.is)
-
-pub some_relates-returns : goal.some_relates-returns
-some_relates-returns t c = c.some_answer.ensures ∙ sym (list_any-flat_map (λ x. relates c.args.relation (view c.args.operand.now) x) branch_candidates (subject_branches c.args.subject))
 
 pub some_element_fits-returns-then-fits : goal.some_element_fits-returns-then-fits
 some_element_fits-returns-then-fits t c =
@@ -37,36 +28,6 @@ pub some_element_fits-returns : goal.some_element_fits-returns
 some_element_fits-returns t c =
     let test = λ (v : Value). fits c.args.test.now (view v) in
     sym (list_any-map _ view c.args.elements.now ∙ none_at_all test c.args.elements.now c.loop-element.element-index c.loop-element-test.false c.loop-element.invariant)
-
-pub equals_some-returns-then-some_relates : goal.equals_some-returns-then-some_relates
-equals_some-returns-then-some_relates t c =
-    let test = λ (v : Value). has_equal (view v) (subject_branches c.args.subject) in
-    sym (list_any-map _ view c.args.operands.now ∙ some_here test c.args.operands.now c.loop-operand.operand-index c.operand-item.result c.loop-operand-test.true c.operand-item.is (sym c.some_relates.ensures ∙ c.if-some_relates.true))
-
-pub equals_some-loop-operand-preserved : goal.equals_some-loop-operand-preserved
-equals_some-loop-operand-preserved t c =
-    let test = λ (v : Value). has_equal (view v) (subject_branches c.args.subject) in
-    none_more test c.args.operands.now c.loop-operand.operand-index c.operand-item.result c.loop-operand-test.true c.operand-item.is c.loop-operand.invariant (sym c.some_relates.ensures ∙ c.if-some_relates.false)
-
-pub equals_some-returns : goal.equals_some-returns
-equals_some-returns t c =
-    let test = λ (v : Value). has_equal (view v) (subject_branches c.args.subject) in
-    sym (list_any-map _ view c.args.operands.now ∙ none_at_all test c.args.operands.now c.loop-operand.operand-index c.loop-operand-test.false c.loop-operand.invariant)
-
-pub equals_each-returns-then-not-some_relates : goal.equals_each-returns-then-not-some_relates
-equals_each-returns-then-not-some_relates t c =
-    let test = λ (v : Value). has_equal (view v) (subject_branches c.args.subject) in
-    sym (list_all-map _ view c.args.operands.now ∙ not_here test c.args.operands.now c.loop-operand.operand-index c.operand-item.result c.loop-operand-test.true c.operand-item.is (sym c.some_relates.ensures ∙ c.if-not-some_relates.true))
-
-pub equals_each-loop-operand-preserved : goal.equals_each-loop-operand-preserved
-equals_each-loop-operand-preserved t c =
-    let test = λ (v : Value). has_equal (view v) (subject_branches c.args.subject) in
-    all_more test c.args.operands.now c.loop-operand.operand-index c.operand-item.result c.loop-operand-test.true c.operand-item.is c.loop-operand.invariant (sym c.some_relates.ensures ∙ c.if-not-some_relates.false)
-
-pub equals_each-returns : goal.equals_each-returns
-equals_each-returns t c =
-    let test = λ (v : Value). has_equal (view v) (subject_branches c.args.subject) in
-    sym (list_all-map _ view c.args.operands.now ∙ all_of_them test c.args.operands.now c.loop-operand.operand-index c.loop-operand-test.false c.loop-operand.invariant)
 
 pub operators_hold-returns-then-not-operator_holds : goal.operators_hold-returns-then-not-operator_holds
 operators_hold-returns-then-not-operator_holds t c =
@@ -128,10 +89,13 @@ selector_holds-returns t c =
     let test = λ (x : Condition). clause_holds (clause_view x) (fields_seen c.args.id c.args.doc.now) in
     sym (sym (ap (λ x. query_holds x (fields_seen c.args.id c.args.doc.now)) c.selector.view_is) ∙ (query_holds-is c.selector.inside.conditions.items _ ∙ ap (λ xs. list_all test xs) (sym c.deref-condition-items.ensures.value)) ∙ all_of_them test c.deref-condition-items.result.now c.loop-condition.condition-index c.loop-condition-test.false c.loop-condition.invariant)
 
-pub answer-returns-in-Some : goal.answer-returns-in-Some
-answer-returns-in-Some t c =
+pub has_fitting-returns-in-Some : goal.has_fitting-returns-in-Some
+has_fitting-returns-in-Some t c =
     let reached = reached_view c.args.reached in
     let is = sym c.reached_list.ensures ∙ ap (λ o. option_map (λ vs. vals_of vs.now) o) c.in-Some.is in
-    c.some_element_fits.ensures
-    ∙ (ap (λ vs. list_any (λ v. fits c.in-HasElement.test.now v) vs) (c.as_slice.ensures ∙ sym (elements-list reached c.in-Some.items.now is))
-    ∙ ap (λ q. asked q reached c.args.whole) (sym c.in-HasElement.is))
+    c.some_element_fits.ensures ∙ ap (λ vs. list_any (λ v. fits c.args.test.now v) vs) (c.as_slice.ensures ∙ sym (elements-list reached c.in-Some.items.now is))
+
+pub some_fitting-returns-in-Branches : goal.some_fitting-returns-in-Branches
+some_fitting-returns-in-Branches t c =
+    c.some_branch.ensures (λ x whole. list_any (λ v. fits c.args.test.now v) (elements x)) (λ x whole r h. search rules)
+    ∙ ap (λ s. list_any (λ (b : Branch). list_any (λ v. fits c.args.test.now v) (elements b.0)) (subject_branches s)) (sym c.in-Branches.is)

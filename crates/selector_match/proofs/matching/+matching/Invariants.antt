@@ -3,33 +3,24 @@ use Rattle.std.specs.List.{list_any, list_all}
 use Rattle.ejson_value.specs.View.{view}
 use Rattle.selector_match.specs.Query.{query_height, clause_height, queries_height, predicates_height, predicate_height, test_height}
 use Rattle.selector_match.specs.View.{clause_view, predicate_view}
-use Rattle.selector_match.specs.Holds.{has_equal, query_holds, clause_holds, predicate_holds, fits}
-use Rattle.selector_match.specs.Asked.{question_height, subject_branches, fields_seen}
+use Rattle.selector_match.specs.Holds.{query_holds, clause_holds, predicate_holds, fits}
+use Rattle.selector_match.specs.Asked.{subject_branches, fields_seen}
 use Rattle.selector_match.proofs.matching.+matching.Given as goal
 
-abbrev pub decreases-answer : goal.decreases-answer
-decreases-answer l = 12 * question_height l.question
+abbrev pub decreases-has_fitting : goal.decreases-has_fitting
+decreases-has_fitting l = 12 * test_height l.test.now + 10
+
+abbrev pub decreases-some_fitting-some_branch : goal.decreases-some_fitting-some_branch
+decreases-some_fitting-some_branch l = 12 * test_height l.test.now + 11
+
+abbrev pub decreases-some_fitting : goal.decreases-some_fitting
+decreases-some_fitting l = 12 * test_height l.test.now + 12
 
 abbrev pub decreases-some_element_fits : goal.decreases-some_element_fits
 decreases-some_element_fits l = 12 * test_height l.test.now + 9
 
 abbrev pub decreases-fits : goal.decreases-fits
 decreases-fits l = 12 * test_height l.test.now + 8
-
-abbrev pub decreases-some_answer-some_branch : goal.decreases-some_answer-some_branch
-decreases-some_answer-some_branch l = 12 * question_height l.question + 1
-
-abbrev pub decreases-some_answer : goal.decreases-some_answer
-decreases-some_answer l = 12 * question_height l.question + 2
-
-abbrev pub decreases-some_relates : goal.decreases-some_relates
-decreases-some_relates l = 3
-
-abbrev pub decreases-equals_some : goal.decreases-equals_some
-decreases-equals_some l = 4
-
-abbrev pub decreases-equals_each : goal.decreases-equals_each
-decreases-equals_each l = 4
 
 abbrev pub decreases-operator_holds : goal.decreases-operator_holds
 decreases-operator_holds l = 12 * predicate_height (predicate_view l.operator.now) + 5
@@ -51,12 +42,6 @@ decreases-selector_holds l = 12 * query_height l.selector.now + 6
 
 abbrev pub invariant-some_element_fits-loop-element : goal.invariant-some_element_fits-loop-element
 invariant-some_element_fits-loop-element l = list_any (λ v. fits l.test (view v)) (take l.element-index l.elements) ≡ false
-
-abbrev pub invariant-equals_some-loop-operand : goal.invariant-equals_some-loop-operand
-invariant-equals_some-loop-operand l = list_any (λ v. has_equal (view v) (subject_branches l.subject)) (take l.operand-index l.operands) ≡ false
-
-abbrev pub invariant-equals_each-loop-operand : goal.invariant-equals_each-loop-operand
-invariant-equals_each-loop-operand l = list_all (λ v. has_equal (view v) (subject_branches l.subject)) (take l.operand-index l.operands) ≡ true
 
 abbrev pub invariant-operators_hold-loop-operator : goal.invariant-operators_hold-loop-operator
 invariant-operators_hold-loop-operator l = list_all (λ p. predicate_holds (predicate_view p) (subject_branches l.subject)) (take l.operator-index l.operator-items) ≡ true

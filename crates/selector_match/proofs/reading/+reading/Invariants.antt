@@ -5,8 +5,8 @@ use Rattle.ejson_value.specs.declared.value.Value.{Value}
 use Rattle.ejson_value.specs.View.{view, views, entries}
 use Rattle.selector_match.specs.Query.{clause, query, predicate}
 use Rattle.selector_match.specs.View.{clause_view, predicate_view}
-use Rattle.selector_match.specs.Reading.{made, clauses_reading, more_queries_reading, predicates_reading}
-use Rattle.selector_match.proofs.Front.{after}
+use Rattle.selector_match.specs.Reading.{clauses_reading, more_queries_reading, predicates_reading}
+use Rattle.ejson_value.specs.Results.{made, after}
 use Rattle.selector_match.proofs.reading.+reading.Given as goal
 
 abbrev pub decreases-read_selector : goal.decreases-read_selector
