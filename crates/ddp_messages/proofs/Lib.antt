@@ -1,3 +1,4 @@
 pub mod Each
 pub mod Trees
 pub mod Texts
+pub mod BuiltTurns

@@ -4,9 +4,10 @@ use Rattle.std.proofs.Common.{ap, ◌∙◌, subst}
 use Rattle.serde_json.specs.Data.{Data}
 use Rattle.serde_json.specs.Find.{as_str}
 use Rattle.value_model.specs.Size.{is_name}
+use Rattle.ejson_codec.specs.WrittenLaws.{name_is}
 use Rattle.ddp_messages.specs.Forms.{id_of, texts_of, value_of, values_of}
 use Rattle.ddp_messages.specs.Fields.{needed, optional, defaulted, name_of, IsNamed}
-use Rattle.ddp_messages.specs.FieldLaws.{name_is, map_some, and_then_some, map₂_some, map₃_some, map₄_some, by_test, map₂_from, map₃_from, map₄_from, id_back, texts_back, value_back, values_back}
+use Rattle.ddp_messages.specs.FieldLaws.{map_some, and_then_some, map₂_some, map₃_some, map₄_some, by_test, map₂_from, map₃_from, map₄_from, id_back, texts_back, value_back, values_back}
 use Rattle.ddp_messages.specs.ClientMessage.{ClientMessage, connect, ping, pong, sub, unsub, method, ClientReads, connect_reading, ping_reading, pong_reading, sub_reading, unsub_reading, method_reading, client_named, client_reading}
 use Rattle.ddp_messages.specs.Written.{client_written}
 use Rattle.ddp_messages.specs.Limits.{ClientKeepsLimits, ClientHasValues}

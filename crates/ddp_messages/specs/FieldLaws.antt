@@ -1,14 +1,13 @@
 -- Answers made of answers, taken apart and put together.
-use Rattle.std.specs.Prelude.{◌≡◌, ℕ, ◌≤◌, List, [], ◌∷◌, length, nat_le, Bool, true, false, Option, Some, None, option_map, option_and_then, if◌then◌else◌, refl}
-use Rattle.std.proofs.Common.{ap, ◌∙◌, arith}
-use Rattle.std.proofs.lemmas.Slice.Eq.{bytes_eq-Decides}
+use Rattle.std.specs.Prelude.{◌≡◌, ℕ, List, [], ◌∷◌, length, Bool, true, false, Option, Some, None, option_map, option_and_then, if◌then◌else◌, refl}
+use Rattle.std.proofs.Common.{ap, ◌∙◌}
+use Rattle.std.proofs.lemmas.Bool.{le-leb}
 use Rattle.serde_json.specs.Data.{string}
 use Rattle.serde_json.specs.Find.{as_str}
 use Rattle.value_model.specs.Val.{Val, Vals, Entries, vals_of, fields_of, entries_of-fields_of}
 use Rattle.value_model.specs.Val as value
 use Rattle.value_model.specs.Valid.{IsValue, AreValues, IsDocument}
 use Rattle.value_model.specs.ValidLaws.{IsValue-object}
-use Rattle.value_model.specs.Size.{is_name}
 use Rattle.ejson_codec.specs.Reading.{max_levels}
 use Rattle.ejson_codec.specs.ReadingLaws.{reads_only}
 use Rattle.ejson_codec.specs.Written.{written, items_written}
@@ -17,9 +16,6 @@ use Rattle.ddp_messages.specs.Forms.{max_id, id_of, with_first, each_of, ok_of, 
 use Rattle.ddp_messages.specs.Fields.{map₂, map₃, map₄}
 use Rattle.ddp_messages.specs.Written.{text_items}
 use Rattle.ddp_messages.specs.Limits.{IsShort, AreShort, IsShallow, AreShallow}
-
-pub name_is : (a b : List ℕ) → is_name a b ≡ true → a ≡ b
-name_is a b h = (bytes_eq-Decides a b).0 h
 
 -- ---- taken apart
 
@@ -65,11 +61,8 @@ map₄_from {A = A} f x y z w a b c d hx hy hz hw = ap (λ (o : Option A). map�
 
 -- ---- what was written reads back
 
-le_true : (m n : ℕ) → m ≤ n → nat_le m n ≡ true
-le_true m n h = grind arith
-
 pub id_back : (id : List ℕ) → IsShort id → id_of (string id) ≡ Some id
-id_back id short = ap (λ (b : Bool). if b then Some id else None) (le_true (length id) max_id short)
+id_back id short = ap (λ (b : Bool). if b then Some id else None) (le-leb (length id) max_id short)
 
 pub texts_back : (ss : List (List ℕ)) → each_of as_str (text_items ss) ≡ Some ss
 texts_back [] = refl

@@ -6,34 +6,7 @@ ghost use Rattle.ddp_messages.specs.ServerMessage.{nosub, finished, refused, ser
 
 use crate::from_client::FromClient;
 use crate::from_server::FromServer;
-use ejson_value::{Fault, Items, Mem, Names, Text, Value, copy};
-
-fn copy_text(text: &Option<Text>) -> Result<Option<Text>, Mem>
-    ensures { IfOk result (λ copied. copied ≡ text.now) }
-{
-    match text {
-        Some(text) => Ok(Some(text.copy()?)),
-        None => Ok(None),
-    }
-}
-
-fn copy_names(names: &Option<Names>) -> Result<Option<Names>, Mem>
-    ensures { IfOk result (λ copied. copied ≡ names.now) }
-{
-    match names {
-        Some(names) => Ok(Some(names.copy()?)),
-        None => Ok(None),
-    }
-}
-
-fn copy_fault(fault: &Option<Fault>) -> Result<Option<Fault>, Mem>
-    ensures { IfOk result (λ copied. copied ≡ fault.now) }
-{
-    match fault {
-        Some(fault) => Ok(Some(fault.copy()?)),
-        None => Ok(None),
-    }
-}
+use ejson_value::{Fault, Items, Mem, Names, Text, Value, copy, copy_option};
 
 fn copy_value(value: &Option<Value>) -> Result<Option<Value>, Mem>
     ensures { IfOk result (λ copied. option_map view copied ≡ option_map view value.now) }
@@ -77,7 +50,7 @@ fn copied_connect(version: &Text, support: &Option<Names>) -> Result<FromClient,
     ensures { IfOk result (λ message. client_view message ≡ connect version.now support.now) }
 {
     let version = version.copy()?;
-    let support = copy_names(support)?;
+    let support = copy_option(support)?;
     Ok(FromClient::Connect { version, support })
 }
 
@@ -85,7 +58,7 @@ fn copied_nosub(id: &Text, error: &Option<Fault>) -> Result<FromServer, Mem>
     ensures { IfOk result (λ message. server_view message ≡ nosub id.now error.now) }
 {
     let id = id.copy()?;
-    let error = copy_fault(error)?;
+    let error = copy_option(error)?;
     Ok(FromServer::Nosub { id, error })
 }
 
@@ -93,7 +66,7 @@ fn copied_result(id: &Text, error: &Option<Fault>, value: &Option<Value>) -> Res
     ensures { IfOk result (λ message. server_view message ≡ finished id.now error.now (option_map view value.now)) }
 {
     let id = id.copy()?;
-    let error = copy_fault(error)?;
+    let error = copy_option(error)?;
     let value = copy_value(value)?;
     Ok(FromServer::Result {
         id,
@@ -117,8 +90,12 @@ impl FromClient {
     {
         match self {
             FromClient::Connect { version, support } => copied_connect(version, support),
-            FromClient::Ping { id } => Ok(FromClient::Ping { id: copy_text(id)? }),
-            FromClient::Pong { id } => Ok(FromClient::Pong { id: copy_text(id)? }),
+            FromClient::Ping { id } => Ok(FromClient::Ping {
+                id: copy_option(id)?,
+            }),
+            FromClient::Pong { id } => Ok(FromClient::Pong {
+                id: copy_option(id)?,
+            }),
             FromClient::Sub { id, name, params } => copied_sub(id, name, params),
             FromClient::Unsub { id } => Ok(FromClient::Unsub { id: id.copy()? }),
             FromClient::Method {
@@ -143,8 +120,12 @@ impl FromServer {
             FromServer::Failed { version } => Ok(FromServer::Failed {
                 version: version.copy()?,
             }),
-            FromServer::Ping { id } => Ok(FromServer::Ping { id: copy_text(id)? }),
-            FromServer::Pong { id } => Ok(FromServer::Pong { id: copy_text(id)? }),
+            FromServer::Ping { id } => Ok(FromServer::Ping {
+                id: copy_option(id)?,
+            }),
+            FromServer::Pong { id } => Ok(FromServer::Pong {
+                id: copy_option(id)?,
+            }),
             FromServer::Nosub { id, error } => copied_nosub(id, error),
             FromServer::Ready { subs } => Ok(FromServer::Ready { subs: subs.copy()? }),
             FromServer::Data(message) => Ok(FromServer::Data(message.copy()?)),

@@ -5,7 +5,7 @@ use Rattle.std.proofs.Math.Dec.{T}
 use Rattle.std.proofs.lemmas.Bool.{leb-true}
 use Rattle.serde_json.specs.Find.{of_integer}
 use Rattle.serde_json.specs.Data.{Members}
-use Rattle.value_model.specs.Val.{Val, null, boolean, int, text, date, bytes, list, object, Vals, no_vals, val, Fields, no_fields, field}
+use Rattle.value_model.specs.Val.{Val, null, boolean, int, text, date, bytes, list, object, user, Vals, no_vals, val, Fields, no_fields, field}
 use Rattle.value_model.specs.Size.{names_of, is_special}
 use Rattle.value_model.specs.Valid.{max_whole, IsWhole, IsValue, AreValues, HaveValues}
 use Rattle.ejson_codec.specs.Written.{written, items_written, members_written, escaped_if}
@@ -33,6 +33,7 @@ mutual
   exact-written (bytes s) h = (tt, tt)
   exact-written (list vs) h = exact_items vs h
   exact-written (object fs) h = exact_escaped (is_special (names_of fs)) (members_written fs) (exact_members fs h.1)
+  exact-written (user name v) h = (tt, (exact-written v h.1, tt))
 
   pub exact_items : (vs : Vals) → AreValues vs → ItemsHaveExactNumbers (items_written vs)
   exact_items no_vals h = tt

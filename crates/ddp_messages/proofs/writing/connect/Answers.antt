@@ -1,5 +1,6 @@
 use Rattle.std.proofs.Common.{codes, ap₂, ◌∙◌}
-use Rattle.ddp_messages.specs.Built.{put_if, connect_built}
+use Rattle.ddp_messages.specs.Built.{put_if}
+use Rattle.ddp_messages.proofs.BuiltTurns.{connect_built}
 use Rattle.ddp_messages.proofs.writing.connect.Goals as goal
 
 pub returns : goal.returns

@@ -1,7 +1,8 @@
 use Rattle.std.proofs.Common.{codes, ap₂, ◌∙◌}
 use Rattle.std.proofs.Common.{option_map}
 use Rattle.ejson_value.specs.View.{view}
-use Rattle.ddp_messages.specs.Built.{put_if, error_built}
+use Rattle.ddp_messages.specs.Built.{put_if}
+use Rattle.ddp_messages.proofs.BuiltTurns.{error_built}
 use Rattle.ddp_messages.proofs.writing.error.Goals as goal
 
 pub returns : goal.returns

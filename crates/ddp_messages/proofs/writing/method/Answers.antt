@@ -3,7 +3,8 @@ use Rattle.std.proofs.Common.{option_map}
 use Rattle.serde_json.specs.Data.{put}
 use Rattle.ejson_value.specs.View.{view}
 use Rattle.serde_json.specs.Data.{string}
-use Rattle.ddp_messages.specs.Built.{put_if, method_built}
+use Rattle.ddp_messages.specs.Built.{put_if}
+use Rattle.ddp_messages.proofs.BuiltTurns.{method_built}
 use Rattle.ddp_messages.proofs.writing.method.Goals as goal
 
 pub returns : goal.returns

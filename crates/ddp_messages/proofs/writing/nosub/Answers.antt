@@ -1,5 +1,6 @@
 use Rattle.std.proofs.Common.{codes, ap₂, ◌∙◌}
-use Rattle.ddp_messages.specs.Built.{put_if, nosub_built}
+use Rattle.ddp_messages.specs.Built.{put_if}
+use Rattle.ddp_messages.proofs.BuiltTurns.{nosub_built}
 use Rattle.ddp_messages.proofs.writing.nosub.Goals as goal
 
 pub returns : goal.returns
