@@ -1,4 +1,4 @@
-use Rattle.std.proofs.Common.{◌++◌, ◌+◌, true, ap, sym, subst, ◌∙◌, arith}
+use Rattle.std.proofs.Common.{◌++◌, true, ap, sym, subst, ◌∙◌, arith}
 use Rattle.world_model.specs.Run.{AreEvents}
 use Rattle.commands.specs.Input.{lines_in}
 use Rattle.commands.specs.Replay.{bad_line, events_of, RunsLine}

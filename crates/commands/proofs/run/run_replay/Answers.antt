@@ -31,8 +31,8 @@ returns-in-None-clause-cause g c =
           (subst (λ (t : List ℕ). Grows before now t) text c.in_default-write_all.ensures.all),
     )
 
-pub returns-in-Some-clause-cause : goal.returns-in-Some-clause-cause
-returns-in-Some-clause-cause g c =
+pub returns-clause-cause : goal.returns-clause-cause
+returns-clause-cause g c =
     let before = g.O.Sink.written c.args.output.now in
     let now = g.O.Sink.written c.write_all.new.output in
     let text = c.as_slice-2.ensures.value ∙ (c.in-Ok-replay.ensures.text ∙ ap replay_text c.as_slice.ensures.value) in (
