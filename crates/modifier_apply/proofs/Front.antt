@@ -3,9 +3,10 @@ use Rattle.std.proofs.Common.{◌≡◌, List, [], ◌∷◌, ◌++◌, Ok, Err,
 use Rattle.std.proofs.lemmas.List.{append_assoc}
 use Rattle.value_model.specs.Val.{Entries, fields_of, entries_of, entries_of-fields_of}
 use Rattle.selector_match.specs.Reading.{has_operator, has_plain_name}
+use Rattle.ejson_value.specs.Results.{made, with_both}
 use Rattle.modifier_apply.specs.declared.fault.ModifierFault.TheVariants.{BadOperand}
 use Rattle.modifier_apply.specs.Change.{replaced_by, changed_by}
-use Rattle.modifier_apply.specs.Reading.{Reading, made, with_both, changes_reading, fields_reading}
+use Rattle.modifier_apply.specs.Reading.{Reading, changes_reading, fields_reading}
 
 module _ {X : Type 0} where
   pub made_none : (r : Reading (List X)) → r ≡ made (λ xs. [] ++ xs) r

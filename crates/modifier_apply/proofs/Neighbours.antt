@@ -14,25 +14,17 @@ use Rattle.std.proofs.lemmas.Map.Lookups.{exact_bytes}
 use Rattle.std.proofs.lemmas.Map.Text.{is_eq-slice_cmp}
 use Rattle.value_model.specs.Order.{text_cmp}
 use Rattle.value_model.specs.OrderLaws.{then_ties}
+use Rattle.value_model.specs.TruthLaws.{both_true, equal_of}
 use Rattle.modifier_apply.specs.declared.modifier.Update.{Update}
 use Rattle.modifier_apply.specs.View.{changes_view}
 use Rattle.modifier_apply.specs.Modified.{is_prefix, meets, conflicts, paths_of}
 use Rattle.modifier_apply.specs.Neighbours.{parts_cmp, begins_next}
 
-eq_of : (o : Ordering) → is_eq o ≡ true → o ≡ Equal
-eq_of Less h = cc
-eq_of Equal h = refl
-eq_of Greater h = cc
-
-both : (a b : Bool) → a && b ≡ true → (a ≡ true) × (b ≡ true)
-both true b h = (refl, h)
-both false b h = cc
-
 part_itself : (a : List ℕ) → text_cmp a a ≡ Equal
 part_itself a = tied_itself nat_list_cmp_total a
 
 same_part : (a b : List ℕ) → bytes_eq a b ≡ true → a ≡ b
-same_part a b h = exact_bytes a b (eq_of (text_cmp a b) (is_eq-slice_cmp a b ∙ h))
+same_part a b h = exact_bytes a b (equal_of (text_cmp a b) (is_eq-slice_cmp a b ∙ h))
 
 equal_part : (a : List ℕ) → bytes_eq a a ≡ true
 equal_part a = sym (is_eq-slice_cmp a a) ∙ ap is_eq (part_itself a)
@@ -55,7 +47,7 @@ not_behind [] [] e h = e
 not_behind [] (b ∷ bs) e h = cc
 not_behind (a ∷ av) [] e h = cc
 not_behind (a ∷ av) (b ∷ bs) e h =
-    let parts = both (bytes_eq b a) (is_prefix bs av) h in
+    let parts = both_true (bytes_eq b a) (is_prefix bs av) h in
     not_behind av bs (sym (ap (λ c. ordering_then (text_cmp a c) (parts_cmp av bs)) (same_part b a parts.0) ∙ ap (λ o. ordering_then o (parts_cmp av bs)) (part_itself a)) ∙ e) parts.1
 
 pub begins_none_before : (x y : List (List ℕ)) → parts_cmp x y ≡ Less → is_prefix y x ≡ false
@@ -76,7 +68,7 @@ begins_between [] y z e f h = refl
 begins_between (a ∷ av) [] z e f h = cc
 begins_between (a ∷ av) (b ∷ bs) [] e f h = cc
 begins_between (a ∷ av) (b ∷ bs) (c ∷ cs) e f h =
-    let parts = both (bytes_eq a c) (is_prefix av cs) h in
+    let parts = both_true (bytes_eq a c) (is_prefix av cs) h in
     let tie : text_cmp a b ≡ Equal = tied (text_cmp a b) (parts_cmp av bs) (parts_cmp bs cs) e (sym (ap (λ w. ordering_then (text_cmp b w) (parts_cmp bs cs)) (sym (same_part a c parts.0)) ∙ ap (λ o. ordering_then o (parts_cmp bs cs)) (nat_list_cmp_total.antisymm b a)) ∙ f) in
     let ab : a ≡ b = exact_bytes a b tie in
     let first : parts_cmp av bs ≡ Less = sym (ap (λ o. ordering_then o (parts_cmp av bs)) tie) ∙ e in

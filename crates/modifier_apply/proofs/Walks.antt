@@ -3,10 +3,8 @@ use Rattle.std.proofs.Common.{◌≡◌, ℕ, ◌<◌, ◌≤◌, Bool, true, fa
 use Rattle.std.proofs.lemmas.Bool.{lt-ltb}
 use Rattle.std.proofs.lemmas.Bool.Decides.{nat_tests}
 use Rattle.std.proofs.lemmas.List.{set-set}
-use Rattle.std.proofs.lemmas.Map.Lookups.{exact_bytes}
-use Rattle.std.proofs.lemmas.Cmp.{nat_list_cmp_total}
 use Rattle.std.specs.Ordering.{eq_by_cmp}
-use Rattle.map_model.specs.Maps.{IsKeyOrder, at}
+use Rattle.map_model.specs.Maps.{at}
 use Rattle.map_model.specs.MapLaws.{same_maps, at-put, at-remove, sorted-put, sorted-remove}
 use Rattle.value_model.specs.Val.{Val, Entries, null, object, list, fields_of, vals_of, entries_of-fields_of, list_of-vals_of}
 use Rattle.value_model.specs.Branches.{position_of}
@@ -15,14 +13,13 @@ use Rattle.value_model.specs.Order.{text_cmp}
 use Rattle.value_model.specs.Doc.{put, remove}
 use Rattle.ejson_value.specs.declared.value.Value.{Value}
 use Rattle.ejson_value.specs.declared.value.Value.TheVariants as shape
+use Rattle.ejson_value.specs.Key.{name_order}
+use Rattle.ejson_value.specs.Results.{made}
 use Rattle.ejson_value.specs.View.{view}
 use Rattle.modifier_apply.specs.Change.{Edit}
-use Rattle.modifier_apply.specs.Modified.{Outcome, Gives, then_made, with_element, put_behind, field_changed, element_changed, changed_at}
+use Rattle.modifier_apply.specs.Modified.{Outcome, Gives, with_element, put_behind, field_changed, element_changed, changed_at}
 use Rattle.modifier_apply.specs.declared.fault.ApplyFault.{ApplyFault}
 use Rattle.modifier_apply.specs.declared.fault.ApplyFault.TheVariants as fault
-
-name_order : IsKeyOrder text_cmp
-name_order = record { total = nat_list_cmp_total; exact = exact_bytes }
 
 put_over : {X : Type 0} (b : Bool) (v : X) (x : Option X) → cond b (Some v) (cond b None x) ≡ cond b (Some v) x
 put_over true v x = refl
@@ -49,19 +46,19 @@ view_or (Some v) = refl
 
 -- an element that was taken out of a list and is put back
 pub element_put : (vs : List Val) (place : ℕ) (change : Outcome (Option Val)) (left : Option Val) → place < length vs → change ≡ Ok left →
-    then_made (λ l. with_element vs place l) change ≡ Ok (slice_set (slice_set vs place null) place (unwrap_or left null))
+    made (λ l. with_element vs place l) change ≡ Ok (slice_set (slice_set vs place null) place (unwrap_or left null))
 element_put vs place change left within is =
     let inside : nat_lt place (length vs) ≡ true = lt-ltb place (length vs) within in
-    ap (λ o. then_made (λ l. with_element vs place l) o) is
+    ap (λ o. made (λ l. with_element vs place l) o) is
     ∙ (ap (λ b. Ok (cond b (slice_set vs place (unwrap_or left null)) (put_behind vs place left))) inside
     ∙ ap (λ ws. Ok ws) (sym (set-set vs place null (unwrap_or left null))))
 
 -- an element put behind the others
 pub element_behind : (vs : List Val) (place : ℕ) (change : Outcome (Option Val)) (left : Option Val) → length vs ≤ place → change ≡ Ok left →
-    then_made (λ l. with_element vs place l) change ≡ Ok (put_behind vs place left)
+    made (λ l. with_element vs place l) change ≡ Ok (put_behind vs place left)
 element_behind vs place change left past is =
     let outside : nat_lt place (length vs) ≡ false = search (rules, nat_tests) in
-    ap (λ o. then_made (λ l. with_element vs place l) o) is
+    ap (λ o. made (λ l. with_element vs place l) o) is
     ∙ ap (λ b. Ok (cond b (slice_set vs place (unwrap_or left null)) (put_behind vs place left))) outside
 
 -- a fault that is passed on
@@ -75,14 +72,14 @@ passed_on f g fault.Conflict from to is on = on fault.Conflict is
 passed_on f g fault.Memory from to is on = tt
 
 module _ (e : Edit) (part : List ℕ) (rest : List (List ℕ)) where
-  pub object_changed : (v : Value) (fields : Entries) (made : Outcome Entries) → v ≡ shape.Object fields → field_changed (λ there. changed_at e rest there) fields part ≡ made →
-      changed_at e (part ∷ rest) (Some (view v)) ≡ then_made (λ es. Some (object (fields_of es))) made
-  object_changed v fields made is changed =
+  pub object_changed : (v : Value) (fields : Entries) (outcome : Outcome Entries) → v ≡ shape.Object fields → field_changed (λ there. changed_at e rest there) fields part ≡ outcome →
+      changed_at e (part ∷ rest) (Some (view v)) ≡ made (λ es. Some (object (fields_of es))) outcome
+  object_changed v fields outcome is changed =
       ap (λ w. changed_at e (part ∷ rest) (Some (view w))) is
-      ∙ ap (λ o. then_made (λ es. Some (object (fields_of es))) o) (ap (λ es. field_changed (λ there. changed_at e rest there) es part) (entries_of-fields_of fields) ∙ changed)
+      ∙ ap (λ o. made (λ es. Some (object (fields_of es))) o) (ap (λ es. field_changed (λ there. changed_at e rest there) es part) (entries_of-fields_of fields) ∙ changed)
 
-  pub list_changed : (v : Value) (vs : List Val) (made : Outcome (List Val)) → v ≡ shape.List vs → element_changed e (λ there. changed_at e rest there) vs (position_of part) ≡ made →
-      changed_at e (part ∷ rest) (Some (view v)) ≡ then_made (λ ws. Some (list (vals_of ws))) made
-  list_changed v vs made is changed =
+  pub list_changed : (v : Value) (vs : List Val) (outcome : Outcome (List Val)) → v ≡ shape.List vs → element_changed e (λ there. changed_at e rest there) vs (position_of part) ≡ outcome →
+      changed_at e (part ∷ rest) (Some (view v)) ≡ made (λ ws. Some (list (vals_of ws))) outcome
+  list_changed v vs outcome is changed =
       ap (λ w. changed_at e (part ∷ rest) (Some (view w))) is
-      ∙ ap (λ o. then_made (λ ws. Some (list (vals_of ws))) o) (ap (λ ws. element_changed e (λ there. changed_at e rest there) ws (position_of part)) (list_of-vals_of vs) ∙ changed)
+      ∙ ap (λ o. made (λ ws. Some (list (vals_of ws))) o) (ap (λ ws. element_changed e (λ there. changed_at e rest there) ws (position_of part)) (list_of-vals_of vs) ∙ changed)

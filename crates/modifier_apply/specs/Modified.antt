@@ -7,6 +7,7 @@ use Rattle.value_model.specs.Order.{compare}
 use Rattle.value_model.specs.Valid.{max_whole}
 use Rattle.value_model.specs.Doc.{get, put, remove}
 use Rattle.value_model.specs.Branches.{position_of}
+use Rattle.ejson_value.specs.Results.{made}
 use Rattle.selector_match.specs.Holds.{fits}
 use Rattle.modifier_apply.specs.declared.fault.ApplyFault.{ApplyFault}
 use Rattle.modifier_apply.specs.declared.fault.ApplyFault.TheVariants as fault
@@ -25,10 +26,6 @@ refusal_number fault.IdChange = Some 4
 refusal_number fault.NumberRange = Some 5
 refusal_number fault.Conflict = Some 6
 refusal_number fault.Memory = None
-
-abbrev pub then_made : {A B : Type 0} → (A → B) → Outcome A → Outcome B
-then_made f (Ok a) = Ok (f a)
-then_made f (Err e) = Err e
 
 abbrev pub same : Val → Val → Bool
 same a b = is_eq (compare a b)
@@ -75,7 +72,7 @@ edited take_out w = Ok None
 edited (add n) w = to_number n w
 edited (keep_least v) w = Ok (Some (if is_lt (compare v w) then v else w))
 edited (keep_greatest v) w = Ok (Some (if is_gt (compare v w) then v else w))
-edited e w = then_made (λ ws. Some (list (vals_of (list_edited e ws)))) (elements w)
+edited e w = made (λ ws. Some (list (vals_of (list_edited e ws)))) (elements w)
 
 -- What an edit makes where nothing is: `$unset`, `$pull` and `$pop` make nothing.
 abbrev pub made_anew : Edit → Option Val
@@ -104,7 +101,7 @@ with_field fields name None = remove fields name
 with_field fields name (Some v) = put fields name v
 
 abbrev pub field_changed : (Option Val → Outcome (Option Val)) → Entries → List ℕ → Outcome Entries
-field_changed change fields name = then_made (λ left. with_field fields name left) (change (get fields name))
+field_changed change fields name = made (λ left. with_field fields name left) (change (get fields name))
 
 -- the last position that a modifier reaches in a list
 abbrev pub max_place : ℕ
@@ -121,16 +118,16 @@ with_element vs place left = if nat_lt place (length vs) then slice_set vs place
 
 abbrev pub element_changed : Edit → (Option Val → Outcome (Option Val)) → List Val → Option ℕ → Outcome (List Val)
 element_changed e change vs None = blocked e vs
-element_changed e change vs (Some place) = if nat_le place max_place then then_made (λ left. with_element vs place left) (change (slice_get vs place)) else blocked e vs
+element_changed e change vs (Some place) = if nat_le place max_place then made (λ left. with_element vs place left) (change (slice_get vs place)) else blocked e vs
 
 -- What is left of what is there, with the edit made at the end of the path. On the way a missing value becomes an empty object where the edit makes something.
 abbrev pub changed_at : Edit → List (List ℕ) → Option Val → Outcome (Option Val)
 changed_at e [] there = edited_if_there e there
 changed_at e (part ∷ rest) None =
-    if makes e then then_made (λ fields. Some (object (fields_of fields))) (field_changed (λ there. changed_at e rest there) [] part) else Ok None
-changed_at e (part ∷ rest) (Some (object fs)) = then_made (λ fields. Some (object (fields_of fields))) (field_changed (λ there. changed_at e rest there) (entries_of fs) part)
-changed_at e (part ∷ rest) (Some (list vs)) = then_made (λ ws. Some (list (vals_of ws))) (element_changed e (λ there. changed_at e rest there) (list_of vs) (position_of part))
-changed_at e (part ∷ rest) (Some v) = then_made Some (blocked e v)
+    if makes e then made (λ fields. Some (object (fields_of fields))) (field_changed (λ there. changed_at e rest there) [] part) else Ok None
+changed_at e (part ∷ rest) (Some (object fs)) = made (λ fields. Some (object (fields_of fields))) (field_changed (λ there. changed_at e rest there) (entries_of fs) part)
+changed_at e (part ∷ rest) (Some (list vs)) = made (λ ws. Some (list (vals_of ws))) (element_changed e (λ there. changed_at e rest there) (list_of vs) (position_of part))
+changed_at e (part ∷ rest) (Some v) = made Some (blocked e v)
 
 abbrev pub document_changed : Edit → List (List ℕ) → Entries → Outcome Entries
 document_changed e [] doc = Ok doc
@@ -162,7 +159,7 @@ changes_id c = begins_with_id c.path
 
 -- one change after another, up to the first refusal
 abbrev pub all_made : List Change → Outcome Entries → Outcome Entries
-all_made [] made = made
+all_made [] outcome = outcome
 all_made (c ∷ cs) (Err e) = Err e
 all_made (c ∷ cs) (Ok doc) = all_made cs (document_changed c.edit c.path doc)
 
@@ -181,6 +178,6 @@ modified (changed_by cs) id doc = updated cs doc
 
 -- The call answers as the definition says, or want of memory.
 abbrev pub Gives : {T X : Type 0} → (T → X) → Result T ApplyFault → Outcome X → Type 0
-Gives f (Ok t) made = made ≡ Ok (f t)
-Gives f (Err fault.Memory) made = Unit {0}
-Gives f (Err e) made = made ≡ Err e
+Gives f (Ok t) outcome = outcome ≡ Ok (f t)
+Gives f (Err fault.Memory) outcome = Unit {0}
+Gives f (Err e) outcome = outcome ≡ Err e

@@ -3,6 +3,7 @@ use Rattle.std.specs.Prelude.{◌≡◌, ℕ, zero, suc, pos, negsuc, not, codes
 use Rattle.std.specs.List.{list_any}
 use Rattle.value_model.specs.Val.{Val, int, list, object, Fields, no_fields, field, list_of, entries_of}
 use Rattle.value_model.specs.Branches.{path_of}
+use Rattle.ejson_value.specs.Results.{made, with_both}
 use Rattle.selector_match.specs.Reading.{begins_with_dollar, has_operator, has_plain_name, test_reading}
 use Rattle.selector_match.specs.declared.fault.SelectorFault.{SelectorFault}
 use Rattle.selector_match.specs.declared.fault.SelectorFault.TheVariants as selector
@@ -14,16 +15,6 @@ use Rattle.modifier_apply.specs.Change.{Edit, put_value, take_out, add, keep_lea
 
 abbrev pub Reading : Type 0 → Type 0
 Reading X = Result X ModifierFault
-
-abbrev pub made : {A B : Type 0} → (A → B) → Reading A → Reading B
-made f (Ok a) = Ok (f a)
-made f (Err e) = Err e
-
--- what is made of two parts, where both can be read
-abbrev pub with_both : {A B C : Type 0} → (A → B → C) → Reading A → Reading B → Reading C
-with_both f (Err e) b = Err e
-with_both f (Ok a) (Err e) = Err e
-with_both f (Ok a) (Ok b) = Ok (f a b)
 
 abbrev pub operator_named : List ℕ → Option OperatorName
 operator_named n =

@@ -4,9 +4,10 @@ ghost use Rattle.std.specs.List.{list_any};
 ghost use Rattle.value_model.specs.Val.{object, list, text, null, fields_of, vals_of};
 ghost use Rattle.value_model.specs.Doc.{get};
 ghost use Rattle.value_model.specs.Branches.{position_of};
+ghost use Rattle.ejson_value.specs.Results.{made};
 ghost use Rattle.ejson_value.specs.View.{view};
 ghost use Rattle.modifier_apply.specs.View.{edit_view, change_view, changes_view};
-ghost use Rattle.modifier_apply.specs.Modified.{Gives, same, then_made, blocked, with_field, put_behind, with_element, field_changed, element_changed, changed_at, document_changed, begins_with_id, changes_id, all_made, updated, replacement, modified};
+ghost use Rattle.modifier_apply.specs.Modified.{Gives, same, blocked, with_field, put_behind, with_element, field_changed, element_changed, changed_at, document_changed, begins_with_id, changes_id, all_made, updated, replacement, modified};
 
 use crate::conflicts::have_conflict;
 use crate::edits::{edited_if_there, makes};
@@ -163,7 +164,7 @@ fn changed_at_place(
     rest: &[Part],
     mut items: Items,
 ) -> Result<Items, ApplyFault>
-    ensures { Gives (λ vs. vs) result (then_made (λ left. with_element items place left) (changed_at (edit_view operator.now) rest.now (slice_get items place))) }
+    ensures { Gives (λ vs. vs) result (made (λ left. with_element items place left) (changed_at (edit_view operator.now) rest.now (slice_get items place))) }
 {
     if place < items.len() {
         let there = items.replace(place, Value::Null);
@@ -177,7 +178,7 @@ fn changed_at_place(
 }
 
 fn document_changed(alloc: Global, update: &Update, doc: Doc) -> Result<Doc, ApplyFault>
-    ensures { Gives (λ made. made) result (document_changed (change_view update.now).edit (change_view update.now).path doc) }
+    ensures { Gives (λ doc. doc) result (document_changed (change_view update.now).edit (change_view update.now).path doc) }
 {
     match update.path.parts().split_first() {
         None => Ok(doc),
@@ -206,7 +207,7 @@ fn some_changes_id(updates: &[Update]) -> bool
 }
 
 fn all_made(alloc: Global, updates: &[Update], doc: &Doc) -> Result<Doc, ApplyFault>
-    ensures { Gives (λ made. made) result (all_made (changes_view updates.now) (Ok doc.now)) }
+    ensures { Gives (λ doc. doc) result (all_made (changes_view updates.now) (Ok doc.now)) }
 {
     let mut made = doc.copy()?;
     for update in updates {
@@ -216,7 +217,7 @@ fn all_made(alloc: Global, updates: &[Update], doc: &Doc) -> Result<Doc, ApplyFa
 }
 
 fn updated(alloc: Global, updates: &[Update], doc: &Doc) -> Result<Doc, ApplyFault>
-    ensures { Gives (λ made. made) result (updated (changes_view updates.now) doc.now) }
+    ensures { Gives (λ doc. doc) result (updated (changes_view updates.now) doc.now) }
 {
     if have_conflict(alloc, updates)? {
         return Err(ApplyFault::Conflict);
@@ -232,18 +233,12 @@ fn is_text(value: &Value, id: &Text) -> bool
 {
     match value {
         Value::Text(text) => text.cmp(id).is_eq(),
-        Value::Null
-        | Value::Bool(_)
-        | Value::Int(_)
-        | Value::Date(_)
-        | Value::Bytes(_)
-        | Value::List(_)
-        | Value::Object(_) => false,
+        _ => false,
     }
 }
 
 fn replaced(alloc: Global, fields: &Doc, id: &Text) -> Result<Doc, ApplyFault>
-    ensures { Gives (λ made. made) result (replacement fields.now id.now (get fields.now (codes "_id"))) }
+    ensures { Gives (λ doc. doc) result (replacement fields.now id.now (get fields.now (codes "_id"))) }
 {
     let name = Text::from_str(alloc, "_id")?;
     match fields.get(&name) {
@@ -261,7 +256,7 @@ fn replaced(alloc: Global, fields: &Doc, id: &Text) -> Result<Doc, ApplyFault>
 
 /// What the modifier makes of the document with this id. The document itself stays as it is.
 pub fn apply(alloc: Global, modifier: &Modifier, id: &Text, doc: &Doc) -> Result<Doc, ApplyFault>
-    ensures { Gives (λ made. made) result (modified modifier.now id.now doc.now) }
+    ensures { Gives (λ doc. doc) result (modified modifier.now id.now doc.now) }
 {
     match &modifier.kind {
         ModifierKind::Replacement(fields) => replaced(alloc, fields, id),

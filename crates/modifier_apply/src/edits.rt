@@ -4,9 +4,10 @@ ghost use Rattle.std.specs.Ordering.{is_lt, is_gt};
 ghost use Rattle.value_model.specs.Val.{vals_of, list, null};
 ghost use Rattle.value_model.specs.Order.{compare};
 ghost use Rattle.selector_match.specs.Holds.{fits};
+ghost use Rattle.ejson_value.specs.Results.{made};
 ghost use Rattle.ejson_value.specs.View.{view, views};
 ghost use Rattle.modifier_apply.specs.View.{edit_view};
-ghost use Rattle.modifier_apply.specs.Modified.{Gives, same, elements, added, to_number, then_made, list_edited, edited, edited_if_there, made_anew, makes};
+ghost use Rattle.modifier_apply.specs.Modified.{Gives, same, elements, added, to_number, list_edited, edited, edited_if_there, made_anew, makes};
 
 use crate::fault::ApplyFault;
 use crate::missing::with_missing;
@@ -29,13 +30,7 @@ fn incremented(amount: Whole, value: &Value) -> Result<Option<Value>, ApplyFault
 {
     match value {
         Value::Int(number) => sum(amount, *number),
-        Value::Null
-        | Value::Bool(_)
-        | Value::Text(_)
-        | Value::Date(_)
-        | Value::Bytes(_)
-        | Value::List(_)
-        | Value::Object(_) => Err(ApplyFault::NotNumber),
+        _ => Err(ApplyFault::NotNumber),
     }
 }
 
@@ -150,7 +145,7 @@ fn edited_in_list(
     operator: &Operator,
     value: Value,
 ) -> Result<Option<Value>, ApplyFault>
-    ensures { Gives (λ o. option_map view o) result (then_made (λ ws. Some (list (vals_of (list_edited (edit_view operator.now) ws)))) (elements (view value))) }
+    ensures { Gives (λ o. option_map view o) result (made (λ ws. Some (list (vals_of (list_edited (edit_view operator.now) ws)))) (elements (view value))) }
 {
     let items = elements(value)?;
     let left = list_edited(alloc, operator, items)?;

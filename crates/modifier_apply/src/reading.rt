@@ -57,13 +57,7 @@ fn read_list(operand: &Value) -> Result<Items, ModifierFault>
 {
     match operand {
         Value::List(items) => Ok(items.copy()?),
-        Value::Null
-        | Value::Bool(_)
-        | Value::Int(_)
-        | Value::Text(_)
-        | Value::Date(_)
-        | Value::Bytes(_)
-        | Value::Object(_) => Err(ModifierFault::BadOperand),
+        _ => Err(ModifierFault::BadOperand),
     }
 }
 
@@ -97,13 +91,7 @@ fn read_values(alloc: Global, operand: &Value) -> Result<Items, ModifierFault>
                 one_value(alloc, operand)
             }
         }
-        Value::Null
-        | Value::Bool(_)
-        | Value::Int(_)
-        | Value::Text(_)
-        | Value::Date(_)
-        | Value::Bytes(_)
-        | Value::List(_) => one_value(alloc, operand),
+        _ => one_value(alloc, operand),
     }
 }
 
@@ -112,13 +100,7 @@ fn read_increment(operand: &Value) -> Result<Operator, ModifierFault>
 {
     match operand {
         Value::Int(amount) => Ok(Operator::Increment(*amount)),
-        Value::Null
-        | Value::Bool(_)
-        | Value::Text(_)
-        | Value::Date(_)
-        | Value::Bytes(_)
-        | Value::List(_)
-        | Value::Object(_) => Err(ModifierFault::BadOperand),
+        _ => Err(ModifierFault::BadOperand),
     }
 }
 
@@ -139,13 +121,7 @@ fn read_pull(alloc: Global, operand: &Value) -> Result<Operator, ModifierFault>
 {
     match operand {
         Value::Object(_) => Ok(Operator::PullPassing(read_test(alloc, operand)?)),
-        Value::Null
-        | Value::Bool(_)
-        | Value::Int(_)
-        | Value::Text(_)
-        | Value::Date(_)
-        | Value::Bytes(_)
-        | Value::List(_) => Ok(Operator::PullEqual(copy(operand)?)),
+        _ => Ok(Operator::PullEqual(copy(operand)?)),
     }
 }
 
@@ -159,13 +135,7 @@ fn read_pop(operand: &Value) -> Result<Operator, ModifierFault>
             -1 => Ok(Operator::PopFirst),
             _ => Err(ModifierFault::BadOperand),
         },
-        Value::Null
-        | Value::Bool(_)
-        | Value::Text(_)
-        | Value::Date(_)
-        | Value::Bytes(_)
-        | Value::List(_)
-        | Value::Object(_) => Err(ModifierFault::BadOperand),
+        _ => Err(ModifierFault::BadOperand),
     }
 }
 
@@ -223,13 +193,7 @@ fn read_operand(
 {
     match operand {
         Value::Object(fields) => read_paths(alloc, name, fields),
-        Value::Null
-        | Value::Bool(_)
-        | Value::Int(_)
-        | Value::Text(_)
-        | Value::Date(_)
-        | Value::Bytes(_)
-        | Value::List(_) => Err(ModifierFault::BadOperand),
+        _ => Err(ModifierFault::BadOperand),
     }
 }
 
@@ -278,13 +242,7 @@ impl Modifier {
     {
         match value {
             Value::Object(fields) => read_fields(alloc, fields),
-            Value::Null
-            | Value::Bool(_)
-            | Value::Int(_)
-            | Value::Text(_)
-            | Value::Date(_)
-            | Value::Bytes(_)
-            | Value::List(_) => Err(ModifierFault::NotObject),
+            _ => Err(ModifierFault::NotObject),
         }
     }
 }

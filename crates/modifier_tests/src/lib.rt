@@ -127,6 +127,23 @@ mod tests {
 {"$pull":{"a":{"$foo":1}}} on {} => fault 2
 {"$inc":{"a":null},"$what":{}} on {} => fault 3"#;
 
+    const USER_VALUES: &str = r#"{"$set":{"a.b":1}} on {"a":{"$type":"T","$value":{"b":2}}} => refused 3
+{"$unset":{"a.b":1}} on {"a":{"$type":"T","$value":{"b":2}}} => {"a":{"$type":"T","$value":{"b":2}}}
+{"$set":{"a.0":1}} on {"a":{"$type":"T","$value":[2]}} => refused 3
+{"$set":{"a":{"$type":"T","$value":1}}} on {} => {"a":{"$type":"T","$value":1}}
+{"$push":{"a":{"$type":"T","$value":1}}} on {"a":[]} => {"a":[{"$type":"T","$value":1}]}
+{"$push":{"a":1}} on {"a":{"$type":"T","$value":[]}} => refused 2
+{"$inc":{"a":1}} on {"a":{"$type":"T","$value":1}} => refused 1
+{"$addToSet":{"a":{"$type":"T","$value":1}}} on {"a":[{"$type":"T","$value":1}]} => {"a":[{"$type":"T","$value":1}]}
+{"$addToSet":{"a":{"$type":"U","$value":1}}} on {"a":[{"$type":"T","$value":1}]} => {"a":[{"$type":"T","$value":1},{"$type":"U","$value":1}]}
+{"$pull":{"a":{"$type":"T","$value":1}}} on {"a":[{"$type":"T","$value":1},1,{"$type":"T","$value":2}]} => {"a":[1,{"$type":"T","$value":2}]}
+{"$max":{"a":{"$type":"T","$value":1}}} on {"a":{"$date":5}} => {"a":{"$type":"T","$value":1}}
+{"$min":{"a":{"$type":"T","$value":9}}} on {"a":{"$type":"U","$value":1}} => {"a":{"$type":"T","$value":9}}
+{"$min":{"a":{"$type":"T","$value":9}}} on {"a":{"$type":"T","$value":1}} => {"a":{"$type":"T","$value":1}}
+{"$inc":{"a":{"$type":"T","$value":1}}} on {} => fault 3
+{"$set":{"$type":"T","$value":{"a":1}}} on {} => fault 3
+{"$type":"T","$value":{}} on {} => fault 1"#;
+
     fn value(alloc: Global, text: &str) -> Result<Value, Fail> {
         Ok(parse(alloc, &Text::from_str(alloc, text)?)?)
     }
@@ -204,6 +221,7 @@ mod tests {
             REPLACEMENTS,
             NO_MODIFIERS,
             BAD_PATHS_AND_OPERANDS,
+            USER_VALUES,
         ] {
             for row in table.lines() {
                 assert!(rt; is_right(rt.alloc(), row)?, "at {row}");

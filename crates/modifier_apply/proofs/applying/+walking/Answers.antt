@@ -6,8 +6,9 @@ use Rattle.value_model.specs.Branches.{position_of}
 use Rattle.value_model.specs.Doc.{get, remove}
 use Rattle.ejson_value.specs.declared.value.Value.{Value}
 use Rattle.ejson_value.specs.View.{view}
+use Rattle.ejson_value.specs.Results.{made}
 use Rattle.modifier_apply.specs.View.{edit_view}
-use Rattle.modifier_apply.specs.Modified.{then_made, with_field, field_changed, element_changed, changed_at}
+use Rattle.modifier_apply.specs.Modified.{with_field, field_changed, element_changed, changed_at}
 use Rattle.modifier_apply.proofs.Walks.{put_back, view_or, element_put, element_behind, passed_on, object_changed, list_changed}
 use Rattle.modifier_apply.proofs.applying.+walking.Goals as goal
 use Rattle.modifier_apply.proofs.applying.+walking.Goals.{field_changed-in-None, field_changed-in-Some+in_ok-copy-in-Some+in_ok-put-in-Some}
@@ -66,7 +67,7 @@ field_changed-returns t c =
     let fields = c.args.fields in
     let part = c.args.part.now in
     let changed = ap (λ o. changed_at e rest o) (ap (λ n. get fields n) (sym c.name.ensures) ∙ sym c.remove-there.ensures.value) ∙ c.in_ok-left.ensures in
-    ap (λ o. then_made (λ left. with_field fields part left) o) changed
+    ap (λ o. made (λ left. with_field fields part left) o) changed
     ∙ elim c.match-left.branch [
       | field_changed-in-None w ↦
           ap (λ (l : Option Value). Ok (with_field fields part (option_map view l))) w.in-None.is

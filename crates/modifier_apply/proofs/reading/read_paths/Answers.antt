@@ -1,9 +1,10 @@
 use Rattle.std.proofs.Common.{◌∷◌, [], ◌++◌, Ok, ap, sym, ◌∙◌}
 use Rattle.std.proofs.lemmas.List.{map-append, append-nil}
 use Rattle.value_model.specs.Val.{fields_of}
+use Rattle.ejson_value.specs.Results.{made}
 use Rattle.ejson_value.specs.View.{view, entries}
 use Rattle.modifier_apply.specs.View.{change_view, changes_view}
-use Rattle.modifier_apply.specs.Reading.{made, change_reading, paths_reading}
+use Rattle.modifier_apply.specs.Reading.{change_reading, paths_reading}
 use Rattle.modifier_apply.proofs.Front.{one_more}
 use Rattle.modifier_apply.proofs.reading.read_paths.Goals as goal
 

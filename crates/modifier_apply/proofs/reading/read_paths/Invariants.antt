@@ -1,8 +1,9 @@
 use Rattle.std.proofs.Common.{◌≡◌, ◌++◌}
 use Rattle.value_model.specs.Val.{fields_of}
+use Rattle.ejson_value.specs.Results.{made}
 use Rattle.ejson_value.specs.View.{entries}
 use Rattle.modifier_apply.specs.View.{changes_view}
-use Rattle.modifier_apply.specs.Reading.{made, paths_reading}
+use Rattle.modifier_apply.specs.Reading.{paths_reading}
 use Rattle.modifier_apply.proofs.reading.read_paths.Given as goal
 
 abbrev pub invariant-loop-written : goal.invariant-loop-written

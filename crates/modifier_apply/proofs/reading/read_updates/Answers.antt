@@ -1,9 +1,10 @@
 use Rattle.std.proofs.Common.{◌++◌, Ok, ap, sym, ◌∙◌}
 use Rattle.std.proofs.lemmas.List.{map-append, append-nil}
 use Rattle.value_model.specs.Val.{fields_of}
+use Rattle.ejson_value.specs.Results.{made}
 use Rattle.ejson_value.specs.View.{view, entries}
 use Rattle.modifier_apply.specs.View.{change_view, changes_view}
-use Rattle.modifier_apply.specs.Reading.{made, operator_named, operator_reading, changes_reading}
+use Rattle.modifier_apply.specs.Reading.{operator_named, operator_reading, changes_reading}
 use Rattle.modifier_apply.proofs.Front.{some_more}
 use Rattle.modifier_apply.proofs.reading.read_updates.Goals as goal
 
