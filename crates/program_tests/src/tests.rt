@@ -143,15 +143,19 @@ fn is_usage(alloc: Global, words: &str) -> Result<bool, Fail> {
     Ok(outcome(alloc, words, "@|[\"show\",\"zz\"]", 1, 1)?.as_str() == "2; ; ")
 }
 
-// What comes of the application and so many spaces more than the limit leaves room for.
-fn of_length(alloc: Global, more: u64) -> Result<String, Fail> {
+// What comes of the application and spaces, so many bytes in all.
+fn of_length(alloc: Global, length: u64) -> Result<String, Fail> {
     let mut bytes = Vec::from_slice(alloc, APPLICATION.as_bytes())?;
     bytes.push(b'\n')?;
-    bytes.resize((INPUT_LIMIT + more) as usize, b' ')?;
+    bytes.resize(length as usize, b' ')?;
     let mut source = MemorySource::new(Bytes::from_vec(bytes), Calls::new(alloc));
     let mut sink = MemorySink::new(alloc, 16, Calls::new(alloc))?;
     let words = words_of(alloc, "replay")?;
     ran(alloc, words.as_slice(), &mut source, &mut sink)
+}
+
+fn comes_of_length(alloc: Global, length: u64, wanted: &str) -> Result<bool, Fail> {
+    Ok(of_length(alloc, length)?.as_str() == wanted)
 }
 
 #[test]
@@ -180,8 +184,8 @@ fn words_that_name_no_command(rt: HostRuntime) -> Result<(), Fail> {
 
 #[test]
 fn lengths(rt: HostRuntime) -> Result<(), Fail> {
-    assert_eq!(rt; of_length(rt.alloc(), 0)?.as_str(), "0; ; ");
-    assert_eq!(rt; of_length(rt.alloc(), 1)?.as_str(), "6; ; ");
+    assert!(rt; comes_of_length(rt.alloc(), INPUT_LIMIT, "0; ; ")?);
+    assert!(rt; comes_of_length(rt.alloc(), INPUT_LIMIT + 1, "6; ; ")?);
     assert!(rt; Status::TooLong.message().contains("65536"));
     Ok(())
 }
