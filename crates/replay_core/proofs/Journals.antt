@@ -12,11 +12,7 @@ use Rattle.session_model.specs.Journal.{Live as ALive, live_after, shown}
 use Rattle.session_model.specs.Out.{about, difference, own_text, texts_of}
 use Rattle.world_model.specs.Lines.{value_line, out_line, line_text, item_line, items_lines}
 use Rattle.session_core.specs.Sessions.{text_of_item}
-
--- an item's own text, unfolded
-item_text_is : (n : ℕ) (live : Option ALive) (i : Item) (ts : List (List ℕ)) → ts ≡ text_of_item n live i → ts ≡ own_text n live i
-unfolding text_of_item
-item_text_is n live i ts is = is
+use Rattle.session_core.specs.Laws.{item_text_is}
 
 -- the texts of an item, from what is shown before it and after it
 pub item_texts_are : (app : App) (h : List Entry) (number : ℕ) (live after : Option ALive) (i : Item) (shown_before shown_after : Rows) (texts : List (List ℕ)) →
@@ -28,14 +24,14 @@ item_texts_are app h number live after i shown_before shown_after texts before_i
     ∙ ap (λ ts. map server_text (map about (difference (shown h live) (shown h (live_after app live i)))) ++ ts) (item_text_is number live i (text_of_item number live i) refl))
 
 -- an item's line, and its texts behind it
-pub item_printed : (app : App) (n : ℕ) (h : List Entry) (live : Option ALive) (i : Item) (before with_line with_texts : List (List ℕ)) (words : Val) (texts : List (List ℕ)) →
-    words ≡ item_line i → texts ≡ texts_of app n h live i → with_line ≡ before ++ line_text (value_line words) ∷ [] → with_texts ≡ with_line ++ map line_text (map out_line texts) →
-    with_texts ≡ before ++ map line_text (value_line (item_line i) ∷ map out_line (texts_of app n h live i))
-item_printed app n h live i before with_line with_texts words texts words_are texts_are one more =
+pub item_printed : (i : Item) (before with_line with_texts : List (List ℕ)) (words : Val) (texts : List (List ℕ)) →
+    words ≡ item_line i → with_line ≡ before ++ line_text (value_line words) ∷ [] → with_texts ≡ with_line ++ map line_text (map out_line texts) →
+    with_texts ≡ before ++ map line_text (value_line (item_line i) ∷ map out_line texts)
+item_printed i before with_line with_texts words texts words_are one more =
     more
     ∙ (ap (λ ls. ls ++ map line_text (map out_line texts)) one
     ∙ (append_assoc before (line_text (value_line words) ∷ []) (map line_text (map out_line texts))
-    ∙ ap₂ (λ w ts. before ++ line_text (value_line w) ∷ map line_text (map out_line ts)) words_are texts_are))
+    ∙ ap (λ w. before ++ line_text (value_line w) ∷ map line_text (map out_line texts)) words_are))
 
 -- one more item
 next_item : (app : App) (n : ℕ) (h : List Entry) (live after : Option ALive) (i : Item) (rest : List Item) (lines lines' : List (List ℕ)) → after ≡ live_after app live i →

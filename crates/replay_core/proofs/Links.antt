@@ -12,11 +12,7 @@ use Rattle.world_model.specs.Acts.{guarded, has_room, has_failed, with_item, mov
 use Rattle.world_model.specs.Taking.{told_text}
 use Rattle.session_core.specs.Queue.{first_of, rest_of}
 use Rattle.session_core.specs.Sessions.{Does}
-use Rattle.session_core.specs.Laws.{first_is}
-
-and_false : (b : Bool) → (b && false) ≡ false
-and_false true = refl
-and_false false = refl
+use Rattle.session_core.specs.Laws.{and_false, first_is}
 
 -- no step is enabled without room
 pub receives_full : (app : App) (h : List Entry) (c : Client) (ts : List (List ℕ)) → has_room c ≡ false → receives app h c ts ≡ None

@@ -16,7 +16,7 @@ use Rattle.world_model.specs.Client.{Client}
 use Rattle.world_model.specs.World.{World, start, done, can, after_act}
 use Rattle.world_model.specs.Settle.{many, times, round, rounds, settled, is_stuck}
 use Rattle.world_model.specs.Run.{step, run, IsEvent, AreEvents, Reachable, HoldsOf}
-use Rattle.world_model.specs.Kept.{IsKept}
+use Rattle.world_model.specs.InvariantLaws.{IsKept}
 use Rattle.world_model.specs.RunLaws.{IsKeptWorld, done_keeps, rounds_keep, settled_keeps, reachable_is_kept}
 use Rattle.world_model.specs.SettleLaws.{round_lowers, rounds_settle, Lowers}
 use Rattle.session_core.specs.Store.{Stored}

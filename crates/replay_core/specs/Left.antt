@@ -16,13 +16,5 @@ StepsLead old new = (steps : List Act) × (after_steps steps old ≡ new)
 
 -- the world as it was, but for `settle`, whose steps so far are made
 abbrev pub IsLeft : Event → World → World → Type 0
-IsLeft (event.Client name) old new = new ≡ old
-IsLeft (event.Sub who id name params) old new = new ≡ old
-IsLeft (event.Raw who t) old new = new ≡ old
-IsLeft (event.Insert key doc) old new = new ≡ old
-IsLeft (event.Do who a) old new = new ≡ old
-IsLeft (event.Load who id place) old new = new ≡ old
-IsLeft (event.Advance who id count) old new = new ≡ old
 IsLeft event.Settle old new = StepsLead old new
-IsLeft (event.Show who) old new = new ≡ old
-IsLeft (event.Journal who) old new = new ≡ old
+IsLeft _ old new = new ≡ old

@@ -15,9 +15,10 @@ ghost use Rattle.replay_core.specs.Connections.{client_of, with_client, pong_tex
 
 use crate::hearing::{MALFORMED, NO_OBJECT, refusal};
 use crate::subs::Subs;
+use crate::texts::text_of;
 use ddp_messages::{FromClient, FromServer, MsgFault};
 use ejson_value::{Contents, DataMsg, Doc, Fault, Key, Mem, Names, Text, Whole, copy};
-use session_core::{Queue, Session, Store};
+use session_core::{Queue, Session, Store, copy_id};
 use session_model::requests::Request;
 use std::alloc::Global;
 use world_model::subs::SubState;
@@ -30,21 +31,21 @@ const MAX_SERVER_TEXT: usize = 4_194_304;
 
 /// A client: the texts that wait in it, the name of its session, its documents and its
 /// subscriptions.
-#[derive(Debug, Drop)]
-pub(crate) struct Client {
+#[derive(Drop)]
+pub struct Client {
     pub(crate) name: Text,
     pub(crate) waiting: Queue<Text>,
     pub(crate) session: Option<Text>,
     /// Whether the version was refused.
     pub(crate) is_failed: bool,
     /// The number of the refusal of the text that broke the client.
-    pub(crate) broken: Option<u64>,
+    pub broken: Option<u64>,
     pub(crate) rows: Contents,
     pub(crate) subs: Subs,
 }
 
 /// A client, its session and the two links.
-#[derive(Debug, Drop)]
+#[derive(Drop)]
 pub(crate) struct Connection {
     pub(crate) client: Client,
     pub(crate) upward: Queue<Text>,
@@ -146,24 +147,19 @@ fn ended_by(error: &Option<Fault>) -> Result<SubState, Mem>
 fn pong(alloc: Global, id: &Option<Text>) -> Result<Text, Mem>
     ensures { IfOk result (λ text. text ≡ pong_text id.now) }
 {
-    let id = match id {
-        Some(id) => Some(id.copy()?),
-        None => None,
-    };
-    FromClient::Pong { id }.text(alloc)
+    let id = copy_id(id)?;
+    text_of(alloc, FromClient::Pong { id })
 }
 
 // A client's first text.
 fn connect(alloc: Global) -> Result<Text, Mem>
     ensures { IfOk result (λ text. text ≡ connect_text) }
 {
+    let version = Text::from_str(alloc, "1")?;
     let mut support = Names::new(alloc);
     support.push(Text::from_str(alloc, "1")?)?;
-    let connect = FromClient::Connect {
-        version: Text::from_str(alloc, "1")?,
-        support: Some(support),
-    };
-    connect.text(alloc)
+    let support = Some(support);
+    text_of(alloc, FromClient::Connect { version, support })
 }
 
 fn copied(request: &Request) -> Result<Request, Mem>
@@ -178,7 +174,7 @@ fn copied(request: &Request) -> Result<Request, Mem>
 
 impl Client {
     /// A client at its beginning: its `connect` waits.
-    fn new(alloc: Global, name: &Text) -> Result<Client, Mem>
+    pub fn new(alloc: Global, name: &Text) -> Result<Client, Mem>
         ensures { IfOk result (λ k. (c : AClient) → with_client c k ≡ begun name.now c) }
     {
         let mut waiting = Queue::new(alloc);
@@ -245,7 +241,7 @@ impl Client {
     }
 
     /// Takes a text in, or refuses it and is broken.
-    pub(crate) fn hear(&mut self, alloc: Global, text: &Text) -> Result<(), Mem>
+    pub fn hear(&mut self, alloc: Global, text: &Text) -> Result<(), Mem>
         ensures ok { OnOk result ((c : AClient) → with_client c self.new ≡ told_text (with_client c self.old) text.now) }
         ensures err { OnErr result ((c : AClient) → with_client c self.new ≡ with_client c self.old) }
     {

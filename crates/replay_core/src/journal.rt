@@ -19,7 +19,7 @@ use std::alloc::Global;
 
 // The items of a journal that were gone through: the live subscription after them, what it shows,
 // and their lines.
-#[derive(Debug, Drop)]
+#[derive(Drop)]
 struct Walk {
     live: Option<Live>,
     shown: Contents,
@@ -87,6 +87,16 @@ fn push_texts(alloc: Global, lines: &mut Lines, texts: &Queue<Text>) -> Result<(
     for text in texts.iter() {
         lines.push(out_line(alloc, text)?)?;
     }
+    Ok(())
+}
+
+// Adds the line of an item, and one for each of its texts behind it.
+fn push_item(alloc: Global, lines: &mut Lines, item: &Item, texts: Queue<Text>) -> Result<(), Mem>
+    ensures { OnOk result (lines.new ≡ lines.old ++ map line_text (value_line (item_line item.now) ∷ map out_line texts)) }
+{
+    let words = item_words(alloc, item)?;
+    push_line(alloc, lines, words)?;
+    push_texts(alloc, lines, &texts)?;
     Ok(())
 }
 
@@ -210,8 +220,7 @@ impl Walk {
         let rows = shown(store, live.as_ref())?;
         let before = self.live.as_ref();
         let texts = item_texts(alloc, number, before, item, &self.shown, &rows)?;
-        push_line(alloc, &mut self.lines, item_words(alloc, item)?)?;
-        push_texts(alloc, &mut self.lines, &texts)?;
+        push_item(alloc, &mut self.lines, item, texts)?;
         self.live = live;
         self.shown = rows;
         Ok(())

@@ -6,9 +6,8 @@ mod hearing;
 mod journal;
 mod lines;
 mod subs;
+mod texts;
 mod world;
 
+pub use connection::Client;
 pub use world::World;
-
-#[cfg(test)]
-mod tests;

@@ -14,7 +14,7 @@ use std::marker::Model;
 use world_model::subs::SubState;
 
 /// A client's subscriptions by id, with what became of each. A contract sees them by rising id.
-#[derive(Debug, Drop)]
+#[derive(Drop)]
 pub(crate) struct Subs {
     states: BTreeMap<Text, SubState>,
 }

@@ -18,6 +18,7 @@ ghost use Rattle.replay_core.specs.Left.{StepsLead, IsLeft};
 use crate::connection::Connection;
 use crate::journal::journal;
 use crate::lines::{idle_unless, refused, show};
+use crate::texts::text_of;
 use app_model::App;
 use ddp_messages::FromClient;
 use ejson_codec::Lines;
@@ -29,7 +30,7 @@ use std::marker::Model;
 use world_model::events::{Act, Event as Happening};
 
 /// A world. A contract sees its application, the history of its store and its client.
-#[derive(Debug, Drop)]
+#[derive(Drop)]
 pub struct World {
     store: Store,
     connection: Option<Connection>,
@@ -82,12 +83,10 @@ fn can_subscribe(connection: &Connection, who: &Text) -> bool
 fn sub_text(alloc: Global, id: &Text, name: &Text, params: &Items) -> Result<Text, Mem>
     ensures { IfOk result (λ text. text ≡ sub_text id.now name.now params.now) }
 {
-    let sub = FromClient::Sub {
-        id: id.copy()?,
-        name: name.copy()?,
-        params: params.copy()?,
-    };
-    sub.text(alloc)
+    let id = id.copy()?;
+    let name = name.copy()?;
+    let params = params.copy()?;
+    text_of(alloc, FromClient::Sub { id, name, params })
 }
 
 // The client asks for a subscription by this text: the text waits, and so does the subscription.

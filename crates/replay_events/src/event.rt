@@ -15,7 +15,7 @@ use world_model::events::Event as Happening;
 /// An event of the program, as a line describes it. A contract sees it as what happens: an id of a
 /// subscription has at most 256 bytes and its parameters at most 32 levels, a document is one that a
 /// store keeps, and a text that is sent as it stands asks for nothing.
-#[derive(Debug, Drop)]
+#[derive(Drop)]
 pub struct Event {
     happening: Happening,
 }

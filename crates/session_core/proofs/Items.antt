@@ -9,7 +9,7 @@ use Rattle.session_model.specs.declared.items.Item.{Item}
 use Rattle.session_model.specs.declared.items.Item.TheVariants as item
 use Rattle.session_model.specs.Texts.{server_text}
 use Rattle.session_model.specs.Journal.{Live as ALive}
-use Rattle.session_model.specs.Out.{session_name, ready_of, own_text}
+use Rattle.session_model.specs.Out.{session_name, ready_of}
 use Rattle.session_core.specs.Sessions.{text_of_item}
 
 pub of_connect : (n : ℕ) (live : Option ALive) (t : List ℕ) → t ≡ server_text (server.connected (session_name n)) → t ∷ [] ≡ text_of_item n live item.Connect
@@ -47,7 +47,3 @@ of_refuse n live id fault t is = ap (λ x. x ∷ []) is
 pub of_advance : (n : ℕ) (live : Option ALive) (sub count : ℕ) → [] ≡ text_of_item n live (item.Advance sub count)
 unfolding text_of_item
 of_advance n live sub count = refl
-
-pub item_text_is : (n : ℕ) (live : Option ALive) (i : Item) (ts : List (List ℕ)) → ts ≡ text_of_item n live i → ts ≡ own_text n live i
-unfolding text_of_item
-item_text_is n live i ts is = is

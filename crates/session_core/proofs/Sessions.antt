@@ -17,15 +17,15 @@ use Rattle.session_model.specs.declared.items.Item.TheVariants as item
 use Rattle.app_model.specs.App.{App}
 use Rattle.session_model.specs.History.{Entry}
 use Rattle.session_model.specs.Texts.{server_text}
-use Rattle.session_model.specs.Journal.{Live as ALive, live_of, live_after, is_connected, connected_after, shown}
+use Rattle.session_model.specs.Journal.{Live as ALive, live_of, live_after, keeps_live, is_connected, connected_after, shown}
 use Rattle.session_model.specs.Out.{about, difference, own_text, texts_of}
 use Rattle.session_model.specs.OutLaws.{name_order, live_from-append, connected_from-append}
 use Rattle.world_model.specs.Client.{Client}
 use Rattle.world_model.specs.Acts.{guarded, has_room, is_fail, has_failed, with_item, loads, loads_at, loads_to, loads_placed, loads_named, advances, advances_from, advances_by, advances_placed, advances_named}
-use Rattle.world_model.specs.TakenLaws.{keeps_live}
 use Rattle.session_core.specs.Store.{Stored}
 use Rattle.value_model.specs.Size.{is_name}
 use Rattle.session_core.specs.Sessions.{as_live, IsTrueTo, left_from, left_of, is_of_id, loads_live, advances_live, natural_or}
+use Rattle.session_core.specs.Laws.{and_false}
 use Rattle.session_core.specs.declared.session.Live.{Live}
 use Rattle.session_core.specs.declared.session.Session.{Session}
 
@@ -106,10 +106,6 @@ live_is store s l stands is = sym stands.live ∙ ap (option_map as_live) is
 
 pub no_live : (store : Stored) (s : Session) → IsTrueTo store s → s.live ≡ None → live_of store.app s.journal.items ≡ None
 no_live store s stands is = sym stands.live ∙ ap (option_map as_live) is
-
-and_false : (b : Bool) → (b && false) ≡ false
-and_false true = refl
-and_false false = refl
 
 both_false : (a b : Bool) → (a && b && false) ≡ false
 both_false true b = and_false b

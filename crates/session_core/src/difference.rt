@@ -15,6 +15,7 @@ ghost use Rattle.session_model.specs.Out.{about, difference};
 ghost use Rattle.session_core.specs.Difference.{message_at, data_text};
 
 use crate::queue::Queue;
+use crate::texts::text_of;
 use ddp_messages::FromServer;
 use ejson_value::{Contents, DataMsg, Doc, Key, ListOf, Mem, Text, Value, compare, copy};
 use std::alloc::Global;
@@ -146,7 +147,7 @@ fn push_text(alloc: Global, texts: &mut Queue<Text>, message: Option<DataMsg>) -
     ensures { OnOk result (texts.new ≡ texts.old ++ map data_text (option_to_list message)) }
 {
     match message {
-        Some(message) => texts.push(FromServer::Data(message).text(alloc)?),
+        Some(message) => texts.push(text_of(alloc, FromServer::Data(message))?),
         None => Ok(()),
     }
 }

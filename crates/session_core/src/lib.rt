@@ -6,7 +6,8 @@ mod queue;
 mod session;
 mod store;
 mod taking;
+mod texts;
 
 pub use queue::Queue;
-pub use session::{Live, Session, item_texts, making, session_name};
+pub use session::{Live, Session, copy_id, item_texts, making, session_name};
 pub use store::Store;

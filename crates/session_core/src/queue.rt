@@ -10,7 +10,7 @@ use std::collections::vec_deque::Iter;
 use std::marker::Model;
 
 /// A queue. A contract sees it as the list of its elements, the first one first.
-#[derive(Debug, Drop)]
+#[derive(Drop)]
 pub struct Queue<T> {
     items: VecDeque<T>,
 }

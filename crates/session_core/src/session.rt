@@ -3,11 +3,10 @@ ghost use Rattle.std.specs.Prelude.{◌≡◌, ◌&&◌, ◌||◌, ◌++◌, ◌
 ghost use Rattle.ddp_messages.specs.ServerMessage as server;
 ghost use Rattle.session_model.specs.Publication.{making, code_of, reason_of, error_of};
 ghost use Rattle.session_model.specs.Texts.{server_text};
-ghost use Rattle.session_model.specs.Journal.{live_of, live_after, connected_after, is_connected, shown};
+ghost use Rattle.session_model.specs.Journal.{live_of, live_after, keeps_live, IsQuietTaken, connected_after, is_connected, shown};
 ghost use Rattle.session_model.specs.Out.{session_name, ready_of, about, difference};
 ghost use Rattle.world_model.specs.Client.{Client as AClient};
 ghost use Rattle.world_model.specs.Acts.{outbox_limit, journal_limit, is_fail, has_failed, with_item, after_taking, answering, loads, loads_named, advances, advances_named};
-ghost use Rattle.world_model.specs.TakenLaws.{keeps_live, IsQuietTaken};
 ghost use Rattle.session_model.specs.Answers.{taken_text};
 ghost use Rattle.session_core.specs.Taking.{as_taken};
 ghost use Rattle.session_core.specs.Sessions.{as_live, text_of_item, IsTrueTo, with_session, Does, left_of, is_of_id, loads_live, advances_live, natural, natural_or};
@@ -17,6 +16,7 @@ use crate::difference::data_texts;
 use crate::queue::Queue;
 use crate::store::Store;
 use crate::taking::{Taken, taken_from};
+use crate::texts::text_of;
 use app_model::App;
 use ddp_messages::FromServer;
 use ejson_value::{Contents, Fault, Items, Mem, Names, Text, Whole};
@@ -33,7 +33,7 @@ const JOURNAL_LIMIT: usize = 262144;
 
 /// An open subscription: the cursors of its publication, and how many inserts of the history its
 /// documents take in; None until it is loaded.
-#[derive(Debug, Drop)]
+#[derive(Drop)]
 pub struct Live {
     pub sub: u64,
     pub id: Text,
@@ -42,7 +42,7 @@ pub struct Live {
 }
 
 /// A session of the server.
-#[derive(Debug, Drop)]
+#[derive(Drop)]
 pub struct Session {
     pub number: u64,
     pub queue: Queue<Request>,
@@ -77,7 +77,8 @@ pub fn session_name(alloc: Global, number: u64) -> Result<Text, Mem>
     Ok(Text::from_string(format!(in alloc; "S{number}")?))
 }
 
-fn copy_id(id: &Option<Text>) -> Result<Option<Text>, Mem>
+/// A copy of the id, if there is one.
+pub fn copy_id(id: &Option<Text>) -> Result<Option<Text>, Mem>
     ensures { IfOk result (λ copy. copy ≡ id.now) }
 {
     match id {
@@ -100,27 +101,27 @@ fn connected_text(alloc: Global, number: u64) -> Result<Text, Mem>
     ensures { IfOk result (λ text. text ≡ server_text (server.connected (session_name number))) }
 {
     let session = session_name(alloc, number)?;
-    FromServer::Connected { session }.text(alloc)
+    text_of(alloc, FromServer::Connected { session })
 }
 
 fn failed_text(alloc: Global, version: Text) -> Result<Text, Mem>
     ensures { IfOk result (λ text. text ≡ server_text (server.failed version)) }
 {
-    FromServer::Failed { version }.text(alloc)
+    text_of(alloc, FromServer::Failed { version })
 }
 
 fn pong_text(alloc: Global, id: &Option<Text>) -> Result<Text, Mem>
     ensures { IfOk result (λ text. text ≡ server_text (server.pong id.now)) }
 {
     let id = copy_id(id)?;
-    FromServer::Pong { id }.text(alloc)
+    text_of(alloc, FromServer::Pong { id })
 }
 
 fn ready_text(alloc: Global, id: &Text) -> Result<Text, Mem>
     ensures { IfOk result (λ text. text ≡ server_text (server.ready (id.now ∷ []))) }
 {
     let subs = only(alloc, id)?;
-    FromServer::Ready { subs }.text(alloc)
+    text_of(alloc, FromServer::Ready { subs })
 }
 
 // The text of the `ready` of the live subscription.
@@ -174,7 +175,7 @@ fn nosub_text(alloc: Global, id: &Text, fault: SubFault) -> Result<Text, Mem>
 {
     let error = Some(error_of(alloc, fault)?);
     let id = id.copy()?;
-    FromServer::Nosub { id, error }.text(alloc)
+    text_of(alloc, FromServer::Nosub { id, error })
 }
 
 // The item's own text.

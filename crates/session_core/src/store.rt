@@ -14,14 +14,14 @@ use std::alloc::Global;
 use std::marker::Model;
 
 /// An insert of a document at a key.
-#[derive(Debug, Drop)]
+#[derive(Drop)]
 pub(crate) struct Insert {
     pub(crate) key: Key,
     pub(crate) doc: Doc,
 }
 
 /// The application, the history of its inserts and the documents after them.
-#[derive(Debug, Drop)]
+#[derive(Drop)]
 pub struct Store {
     app: App,
     history: Vec<Insert>,

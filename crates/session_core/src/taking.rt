@@ -7,6 +7,7 @@ ghost use Rattle.ddp_messages.specs.ClientMessage.{client_view};
 ghost use Rattle.session_model.specs.Answers.{at_once, offending_of, connected_by, refused_for, taken_text};
 ghost use Rattle.session_core.specs.Taking.{as_taken, offending_in, reason_of, once_connected, taken_message};
 
+use crate::texts::text_of;
 use ddp_messages::{FromClient, FromServer, MsgFault};
 use ejson_codec::{ReadFault, read};
 use ejson_value::{Mem, Text, Value};
@@ -19,7 +20,7 @@ use std::alloc::Global;
 const MAX_TEXT: usize = 2_097_152;
 
 /// What comes of a text.
-#[derive(Debug, Drop)]
+#[derive(Drop)]
 pub(crate) enum Taken {
     AtOnce(Item),
     ToQueue(Request),
@@ -30,7 +31,7 @@ fn refused(alloc: Global, reason: &str, offending: Option<Value>) -> Result<Take
     ensures { IfOk result (λ t. as_taken t ≡ refused_for reason.now (option_map view offending)) }
 {
     let reason = Text::from_str(alloc, reason)?;
-    let answer = FromServer::Error { reason, offending }.text(alloc)?;
+    let answer = text_of(alloc, FromServer::Error { reason, offending })?;
     Ok(Taken::AtOnce(Item::Bad { answer }))
 }
 

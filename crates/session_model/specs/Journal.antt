@@ -9,7 +9,7 @@ use Rattle.publication.specs.Cursors.{ACursors}
 use Rattle.session_model.specs.History.{Entry, contents_at}
 use Rattle.session_model.specs.Publication.{making, IsMade, cursors_in, queried, error_of}
 use Rattle.ddp_messages.specs.Limits.{IsShort}
-use Rattle.session_model.specs.Answers.{IsRefusal}
+use Rattle.session_model.specs.Answers.{Taken, at_once, to_queue, IsRefusal}
 
 -- an open subscription: the cursors of its publication with its parameters, and how many entries of the history its documents take in; None until it is loaded
 pub record Live : Type 0 where
@@ -35,15 +35,19 @@ advanced count (Some live) = Some (record live { cursor = moved count live.curso
 
 -- the live subscription after one more item
 abbrev pub live_after : App → Option Live → Item → Option Live
-live_after app live item.Connect = live
-live_after app live item.Fail = live
-live_after app live (item.Ping id) = live
-live_after app live item.Pong = live
-live_after app live (item.Bad answer) = live
 live_after app live (item.Open sub id name params) = Some (opened sub id (cursors_in (making app name params)))
-live_after app live (item.Refuse id fault) = live
 live_after app live (item.Load sub at) = loaded at live
 live_after app live (item.Advance sub count) = advanced count live
+live_after app live _ = live
+
+-- the item leaves the live subscription
+abbrev pub keeps_live : Item → Type 0
+keeps_live i = (app : App) (live : Option Live) → live_after app live i ≡ live
+
+-- what comes of a text leaves it
+abbrev pub IsQuietTaken : Taken → Type 0
+IsQuietTaken (at_once i) = keeps_live i
+IsQuietTaken (to_queue r) = Unit {0}
 
 -- the live subscription after these items
 abbrev pub live_from : App → Option Live → List Item → Option Live
@@ -79,14 +83,7 @@ shown history (Some live) = shown_at history live.cursors live.cursor
 -- whether the session is connected after one more item
 abbrev pub connected_after : Bool → Item → Bool
 connected_after connected item.Connect = true
-connected_after connected item.Fail = connected
-connected_after connected (item.Ping id) = connected
-connected_after connected item.Pong = connected
-connected_after connected (item.Bad answer) = connected
-connected_after connected (item.Open sub id name params) = connected
-connected_after connected (item.Refuse id fault) = connected
-connected_after connected (item.Load sub at) = connected
-connected_after connected (item.Advance sub count) = connected
+connected_after connected _ = connected
 
 abbrev pub connected_from : Bool → List Item → Bool
 connected_from connected [] = connected
@@ -122,15 +119,9 @@ Fits app length journal = FitsFrom app length false None journal
 
 -- the id of the `sub` that an item handles
 abbrev pub handled_by : Item → List (List ℕ)
-handled_by item.Connect = []
-handled_by item.Fail = []
-handled_by (item.Ping id) = []
-handled_by item.Pong = []
-handled_by (item.Bad answer) = []
 handled_by (item.Open sub id name params) = id ∷ []
 handled_by (item.Refuse id fault) = id ∷ []
-handled_by (item.Load sub at) = []
-handled_by (item.Advance sub count) = []
+handled_by _ = []
 
 abbrev pub handled : List Item → List (List ℕ)
 handled [] = []
@@ -138,15 +129,8 @@ handled (i ∷ items) = handled_by i ++ handled items
 
 -- the `sub` that an item refuses, and the error that answers it
 abbrev pub refused_by : Item → List (List ℕ × Option Fault)
-refused_by item.Connect = []
-refused_by item.Fail = []
-refused_by (item.Ping id) = []
-refused_by item.Pong = []
-refused_by (item.Bad answer) = []
-refused_by (item.Open sub id name params) = []
 refused_by (item.Refuse id fault) = (id, Some (error_of fault)) ∷ []
-refused_by (item.Load sub at) = []
-refused_by (item.Advance sub count) = []
+refused_by _ = []
 
 abbrev pub refusals : List Item → List (List ℕ × Option Fault)
 refusals [] = []
@@ -154,15 +138,9 @@ refusals (i ∷ items) = refused_by i ++ refusals items
 
 -- the item, where it answers a `sub`
 abbrev pub sub_item : Item → List Item
-sub_item item.Connect = []
-sub_item item.Fail = []
-sub_item (item.Ping id) = []
-sub_item item.Pong = []
-sub_item (item.Bad answer) = []
 sub_item (item.Open sub id name params) = item.Open sub id name params ∷ []
 sub_item (item.Refuse id fault) = item.Refuse id fault ∷ []
-sub_item (item.Load sub at) = []
-sub_item (item.Advance sub count) = []
+sub_item _ = []
 
 -- the items that answer a `sub`
 abbrev pub sub_items : List Item → List Item

@@ -9,3 +9,4 @@ pub mod PublicationLaws
 pub mod HistoryLaws
 pub mod OutLaws
 pub mod HeardLaws
+pub mod TakenLaws

@@ -48,24 +48,15 @@ abbrev pub own_message : ℕ → Option Live → Item → List ServerMessage
 own_message number live item.Connect = server.connected (session_name number) ∷ []
 own_message number live item.Fail = server.failed (codes "1") ∷ []
 own_message number live (item.Ping id) = server.pong id ∷ []
-own_message number live item.Pong = []
 own_message number live (item.Bad answer) = message_in answer ∷ []
-own_message number live (item.Open sub id name params) = []
 own_message number live (item.Refuse id fault) = server.nosub id (Some (error_of fault)) ∷ []
 own_message number live (item.Load sub at) = ready_of live
-own_message number live (item.Advance sub count) = []
+own_message number live _ = []
 
 -- its text
 abbrev pub own_text : ℕ → Option Live → Item → List (List ℕ)
-own_text number live item.Connect = map server_text (own_message number live item.Connect)
-own_text number live item.Fail = map server_text (own_message number live item.Fail)
-own_text number live (item.Ping id) = map server_text (own_message number live (item.Ping id))
-own_text number live item.Pong = []
 own_text number live (item.Bad answer) = answer ∷ []
-own_text number live (item.Open sub id name params) = []
-own_text number live (item.Refuse id fault) = map server_text (own_message number live (item.Refuse id fault))
-own_text number live (item.Load sub at) = map server_text (own_message number live (item.Load sub at))
-own_text number live (item.Advance sub count) = []
+own_text number live i = map server_text (own_message number live i)
 
 -- what an item changes of what is shown
 abbrev pub changes_of : App → List Entry → Option Live → Item → List (Key × Step (List ℕ) Val)
@@ -96,31 +87,13 @@ out_texts app number history journal = out_texts_from app number history None jo
 
 -- what a message says of documents
 abbrev pub data_in : ServerMessage → List (Key × Step (List ℕ) Val)
-data_in (server.connected session) = []
-data_in (server.failed version) = []
-data_in (server.ping id) = []
-data_in (server.pong id) = []
-data_in (server.nosub id fault) = []
-data_in (server.ready subs) = []
 data_in (server.about m) = said m ∷ []
-data_in (server.finished id fault value) = []
-data_in (server.updated methods) = []
-data_in (server.refused reason offending) = []
-data_in server.unknown = []
+data_in _ = []
 
 -- the ids that a message calls ready
 abbrev pub ready_in : ServerMessage → List (List ℕ)
-ready_in (server.connected session) = []
-ready_in (server.failed version) = []
-ready_in (server.ping id) = []
-ready_in (server.pong id) = []
-ready_in (server.nosub id fault) = []
 ready_in (server.ready subs) = subs
-ready_in (server.about m) = []
-ready_in (server.finished id fault value) = []
-ready_in (server.updated methods) = []
-ready_in (server.refused reason offending) = []
-ready_in server.unknown = []
+ready_in _ = []
 
 -- what the messages say of documents, in order
 abbrev pub data_of : List ServerMessage → List (Key × Step (List ℕ) Val)
@@ -134,17 +107,8 @@ ready_ids (m ∷ messages) = ready_in m ++ ready_ids messages
 
 -- the id of a subscription that a message ends, with the error, if it has one
 abbrev pub nosubs_in : ServerMessage → List (List ℕ × Option Fault)
-nosubs_in (server.connected session) = []
-nosubs_in (server.failed version) = []
-nosubs_in (server.ping id) = []
-nosubs_in (server.pong id) = []
 nosubs_in (server.nosub id fault) = (id, fault) ∷ []
-nosubs_in (server.ready subs) = []
-nosubs_in (server.about m) = []
-nosubs_in (server.finished id fault value) = []
-nosubs_in (server.updated methods) = []
-nosubs_in (server.refused reason offending) = []
-nosubs_in server.unknown = []
+nosubs_in _ = []
 
 -- the subscriptions that the messages end
 abbrev pub nosubs_of : List ServerMessage → List (List ℕ × Option Fault)

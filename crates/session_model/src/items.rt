@@ -11,7 +11,7 @@ pub enum SubFault {
 }
 
 /// What a session did, in order. Subscriptions are numbered from 0 as they are opened.
-#[derive(Debug, Drop)]
+#[derive(Drop)]
 pub enum Item {
     /// A `connect` of the session's version was taken.
     Connect,

@@ -2,7 +2,7 @@
 use ejson_value::{Items, Text};
 
 /// A `sub` that a session has still to handle.
-#[derive(Debug, Drop)]
+#[derive(Drop)]
 pub struct Request {
     pub id: Text,
     /// The name of the publication.

@@ -36,15 +36,8 @@ has_room c = nat_lt (length c.outbox) outbox_limit && nat_lt (length c.journal) 
 
 -- whether a version was refused
 abbrev pub is_fail : Item → Bool
-is_fail item.Connect = false
 is_fail item.Fail = true
-is_fail (item.Ping id) = false
-is_fail item.Pong = false
-is_fail (item.Bad answer) = false
-is_fail (item.Open sub id name params) = false
-is_fail (item.Refuse id fault) = false
-is_fail (item.Load sub at) = false
-is_fail (item.Advance sub count) = false
+is_fail _ = false
 
 abbrev pub has_failed : List Item → Bool
 has_failed journal = list_any is_fail journal

@@ -19,7 +19,7 @@ use Rattle.world_model.specs.declared.subs.SubState.TheVariants as state
 use Rattle.world_model.specs.Client.{Subs}
 use Rattle.world_model.specs.Taking.{turned_from, turned, ended_by, readied, subs_in}
 use Rattle.world_model.specs.Run.{is_over, are_over, readied_all, word_in, words_after, AreReady}
-use Rattle.world_model.specs.Kept.{over_at, IsAlone, AreCurrent, IsAsking}
+use Rattle.world_model.specs.InvariantLaws.{over_at, IsAlone, AreCurrent, IsAsking}
 
 -- ---- lists
 

@@ -26,7 +26,7 @@ use Rattle.world_model.specs.Taking.{max_server_text, message_refusal, told_unle
 use Rattle.world_model.specs.Acts.{guarded, has_room, has_failed, link_limit, with_item, moves_up, after_taking, receives, answering, handles, loads, loads_at, advances, advances_from, sends, takes, acts, loads_placed, loads_to, loads_named, advances_placed, advances_by, advances_named, loading, leading}
 use Rattle.world_model.specs.World.{World, start, after_act, done}
 use Rattle.world_model.specs.Run.{HoldsOf, step, run, AreEvents, Reachable, has_long, IsLongAlone, sub_text, can_subscribe, subscribes, after_sub, after_client, can_send, with_text, is_called}
-use Rattle.world_model.specs.Kept.{IsKept}
+use Rattle.world_model.specs.InvariantLaws.{IsKept}
 use Rattle.world_model.specs.KeptLaws.{guarded_holds, take_links, next_reads, is_none_true, second_true}
 use Rattle.world_model.specs.FitLaws.{next_accepted}
 use Rattle.world_model.specs.RunLaws.{chosen, by_holds, IsKeptWorld, done_keeps, settled_keeps, step_keeps, start_kept}

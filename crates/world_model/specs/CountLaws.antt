@@ -31,7 +31,7 @@ use Rattle.world_model.specs.Acts.{guarded, has_room, has_failed, link_limit, wi
 use Rattle.world_model.specs.World.{World, start, after_act, done}
 use Rattle.world_model.specs.Settle.{settled}
 use Rattle.world_model.specs.Run.{HoldsOf, step, run, AreEvents, Reachable, sub_text, can_subscribe, after_sub, after_client, sent, sent_by, made, can_send, with_text, is_called, after_by}
-use Rattle.world_model.specs.Kept.{IsKept}
+use Rattle.world_model.specs.InvariantLaws.{IsKept}
 use Rattle.world_model.specs.CalmLaws.{IsCalm}
 use Rattle.world_model.specs.KeptLaws.{guarded_holds, next_reads, is_none_true, second_true}
 use Rattle.world_model.specs.RunLaws.{IsKeptWorld, done_keeps, settled_keeps, step_keeps, start_kept}

@@ -24,7 +24,7 @@ use Rattle.session_model.specs.Out.{session_name, about, own_message, changes_of
 use Rattle.session_model.specs.OutLaws.{said-message_of, refusal_in, sorted_shown, data_of-messages, changes_taken}
 use Rattle.world_model.specs.Client.{Client}
 use Rattle.world_model.specs.Taking.{data_refusal, message_refusal, session_in, rows_in}
-use Rattle.world_model.specs.Kept.{HasBegun, IsKept, session_after, rows_after}
+use Rattle.world_model.specs.InvariantLaws.{HasBegun, IsKept, session_after, rows_after}
 use Rattle.world_model.specs.CalmLaws.{stays_connected}
 use Rattle.world_model.specs.KeptLaws.{session_after-append, take_links, none_sent, heard}
 use Rattle.world_model.specs.HeadlineLaws.{rows_told}

@@ -24,7 +24,7 @@ use Rattle.world_model.specs.Client.{Client, Subs}
 use Rattle.world_model.specs.Taking.{rows_in}
 use Rattle.world_model.specs.World.{World, start}
 use Rattle.world_model.specs.Run.{run, AreEvents, Reachable, IsAtEnd, IsQuiescent, whole, asked, words_after, AreReady, IsWhole, HoldsOf, IsTrueWorld, requested, answers_to, AreWaiting, unread}
-use Rattle.world_model.specs.Kept.{rows_after, over_at, AreCurrent, IsKept}
+use Rattle.world_model.specs.InvariantLaws.{rows_after, over_at, AreCurrent, IsKept}
 use Rattle.world_model.specs.AskLaws.{words_ready}
 use Rattle.world_model.specs.KeptLaws.{places}
 use Rattle.world_model.specs.RunLaws.{IsKeptWorld, run_keeps, start_kept, reachable_is_kept}

@@ -31,7 +31,7 @@ use Rattle.world_model.specs.Client.{Client, connect_text}
 use Rattle.world_model.specs.Taking.{max_server_text, message_refusal, session_in, answers_in, subs_in, rows_in, told, told_unless, told_answer, breaks}
 use Rattle.world_model.specs.Acts.{guarded, has_room, has_failed, link_limit, with_item, moves_up, after_taking, receives, answering, handles, loads, loads_at, advances, advances_from, sends, takes, acts, loads_placed, loads_to, loads_named, advances_placed, advances_by, advances_named, loading, leading}
 use Rattle.world_model.specs.Run.{asked_in, asked, requested, answers_to, too_long, unread}
-use Rattle.world_model.specs.Kept.{session_after, rows_after, HasBegun, AreCurrent, IsAsking, IsTold, IsKept}
+use Rattle.world_model.specs.InvariantLaws.{session_after, rows_after, HasBegun, AreCurrent, IsAsking, IsTold, IsKept}
 use Rattle.world_model.specs.TextLaws.{IsAnswerItem, IsTakenWell, text_taken_well, connect_read, connect_taken}
 use Rattle.world_model.specs.CalmLaws.{IsCalm, AreCalm, calm_at, stays_connected, out_calm}
 use Rattle.world_model.specs.AskLaws.{none_before, nil_right, left_cancel, message_told}

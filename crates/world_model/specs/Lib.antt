@@ -6,14 +6,13 @@ pub mod Settle
 pub mod Run
 pub mod Lines
 pub mod LineLaws
-pub mod Kept
+pub mod InvariantLaws
 pub mod TextLaws
 pub mod CalmLaws
 pub mod AskLaws
 pub mod KeptLaws
 pub mod RunLaws
 pub mod HeadlineLaws
-pub mod TakenLaws
 pub mod SettleLaws
 pub mod CountLaws
 pub mod RestLaws

@@ -22,7 +22,7 @@ use Rattle.world_model.specs.Acts.{guarded, has_room, is_fail, has_failed, link_
 use Rattle.world_model.specs.World.{World, can_by}
 use Rattle.world_model.specs.Settle.{order, is_stuck, settled}
 use Rattle.world_model.specs.Run.{IsAtEnd, IsQuiescent, IsAtRest, IsSettled, sent, sent_by, made, HoldsOf, Reachable}
-use Rattle.world_model.specs.Kept.{HasBegun, IsKept, session_after}
+use Rattle.world_model.specs.InvariantLaws.{HasBegun, IsKept, session_after}
 use Rattle.world_model.specs.CalmLaws.{stays_connected}
 use Rattle.world_model.specs.KeptLaws.{session_after-append}
 use Rattle.world_model.specs.RunLaws.{IsKeptWorld, done_keeps, settled_keeps, reachable_is_kept}

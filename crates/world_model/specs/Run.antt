@@ -123,12 +123,10 @@ run w (e ∷ events) = run (step w e) events
 
 -- what a client asks of a session by subscribing, ending a subscription and calling a method
 abbrev pub asks : ClientMessage → Bool
-asks (client.connect version support) = false
-asks (client.ping id) = false
-asks (client.pong id) = false
 asks (client.sub id name params) = true
 asks (client.unsub id) = true
 asks (client.method id name params seed) = true
+asks _ = false
 
 abbrev pub asks_in : Result ClientMessage MsgFault → Bool
 asks_in (Ok m) = asks m
@@ -136,16 +134,10 @@ asks_in (Err e) = false
 
 -- An id of a subscription has at most 256 bytes, its parameters are values of the program of at most 32 levels, a document is as those of a store, and a text that is sent as it stands asks for nothing.
 abbrev pub IsEvent : Event → Type 0
-IsEvent (event.Client name) = Unit {0}
 IsEvent (event.Sub who id name params) = IsShort id × AreValues (vals_of params) × AreShallow params
 IsEvent (event.Raw who t) = asks_in (client_answer t) ≡ false
 IsEvent (event.Insert key doc) = IsStored key doc
-IsEvent (event.Do who a) = Unit {0}
-IsEvent (event.Load who id place) = Unit {0}
-IsEvent (event.Advance who id count) = Unit {0}
-IsEvent event.Settle = Unit {0}
-IsEvent (event.Show who) = Unit {0}
-IsEvent (event.Journal who) = Unit {0}
+IsEvent _ = Unit {0}
 
 abbrev pub AreEvents : List Event → Type 0
 AreEvents [] = Unit {0}
@@ -180,12 +172,8 @@ whole history (Some live) = queried live.cursors (contents history)
 
 -- the `sub` that a text is
 abbrev pub asked_by : ClientMessage → List Request
-asked_by (client.connect version support) = []
-asked_by (client.ping id) = []
-asked_by (client.pong id) = []
 asked_by (client.sub id name params) = record { id = id; name = name; params = params } ∷ []
-asked_by (client.unsub id) = []
-asked_by (client.method id name params seed) = []
+asked_by _ = []
 
 abbrev pub asked_in : Result ClientMessage MsgFault → List Request
 asked_in (Ok m) = asked_by m
@@ -219,17 +207,9 @@ readied_all (id ∷ ids) words = readied_all ids (set text_cmp words id (Some st
 
 -- what a message says of subscriptions, behind what was said before
 abbrev pub word_in : Subs → ServerMessage → Subs
-word_in words (server.connected name) = words
-word_in words (server.failed version) = words
-word_in words (server.ping id) = words
-word_in words (server.pong id) = words
 word_in words (server.nosub id fault) = set text_cmp words id (Some (ended_by fault))
 word_in words (server.ready ids) = readied_all ids words
-word_in words (server.about m) = words
-word_in words (server.finished id fault value) = words
-word_in words (server.updated methods) = words
-word_in words (server.refused reason offending) = words
-word_in words server.unknown = words
+word_in words _ = words
 
 -- the last word of the messages on each subscription
 abbrev pub words_after : Subs → List ServerMessage → Subs

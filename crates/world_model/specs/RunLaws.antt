@@ -31,7 +31,7 @@ use Rattle.world_model.specs.Acts.{guarded, acts, loading, leading}
 use Rattle.world_model.specs.World.{World, start, after_act, done}
 use Rattle.world_model.specs.Settle.{many, times, each, order, rounds, blocks, settled, texts, work}
 use Rattle.world_model.specs.Run.{after_client, sub_text, can_subscribe, subscribes, after_sub, asks_in, can_send, with_text, after_raw, is_called, after_named, after_by, step, run, are_over, asked_in, asked, IsEvent, AreEvents, Reachable, HoldsOf, requested}
-use Rattle.world_model.specs.Kept.{HasBegun, IsAsking, IsKept}
+use Rattle.world_model.specs.InvariantLaws.{HasBegun, IsAsking, IsKept}
 use Rattle.world_model.specs.TextLaws.{sub_read}
 use Rattle.world_model.specs.CalmLaws.{AreCalm, out_calm}
 use Rattle.world_model.specs.AskLaws.{none_asked, one_asked}

@@ -24,8 +24,9 @@ use Rattle.world_model.specs.Acts.{has_room, has_failed, link_limit, moves_up, a
 use Rattle.world_model.specs.World.{World, after_act, done, can_by, can}
 use Rattle.world_model.specs.Settle.{order, times_of, times_by, times, many, each, round, rounds, is_stuck, cursor_work, live_work, client_work, work_by, work, client_texts, texts_by, texts, block, blocks, settled}
 use Rattle.world_model.specs.Run.{HoldsOf}
-use Rattle.world_model.specs.Kept.{IsKept}
-use Rattle.world_model.specs.TakenLaws.{IsQuietTaken, taken_quiet}
+use Rattle.world_model.specs.InvariantLaws.{IsKept}
+use Rattle.session_model.specs.Journal.{IsQuietTaken}
+use Rattle.session_model.specs.TakenLaws.{taken_quiet}
 use Rattle.world_model.specs.CalmLaws.{IsCalm}
 use Rattle.world_model.specs.KeptLaws.{guarded_holds, next_reads, is_none_true, second_true}
 use Rattle.world_model.specs.RunLaws.{IsKeptWorld, done_keeps, many_keep, rounds_keep, blocks_keep}

@@ -38,31 +38,21 @@ naming (id ∷ ids) = Some 9
 
 -- before `connected` was taken: 3 for what belongs to a session
 abbrev pub early_refusal : ServerMessage → Option ℕ
-early_refusal (connected session) = None
-early_refusal (failed version) = None
-early_refusal (ping id) = None
-early_refusal (pong id) = None
 early_refusal (nosub id fault) = Some 3
 early_refusal (ready subs) = Some 3
 early_refusal (about m) = Some 3
 early_refusal (finished id fault value) = Some 3
 early_refusal (updated methods) = Some 3
-early_refusal (refused reason offending) = None
-early_refusal unknown = None
+early_refusal _ = None
 
 -- afterwards: 4 for a second answer to `connect`, 8 and 9 for methods, since no call of a method is outstanding
 abbrev pub late_refusal : Rows → ServerMessage → Option ℕ
 late_refusal rows (connected session) = Some 4
 late_refusal rows (failed version) = Some 4
-late_refusal rows (ping id) = None
-late_refusal rows (pong id) = None
-late_refusal rows (nosub id fault) = None
-late_refusal rows (ready subs) = None
 late_refusal rows (about m) = data_refusal (at key_cmp rows (said m).0) (said m).1
 late_refusal rows (finished id fault value) = Some 8
 late_refusal rows (updated methods) = naming methods
-late_refusal rows (refused reason offending) = None
-late_refusal rows unknown = None
+late_refusal rows _ = None
 
 abbrev pub message_refusal : Option (List ℕ) → Rows → ServerMessage → Option ℕ
 message_refusal None rows m = early_refusal m
@@ -73,44 +63,17 @@ message_refusal (Some session) rows m = late_refusal rows m
 -- the session's name
 abbrev pub session_in : Option (List ℕ) → ServerMessage → Option (List ℕ)
 session_in session (connected name) = Some name
-session_in session (failed version) = session
-session_in session (ping id) = session
-session_in session (pong id) = session
-session_in session (nosub id fault) = session
-session_in session (ready subs) = session
-session_in session (about m) = session
-session_in session (finished id fault value) = session
-session_in session (updated methods) = session
-session_in session (refused reason offending) = session
-session_in session unknown = session
+session_in session _ = session
 
 -- whether the version was refused
 abbrev pub failed_in : Bool → ServerMessage → Bool
-failed_in was (connected name) = was
 failed_in was (failed version) = true
-failed_in was (ping id) = was
-failed_in was (pong id) = was
-failed_in was (nosub id fault) = was
-failed_in was (ready subs) = was
-failed_in was (about m) = was
-failed_in was (finished id fault value) = was
-failed_in was (updated methods) = was
-failed_in was (refused reason offending) = was
-failed_in was unknown = was
+failed_in was _ = was
 
 -- a `ping` is answered with its id
 abbrev pub answers_in : ServerMessage → List (List ℕ)
-answers_in (connected name) = []
-answers_in (failed version) = []
 answers_in (ping id) = client_text (client.pong id) ∷ []
-answers_in (pong id) = []
-answers_in (nosub id fault) = []
-answers_in (ready subs) = []
-answers_in (about m) = []
-answers_in (finished id fault value) = []
-answers_in (updated methods) = []
-answers_in (refused reason offending) = []
-answers_in unknown = []
+answers_in _ = []
 
 abbrev pub turned_from : Option SubState → SubState → List ℕ → Subs → Subs
 turned_from None now id subs = subs
@@ -129,17 +92,9 @@ readied [] subs = subs
 readied (id ∷ ids) subs = readied ids (turned state.Ready id subs)
 
 abbrev pub subs_in : Subs → ServerMessage → Subs
-subs_in subs (connected name) = subs
-subs_in subs (failed version) = subs
-subs_in subs (ping id) = subs
-subs_in subs (pong id) = subs
 subs_in subs (nosub id fault) = turned (ended_by fault) id subs
 subs_in subs (ready ids) = readied ids subs
-subs_in subs (about m) = subs
-subs_in subs (finished id fault value) = subs
-subs_in subs (updated methods) = subs
-subs_in subs (refused reason offending) = subs
-subs_in subs unknown = subs
+subs_in subs _ = subs
 
 -- the rows after a message
 abbrev pub rows_in : Rows → ServerMessage → Rows

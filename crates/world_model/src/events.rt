@@ -21,7 +21,7 @@ pub enum Act {
 }
 
 /// An event.
-#[derive(Debug, Drop)]
+#[derive(Drop)]
 pub enum Event {
     /// A client of this name begins.
     Client {

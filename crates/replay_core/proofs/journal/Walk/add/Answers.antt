@@ -1,10 +1,11 @@
-use Rattle.std.proofs.Common.{map, ◌++◌, ap, ◌∙◌}
+use Rattle.std.proofs.Common.{map, ◌∷◌, ◌++◌, ap, ◌∙◌}
 use Rattle.std.specs.Prelude.{option_map}
 use Rattle.session_model.specs.Texts.{server_text}
 use Rattle.session_model.specs.Out.{about, difference}
 use Rattle.session_model.specs.Journal.{live_after, shown}
 use Rattle.session_core.specs.Sessions.{as_live, text_of_item}
-use Rattle.replay_core.proofs.Journals.{item_texts_are, item_printed}
+use Rattle.world_model.specs.Lines.{value_line, out_line, line_text, item_line}
+use Rattle.replay_core.proofs.Journals.{item_texts_are}
 use Rattle.replay_core.proofs.journal.Walk.add.Goals as goal
 use Rattle.session_core.specs.Laws.{live_ref}
 
@@ -22,4 +23,4 @@ returns-clause-lines c =
     let after_is = c.in_ok-live.ensures ∙ ap (λ l. live_after store.app l item) (live_ref c.as_ref.result old.live c.as_ref.ensures.value) in
     let shown_is = c.in_ok-rows.ensures ∙ ap (shown store.history) (live_ref c.as_ref-2.result c.in_ok-live.live c.as_ref-2.ensures.value) in
     let are = item_texts_are store.app store.history n live (option_map as_live c.in_ok-live.live) item old.shown rows texts c.requires after_is shown_is made in
-    item_printed store.app n store.history live item old.lines c.push_line.new.lines c.push_texts.new.lines _ texts c.in_ok-item_words.ensures are c.in_ok-push_line.ensures c.in_ok-push_texts.ensures
+    c.in_ok-push_item.ensures ∙ ap (λ ts. old.lines ++ map line_text (value_line (item_line item) ∷ map out_line ts)) are

@@ -3,10 +3,9 @@ use Rattle.session_model.specs.Texts.{server_text}
 use Rattle.session_model.specs.Out.{about, difference}
 use Rattle.std.specs.Prelude.{option_map, is_ok, if◌then◌else◌}
 use Rattle.session_core.specs.Sessions.{as_live, text_of_item, with_session}
-use Rattle.session_core.proofs.Items.{item_text_is}
 use Rattle.session_core.proofs.Sessions.{with_item_is, texts_are, stands_after}
 use Rattle.session_core.proofs.session.Session.add.Goals as goal
-use Rattle.session_core.specs.Laws.{live_ref}
+use Rattle.session_core.specs.Laws.{item_text_is, live_ref}
 
 pub returns-clause-added : goal.returns-clause-added
 returns-clause-added c cl =

@@ -1,10 +1,9 @@
 use Rattle.std.proofs.Common.{◌≡◌, ◌∷◌, [], ◌++◌, refl, ap, ◌∙◌}
 use Rattle.std.specs.Prelude.{option_map, option_to_list, is_ok, if◌then◌else◌}
 use Rattle.session_core.specs.Sessions.{as_live, text_of_item, with_session}
-use Rattle.session_core.proofs.Items.{item_text_is}
 use Rattle.session_core.proofs.Sessions.{with_item_is, own_texts, still_stands}
 use Rattle.session_core.proofs.session.Session.add_own.Goals as goal
-use Rattle.session_core.specs.Laws.{live_ref}
+use Rattle.session_core.specs.Laws.{item_text_is, live_ref}
 
 pub returns-clause-added : goal.returns-clause-added
 returns-clause-added c cl =

@@ -1,5 +1,6 @@
 use Rattle.std.proofs.Common.{sym, subst}
-use Rattle.world_model.specs.TakenLaws.{IsQuietTaken, taken_quiet}
+use Rattle.session_model.specs.Journal.{IsQuietTaken}
+use Rattle.session_model.specs.TakenLaws.{taken_quiet}
 use Rattle.session_core.proofs.session.Session.take_in.Goals as goal
 
 pub put_in-requires-clause-quiet : goal.put_in-requires-clause-quiet

@@ -1,4 +1,4 @@
--- What every event keeps of a client and its session.
+-- What every event keeps of a client and its session: the invariant that the laws go by. No contract speaks of it.
 use Rattle.std.specs.Prelude.{◌≡◌, ◌⊎◌, ℕ, List, [], ◌∷◌, ◌++◌, length, Bool, true, false, Option, Some, None}
 use Rattle.std.specs.Map.{keys_of}
 use Rattle.map_model.specs.Maps.{at, IsSorted}

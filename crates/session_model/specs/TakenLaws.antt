@@ -1,24 +1,15 @@
 -- What comes of a text leaves the live subscription, and answers one text.
-use Rattle.std.specs.Prelude.{◌≡◌, ℕ, List, Bool, true, false, cond, not, ◌&&◌, nat_lt, length, Option, Some, None, codes, refl}
+use Rattle.std.specs.Prelude.{ℕ, List, Bool, true, false, cond, not, ◌&&◌, nat_lt, length, Option, Some, None, codes, refl}
 use Rattle.serde_json.specs.Data.{Data}
 use Rattle.serde_json.specs.Read as json
 use Rattle.value_model.specs.Size.{is_name}
 use Rattle.ddp_messages.specs.ClientMessage.{ClientMessage, client_reading}
 use Rattle.ddp_messages.specs.ClientMessage as client
 use Rattle.ddp_messages.specs.Fields.{name_of}
-use Rattle.app_model.specs.App.{App}
 use Rattle.session_model.specs.declared.items.Item.{Item}
 use Rattle.session_model.specs.declared.items.Item.TheVariants as item
-use Rattle.session_model.specs.Journal.{Live, live_after}
-use Rattle.session_model.specs.Answers.{Taken, at_once, to_queue, max_text, refused_for, offending_of, taken_as, taken_named, taken_tree, taken_text}
-
--- the item leaves the live subscription
-abbrev pub keeps_live : Item → Type 0
-keeps_live i = (app : App) (live : Option Live) → live_after app live i ≡ live
-
-abbrev pub IsQuietTaken : Taken → Type 0
-IsQuietTaken (at_once i) = keeps_live i
-IsQuietTaken (to_queue r) = Unit {0}
+use Rattle.session_model.specs.Journal.{keeps_live, IsQuietTaken}
+use Rattle.session_model.specs.Answers.{Taken, max_text, refused_for, offending_of, taken_as, taken_named, taken_tree, taken_text}
 
 quiet_refusal : (reason : List ℕ) (d : Data) → IsQuietTaken (refused_for reason (offending_of d))
 quiet_refusal reason d app live = refl
