@@ -13,6 +13,3 @@ pub use sink::Sink;
 pub use source::{Failed, Source};
 pub use standard::{StdSink, StdSource};
 pub use whole::{ReadAll, WriteAll, read_all, write_all};
-
-#[cfg(test)]
-mod tests;

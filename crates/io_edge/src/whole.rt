@@ -26,6 +26,9 @@ pub enum WriteAll {
     Failed { written: u64 },
 }
 
+// How many bytes are asked for at a time.
+const PIECE: usize = 16384;
+
 /// Reads a source to its end, if it has at most `limit` bytes.
 pub fn read_all<I: Source>(alloc: Global, input: &mut I, limit: u64) -> Result<Bytes, ReadAll>
     ensures all { IfOk result (λ bytes. IfSome (I.left input.old) (λ old. bytes ≡ old)) }
@@ -38,7 +41,7 @@ pub fn read_all<I: Source>(alloc: Global, input: &mut I, limit: u64) -> Result<B
     ensures later { I.faults input.old ≤ I.faults input.new }
 {
     let mut bytes = Vec::new(alloc);
-    let mut piece = [0u8; 1024];
+    let mut piece = [0u8; PIECE];
     while bytes.len() as u64 <= limit {
         let n = match input.read(&mut piece) {
             Ok(n) => n,
