@@ -145,34 +145,48 @@ fn refusal(alloc: Global, fault: MsgFault) -> Result<Text, Fail> {
     }
 }
 
-fn client_text(alloc: Global, message: &FromClient) -> Result<Text, Fail> {
-    Ok(message.text(alloc)?)
+fn client_text(alloc: Global, message: FromClient) -> Result<Text, Fail> {
+    let text = message.text(alloc);
+    drop(message);
+    Ok(text?)
 }
 
 fn client_copy(alloc: Global, message: &FromClient) -> Result<Text, Fail> {
-    let copied = message.copy()?;
-    client_text(alloc, &copied)
+    client_text(alloc, message.copy()?)
+}
+
+fn client_written(alloc: Global, message: FromClient) -> Result<Text, Fail> {
+    let text = client_copy(alloc, &message);
+    drop(message);
+    text
 }
 
 fn client_answer(alloc: Global, input: &Text) -> Result<Text, Fail> {
     match FromClient::read(alloc, input) {
-        Ok(message) => client_copy(alloc, &message),
+        Ok(message) => client_written(alloc, message),
         Err(fault) => refusal(alloc, fault),
     }
 }
 
-fn server_text(alloc: Global, message: &FromServer) -> Result<Text, Fail> {
-    Ok(message.text(alloc)?)
+fn server_text(alloc: Global, message: FromServer) -> Result<Text, Fail> {
+    let text = message.text(alloc);
+    drop(message);
+    Ok(text?)
 }
 
 fn server_copy(alloc: Global, message: &FromServer) -> Result<Text, Fail> {
-    let copied = message.copy()?;
-    server_text(alloc, &copied)
+    server_text(alloc, message.copy()?)
+}
+
+fn server_written(alloc: Global, message: FromServer) -> Result<Text, Fail> {
+    let text = server_copy(alloc, &message);
+    drop(message);
+    text
 }
 
 fn server_answer(alloc: Global, input: &Text) -> Result<Text, Fail> {
     match FromServer::read(alloc, input) {
-        Ok(message) => server_copy(alloc, &message),
+        Ok(message) => server_written(alloc, message),
         Err(fault) => refusal(alloc, fault),
     }
 }
