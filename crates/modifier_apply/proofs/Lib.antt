@@ -1,3 +1,4 @@
+pub mod Additions
 pub mod Front
 pub mod Neighbours
 pub mod Paths

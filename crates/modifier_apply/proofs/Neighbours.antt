@@ -190,7 +190,7 @@ not_new : (added there : Bool) → added ≡ not there → added ≡ false → t
 not_new added true is old = refl
 not_new added false is old = sym old ∙ is
 
-is_new : (added there : Bool) → added ≡ not there → added ≡ true → there ≡ false
+pub is_new : (added there : Bool) → added ≡ not there → added ≡ true → there ≡ false
 is_new added true is new = sym new ∙ is
 is_new added false is new = refl
 

@@ -17,7 +17,7 @@ use Rattle.ejson_value.specs.Key.{name_order}
 use Rattle.ejson_value.specs.Results.{made}
 use Rattle.ejson_value.specs.View.{view}
 use Rattle.modifier_apply.specs.Change.{Edit}
-use Rattle.modifier_apply.specs.Modified.{Outcome, Gives, with_element, put_behind, field_changed, element_changed, changed_at}
+use Rattle.modifier_apply.specs.Modified.{Outcome, Gives, with_field, with_element, put_behind, field_changed, element_changed, changed_at}
 use Rattle.modifier_apply.specs.declared.fault.ApplyFault.{ApplyFault}
 use Rattle.modifier_apply.specs.declared.fault.ApplyFault.TheVariants as fault
 
@@ -33,12 +33,12 @@ put-remove fields name v rising =
     ∙ (ap (λ x. cond (eq_by_cmp text_cmp q name) (Some v) x) (at-remove name_order fields name q rising)
     ∙ (put_over (eq_by_cmp text_cmp q name) v (at text_cmp fields q) ∙ sym (at-put name_order fields name v q))))
 
-pub put_back : (fields removed new : Entries) (name part copied : List ℕ) (v : Val) → HasRisingNames fields →
-    removed ≡ remove fields name → name ≡ part → copied ≡ part → new ≡ put removed copied v → put fields part v ≡ new
-put_back fields removed new name part copied v rising removed_is name_is copied_is new_is =
-    sym (new_is
-    ∙ (ap (λ m. put m copied v) (removed_is ∙ ap (λ n. remove fields n) name_is)
-    ∙ (ap (λ n. put (remove fields part) n v) copied_is ∙ put-remove fields part v rising)))
+-- what is left of a field that was taken out is put back, if anything is
+pub left_put : (fields removed new : Entries) (name part : List ℕ) (left : Option Value) → HasRisingNames fields → removed ≡ remove fields name → name ≡ part → new ≡ unwrap_or (option_map (λ v. put removed part (view v)) left) removed →
+    with_field fields part (option_map view left) ≡ new
+left_put fields removed new name part None rising removed_is name_is new_is = sym (new_is ∙ (removed_is ∙ ap (λ n. remove fields n) name_is))
+left_put fields removed new name part (Some v) rising removed_is name_is new_is =
+    sym (new_is ∙ (ap (λ m. put m part (view v)) (removed_is ∙ ap (λ n. remove fields n) name_is) ∙ put-remove fields part (view v) rising))
 
 pub view_or : (left : Option Value) → view (unwrap_or left shape.Null) ≡ unwrap_or (option_map view left) null
 view_or None = refl

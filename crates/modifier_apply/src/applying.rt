@@ -2,7 +2,7 @@
 ghost use Rattle.std.specs.Prelude.{◌≡◌, ◌<◌, ◌≤◌, ◌++◌, ◌∷◌, [], ◌==◌, ◌&&◌, ◌||◌, ◌-◌, Ok, Some, None, codes, length, replicate, map, option_map, slice_get, slice_set, unwrap_or, IfOk};
 ghost use Rattle.std.specs.List.{list_any};
 ghost use Rattle.value_model.specs.Val.{object, list, text, null, fields_of, vals_of};
-ghost use Rattle.value_model.specs.Doc.{get};
+ghost use Rattle.value_model.specs.Doc.{get, put};
 ghost use Rattle.value_model.specs.Branches.{position_of};
 ghost use Rattle.ejson_value.specs.Results.{made};
 ghost use Rattle.ejson_value.specs.View.{view};
@@ -115,6 +115,19 @@ fn changed_inside(
     }
 }
 
+// The object, out of which the field was taken, with what is left of the field.
+fn with_left(mut fields: Doc, part: &Part, left: Option<Value>) -> Result<Doc, Mem>
+    ensures { IfOk result (λ doc. doc ≡ unwrap_or (option_map (λ v. put fields part.now (view v)) left) fields) }
+{
+    match left {
+        None => Ok(fields),
+        Some(value) => {
+            fields.put(part.name().copy()?, value)?;
+            Ok(fields)
+        }
+    }
+}
+
 // The object with the change made in a field.
 #[cycle(walking)]
 fn field_changed(
@@ -129,11 +142,7 @@ fn field_changed(
     fields.known();
     let there = fields.remove(part.name());
     let left = changed_at(alloc, operator, rest, there)?;
-    match left {
-        None => {}
-        Some(value) => fields.put(part.name().copy()?, value)?,
-    }
-    Ok(fields)
+    Ok(with_left(fields, part, left)?)
 }
 
 // The list with the change made in an element.

@@ -25,11 +25,11 @@ fn sum(amount: Whole, number: Whole) -> Result<Option<Value>, ApplyFault>
     }
 }
 
-fn incremented(amount: Whole, value: &Value) -> Result<Option<Value>, ApplyFault>
-    ensures { Gives (λ o. option_map view o) result (to_number amount (view value.now)) }
+fn incremented(amount: Whole, value: Value) -> Result<Option<Value>, ApplyFault>
+    ensures { Gives (λ o. option_map view o) result (to_number amount (view value)) }
 {
     match value {
-        Value::Int(number) => sum(amount, *number),
+        Value::Int(number) => sum(amount, number),
         _ => Err(ApplyFault::NotNumber),
     }
 }
@@ -157,9 +157,15 @@ fn edited(alloc: Global, operator: &Operator, value: Value) -> Result<Option<Val
     ensures { Gives (λ o. option_map view o) result (edited (edit_view operator.now) (view value)) }
 {
     match operator {
-        Operator::Set(operand) => Ok(Some(copy(operand)?)),
-        Operator::Unset => Ok(None),
-        Operator::Increment(amount) => incremented(*amount, &value),
+        Operator::Set(operand) => {
+            drop(value);
+            Ok(Some(copy(operand)?))
+        }
+        Operator::Unset => {
+            drop(value);
+            Ok(None)
+        }
+        Operator::Increment(amount) => incremented(*amount, value),
         Operator::Min(operand) => Ok(Some(least(operand, value)?)),
         Operator::Max(operand) => Ok(Some(greatest(operand, value)?)),
         Operator::Push(_)

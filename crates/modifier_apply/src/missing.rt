@@ -90,9 +90,10 @@ fn missing<'a>(alloc: Global, items: &Items, operands: &'a Items) -> Result<Vec<
     let mut seen = in_order(alloc, items)?;
     let mut missing = Vec::new(alloc);
     for value in operands.as_slice() {
-        if seen.insert(ByOrder { value })? {
-            missing.push(ByOrder { value })?;
+        if !seen.insert(ByOrder { value })? {
+            continue;
         }
+        missing.push(ByOrder { value })?;
     }
     Ok(missing)
 }

@@ -9,9 +9,8 @@ use Rattle.ejson_value.specs.View.{view}
 use Rattle.ejson_value.specs.Results.{made}
 use Rattle.modifier_apply.specs.View.{edit_view}
 use Rattle.modifier_apply.specs.Modified.{with_field, field_changed, element_changed, changed_at}
-use Rattle.modifier_apply.proofs.Walks.{put_back, view_or, element_put, element_behind, passed_on, object_changed, list_changed}
+use Rattle.modifier_apply.proofs.Walks.{left_put, view_or, element_put, element_behind, passed_on, object_changed, list_changed}
 use Rattle.modifier_apply.proofs.applying.+walking.Goals as goal
-use Rattle.modifier_apply.proofs.applying.+walking.Goals.{field_changed-in-None, field_changed-in-Some+in_ok-copy-in-Some+in_ok-put-in-Some}
 
 pub changed_at_place-returns-in_ok-left : goal.changed_at_place-returns-in_ok-left
 changed_at_place-returns-in_ok-left t c =
@@ -66,14 +65,5 @@ field_changed-returns t c =
     let rest = c.args.rest.now in
     let fields = c.args.fields in
     let part = c.args.part.now in
-    let changed = ap (λ o. changed_at e rest o) (ap (λ n. get fields n) (sym c.name.ensures) ∙ sym c.remove-there.ensures.value) ∙ c.in_ok-left.ensures in
-    ap (λ o. made (λ left. with_field fields part left) o) changed
-    ∙ elim c.match-left.branch [
-      | field_changed-in-None w ↦
-          ap (λ (l : Option Value). Ok (with_field fields part (option_map view l))) w.in-None.is
-          ∙ ap (λ es. Ok es) (sym (w.fields-is ∙ (c.remove-there.ensures.removed ∙ ap (λ n. remove fields n) c.name.ensures)))
-      | field_changed-in-Some+in_ok-copy-in-Some+in_ok-put-in-Some w ↦
-          ap (λ (l : Option Value). Ok (with_field fields part (option_map view l))) w.in-Some.is
-          ∙ ap (λ es. Ok es) (put_back fields c.remove-there.new.self c.match-left.fields c.name.result.now part w.in_ok-copy-in-Some.field-0 (view w.in-Some.value) c.known.ensures.names
-          c.remove-there.ensures.removed c.name.ensures (w.in_ok-copy-in-Some.ensures ∙ w.name-in-Some.ensures) (w.fields-is ∙ w.in_ok-put-in-Some.ensures.ok))
-    ]
+    ap (λ o. made (λ left. with_field fields part left) o) (ap (λ o. changed_at e rest o) (ap (λ n. get fields n) (sym c.name.ensures) ∙ sym c.remove-there.ensures.value) ∙ c.in_ok-left.ensures)
+    ∙ ap (λ es. Ok es) (left_put fields c.remove-there.new.self c.in_ok-with_left.field-0 c.name.result.now part c.in_ok-left.left c.known.ensures.names c.remove-there.ensures.removed c.name.ensures c.in_ok-with_left.ensures)
