@@ -1,5 +1,5 @@
 -- What is kept of a document after a subscription's news.
-use Rattle.std.proofs.Common.{◌≡◌, ℕ, ◌==◌, Bool, true, false, cond, not, ◌||◌, List, [], ◌∷◌, ◌++◌, filter, Option, Some, None, option_map, option_and_then, option_copied, is_some, unwrap_or, refl, sym, ap, subst, ◌∙◌}
+use Rattle.std.proofs.Common.{◌≡◌, ℕ, ◌==◌, Bool, true, false, cond, not, ◌||◌, List, [], ◌∷◌, ◌++◌, filter, Option, Some, None, option_map, option_and_then, option_copied, is_some, unwrap_or, refl, sym, ap, subst, ◌∙◌, true≢false}
 use Rattle.std.specs.Option.{option_or}
 use Rattle.std.specs.Borrow.{Bor}
 use Rattle.std.specs.Ordering.{eq_by_cmp, is_eq}
@@ -8,20 +8,17 @@ use Rattle.std.specs.BTreeMap.{insert_entry}
 use Rattle.std.specs.declared.cmp.Ordering.{Ordering}
 use Rattle.std.proofs.lemmas.List.{map-append}
 use Rattle.map_model.specs.Maps.{at, IsSorted, filter_map_entries}
-use Rattle.map_model.specs.MapLaws.{at-put, key_is, at-filter_map_entries}
+use Rattle.map_model.specs.MapLaws.{at-put, key_is, at-union, sorted-union, at-filter_map_entries}
 use Rattle.map_model.specs.Orders.{IsAbove}
 use Rattle.map_model.specs.OrderLaws.{IsAbove-from_sorted}
-use Rattle.map_model.specs.Differences.{is_there}
 use Rattle.value_model.specs.Val.{Val, Entries}
 use Rattle.value_model.specs.Order.{text_cmp}
-use Rattle.merge_model.specs.Kept.{has, claimed, placed, claims_of, merged_fields, first_value}
-use Rattle.merge_model.specs.Box.{unless_empty}
+use Rattle.value_model.specs.OrderLaws.{compare_is_eq}
+use Rattle.merge_model.specs.Kept.{has, is_empty, claimed, give, placed, claims_of, merged_fields, first_value}
 use Rattle.merge_model.specs.PublishingLaws.{same_sub, apart, differ}
 use Rattle.merge_model.specs.CellLaws.{claimed-placed}
-use Rattle.ejson_value.specs.declared.value.Value.{Value}
-use Rattle.ejson_value.specs.View.{view}
-use Rattle.merge_box.specs.Names.{name_order}
-use Rattle.merge_box.specs.Held.{KeptDoc, value_in, same_value, IsHeld, IsKeptAfter}
+use Rattle.ejson_value.specs.Key.{name_order}
+use Rattle.merge_box.specs.Held.{KeptDoc, value_in, same_option, keeps, changed_claims, with_change, IsHeld, IsKeptAfter, IsChange}
 
 -- who publishes afterwards
 has-append : (s : ℕ) (ps qs : List ℕ) → has s (ps ++ qs) ≡ (has s ps || has s qs)
@@ -58,7 +55,7 @@ at-above : {K X : Type 0} (R : K → K → Ordering) (es : List (K × X)) (k : K
 at-above R [] k h = refl
 at-above R (e ∷ es) k h = ap (λ r. cond (is_eq r) (Some e.1) (at R es k)) h.0 ∙ at-above R es k h.1
 
-at-push : {K X : Type 0} (R : K → K → Ordering) (es : List (K × X)) (e : K × X) (k : K) → at R (es ++ e ∷ []) k ≡ option_or (at R es k) (cond (eq_by_cmp R k e.0) (Some e.1) None)
+pub at-push : {K X : Type 0} (R : K → K → Ordering) (es : List (K × X)) (e : K × X) (k : K) → at R (es ++ e ∷ []) k ≡ option_or (at R es k) (cond (eq_by_cmp R k e.0) (Some e.1) None)
 at-push R [] e k = refl
 at-push R (d ∷ es) e k =
     let rest = at-push R es e k in
@@ -101,39 +98,82 @@ module _ (sub : ℕ) (fields before made : List (List ℕ × List (ℕ × Val)))
       ] refl
       ∙ ap (λ x. cond (is_some (at text_cmp fields f)) (at text_cmp before f) (option_or (claim_of sub x) (at text_cmp before f))) (sym (at-push text_cmp done (name, v) f))
 
-or_empty : {X : Type 0} (xs : List X) → unwrap_or (unless_empty xs) [] ≡ xs
-or_empty [] = refl
-or_empty (x ∷ xs) = refl
+-- a subscription that has no claim loses none
+pub no_claim : (sub : ℕ) (claims : List (ℕ × Val)) → is_some (claimed sub claims) ≡ false → placed sub None claims ≡ claims
+no_claim sub [] e = refl
+no_claim sub (c ∷ claims) e =
+    let rest = no_claim sub claims in
+    elim (sub == c.0) as (λ b. is_some (cond b (Some c.1) (claimed sub claims)) ≡ false → cond (not b) (c ∷ placed sub None claims) (placed sub None claims) ≡ c ∷ claims) [
+      | true ↦ λ h. absurd (true≢false h)
+      | false ↦ λ h. ap (λ l. c ∷ l) (rest h)
+    ] e
 
-abbrev pub fields_placed : ℕ → Option Entries → List (List ℕ × List (ℕ × Val)) → List (List ℕ × List (ℕ × Val))
-fields_placed sub doc fields = filter_map_entries (λ f claims. unless_empty (placed sub (value_in doc f) claims)) fields
+value_is : (v w : Val) → Some v ≡ Some w → w ≡ v
+value_is v w e = cc
 
-claims_none : (sub : ℕ) (x : Option (List (ℕ × Val))) → unwrap_or (option_and_then (λ claims. unless_empty (placed sub None claims)) x) [] ≡ placed sub None (unwrap_or x [])
+-- and one that is given what it has keeps it
+give_same : (claims : List (ℕ × Val)) (sub : ℕ) (v : Val) → claimed sub claims ≡ Some v → give claims sub v ≡ claims
+give_same [] sub v e = cc
+give_same (c ∷ claims) sub v e =
+    let rest = give_same claims sub v in
+    elim (sub == c.0) as (λ b. cond b (Some c.1) (claimed sub claims) ≡ Some v → cond b ((c.0, v) ∷ claims) (c ∷ give claims sub v) ≡ c ∷ claims) [
+      | true ↦ λ same. ap (λ w. (c.0, w) ∷ claims) (value_is c.1 v same)
+      | false ↦ λ h. ap (λ l. c ∷ l) (rest h)
+    ] e
+
+kept_as : (sub : ℕ) (claims : List (ℕ × Val)) (x w : Option Val) → claimed sub claims ≡ x → same_option x w ≡ true → placed sub w claims ≡ claims
+kept_as sub claims None None e h = no_claim sub claims (ap is_some e)
+kept_as sub claims None (Some w) e h = absurd (true≢false (sym h))
+kept_as sub claims (Some v) None e h = absurd (true≢false (sym h))
+kept_as sub claims (Some v) (Some w) e h = give_same claims sub w (e ∙ ap Some ((compare_is_eq v w).0 h))
+
+-- where nothing changes, the claims are what they would be
+changed_is : (sub : ℕ) (w : Option Val) (claims : List (ℕ × Val)) → unwrap_or (changed_claims sub w claims) claims ≡ placed sub w claims
+changed_is sub w claims = elim (keeps sub w claims) as (λ b. keeps sub w claims ≡ b → unwrap_or (cond b None (Some (placed sub w claims))) claims ≡ placed sub w claims) [
+  | true ↦ λ h. sym (kept_as sub claims (claimed sub claims) w refl h)
+  | false ↦ λ _. refl
+] refl
+
+abbrev pub fields_changed : ℕ → Option Entries → List (List ℕ × List (ℕ × Val)) → List (List ℕ × List (ℕ × Val))
+fields_changed sub doc fields = filter_map_entries (λ f claims. changed_claims sub (value_in doc f) claims) fields
+
+claims_none : (sub : ℕ) (x : Option (List (ℕ × Val))) → unwrap_or (option_and_then (λ claims. changed_claims sub None claims) x) (unwrap_or x []) ≡ placed sub None (unwrap_or x [])
 claims_none sub None = refl
-claims_none sub (Some claims) = or_empty (placed sub None claims)
+claims_none sub (Some claims) = changed_is sub None claims
 
-claims_some : (sub : ℕ) (w : Option Val) (x : Option (List (ℕ × Val))) (made : Option (List (ℕ × Val))) → made ≡ option_and_then (λ claims. unless_empty (placed sub w claims)) x
-    → unwrap_or (cond (is_some x) made (option_or (claim_of sub w) made)) [] ≡ placed sub w (unwrap_or x [])
+claims_some : (sub : ℕ) (w : Option Val) (x : Option (List (ℕ × Val))) (made : Option (List (ℕ × Val))) → made ≡ option_and_then (λ claims. changed_claims sub w claims) x
+    → unwrap_or (cond (is_some x) made (option_or (claim_of sub w) made)) (unwrap_or x []) ≡ placed sub w (unwrap_or x [])
 claims_some sub None None made e = ap (λ m. unwrap_or m []) e
 claims_some sub (Some v) None made e = refl
-claims_some sub w (Some claims) made e = ap (λ m. unwrap_or m []) e ∙ or_empty (placed sub w claims)
+claims_some sub w (Some claims) made e = ap (λ m. unwrap_or m claims) e ∙ changed_is sub w claims
 
 -- the claims on a field once no document is published
-pub claims_without : (sub : ℕ) (fields made : List (List ℕ × List (ℕ × Val))) (f : List ℕ) → IsSorted text_cmp fields → made ≡ fields_placed sub None fields
-    → unwrap_or (at text_cmp made f) [] ≡ placed sub None (unwrap_or (at text_cmp fields f) [])
-claims_without sub fields made f s is = ap (λ m. unwrap_or (at text_cmp m f) []) is ∙ ap (λ x. unwrap_or x []) (at-filter_map_entries name_order (λ q claims. unless_empty (placed sub None claims)) fields f s) ∙ claims_none sub (at text_cmp fields f)
+pub claims_without : (sub : ℕ) (fields made : List (List ℕ × List (ℕ × Val))) (f : List ℕ) → IsSorted text_cmp fields → made ≡ fields_changed sub None fields
+    → unwrap_or (at text_cmp made f) (unwrap_or (at text_cmp fields f) []) ≡ placed sub None (unwrap_or (at text_cmp fields f) [])
+claims_without sub fields made f s is =
+    ap (λ m. unwrap_or (at text_cmp m f) (unwrap_or (at text_cmp fields f) [])) is
+    ∙ ap (λ x. unwrap_or x (unwrap_or (at text_cmp fields f) [])) (at-filter_map_entries name_order (λ q claims. changed_claims sub None claims) fields f s)
+    ∙ claims_none sub (at text_cmp fields f)
 
 -- and once this one is
-pub claims_with : (sub : ℕ) (doc : Entries) (fields made all : List (List ℕ × List (ℕ × Val))) (f : List ℕ) → IsSorted text_cmp fields → made ≡ fields_placed sub (Some doc) fields
+pub claims_with : (sub : ℕ) (doc : Entries) (fields made all : List (List ℕ × List (ℕ × Val))) (f : List ℕ) → IsSorted text_cmp fields → made ≡ fields_changed sub (Some doc) fields
     → at text_cmp all f ≡ cond (is_some (at text_cmp fields f)) (at text_cmp made f) (option_or (claim_of sub (at text_cmp doc f)) (at text_cmp made f))
-    → unwrap_or (at text_cmp all f) [] ≡ placed sub (at text_cmp doc f) (unwrap_or (at text_cmp fields f) [])
+    → unwrap_or (at text_cmp all f) (unwrap_or (at text_cmp fields f) []) ≡ placed sub (at text_cmp doc f) (unwrap_or (at text_cmp fields f) [])
 claims_with sub doc fields made all f s is more =
-    ap (λ x. unwrap_or x []) more
+    ap (λ x. unwrap_or x (unwrap_or (at text_cmp fields f) [])) more
     ∙ claims_some sub (at text_cmp doc f) (at text_cmp fields f) (at text_cmp made f)
-    (ap (λ m. at text_cmp m f) is ∙ at-filter_map_entries name_order (λ q claims. unless_empty (placed sub (value_in (Some doc) q) claims)) fields f s)
+    (ap (λ m. at text_cmp m f) is ∙ at-filter_map_entries name_order (λ q claims. changed_claims sub (value_in (Some doc) q) claims) fields f s)
+
+or_unwrap : {X : Type 0} (x y : Option X) (d : X) → unwrap_or (option_or x y) d ≡ unwrap_or x (unwrap_or y d)
+or_unwrap None y d = refl
+or_unwrap (Some v) y d = refl
+
+-- the claims on a field after a change
+pub claims-with_change : (old change : KeptDoc) (f : List ℕ) → claims_of text_cmp (with_change old change) f ≡ unwrap_or (at text_cmp change.fields f) (claims_of text_cmp old f)
+claims-with_change old change f = ap (λ x. unwrap_or x []) (at-union name_order change.fields old.fields f) ∙ or_unwrap (at text_cmp change.fields f) (at text_cmp old.fields f) []
 
 -- each subscription with a claim publishes the document, afterwards too
-pub held_after : (sub : ℕ) (doc : Option Entries) (old new : KeptDoc) → IsHeld old → IsKeptAfter sub doc old new → IsSorted text_cmp new.fields → IsHeld new
+held_after : (sub : ℕ) (doc : Option Entries) (old new : KeptDoc) → IsHeld old → IsKeptAfter sub doc old new → IsSorted text_cmp new.fields → IsHeld new
 held_after sub doc old new held after sorted = record {
   by_name = sorted;
   published = λ f s some.
@@ -148,27 +188,46 @@ held_after sub doc old new held after sorted = record {
     there None f e = e
     there (Some d) f e = refl
 
+-- what is made of the publishers and of the fields is the change
+pub change_is : (sub : ℕ) (doc : Option Entries) (old change : KeptDoc) → IsHeld old → IsSorted text_cmp change.fields → change.publishers ≡ filter (λ p. not (p == sub)) old.publishers ++ cond (is_some doc) (sub ∷ []) []
+    → ((f : List ℕ) → unwrap_or (at text_cmp change.fields f) (claims_of text_cmp old f) ≡ placed sub (value_in doc f) (claims_of text_cmp old f)) → IsChange sub doc old change
+change_is sub doc old change was sorted publishers claims = record { was = was; after = after; held = held_after sub doc old (with_change old change) was after (sorted-union name_order change.fields old.fields was.by_name) }
+  where
+    after : IsKeptAfter sub doc old (with_change old change)
+    after = record {
+      publishers = λ s. has_after sub s (is_some doc) old.publishers change.publishers publishers;
+      claims = λ f. claims-with_change old change f ∙ claims f;
+    }
+
+-- a change is itself kept whole
+pub held_change : (old change : KeptDoc) → IsHeld (with_change old change) → IsSorted text_cmp change.fields → IsHeld change
+held_change old change held sorted = record { by_name = sorted; published = λ f s some. there f s (at text_cmp change.fields f) refl some }
+  where
+    there : (f : List ℕ) (s : ℕ) (x : Option (List (ℕ × Val))) → at text_cmp change.fields f ≡ x → is_some (claimed s (unwrap_or x [])) ≡ true → has s change.publishers ≡ true
+    there f s None e h = absurd (true≢false (sym h))
+    there f s (Some claims) e h = held.published f s (ap (λ cs. is_some (claimed s cs)) (claims-with_change old change f ∙ ap (λ x. unwrap_or x (claims_of text_cmp old f)) e) ∙ h)
+
 -- what the client sees of a field
 pub at-merged_fields : (fields : List (List ℕ × List (ℕ × Val))) (name : List ℕ) (found : Option (List (ℕ × Val))) → IsSorted text_cmp fields → at text_cmp fields name ≡ found
     → at text_cmp (merged_fields fields) name ≡ option_and_then first_value found
 at-merged_fields fields name found s is = at-filter_map_entries name_order (λ f claims. first_value claims) fields name s ∙ ap (option_and_then first_value) is
 
-pub shown_at : (fields : List (List ℕ × List (ℕ × Val))) (name : List ℕ) (v : Val) (found : Option (List (ℕ × Val))) → IsSorted text_cmp fields → at text_cmp fields name ≡ found
-    → is_there text_cmp same_value v (at text_cmp (merged_fields fields) name) ≡ is_there text_cmp same_value v (option_and_then first_value found)
-shown_at fields name v found s is = ap (is_there text_cmp same_value v) (at-merged_fields fields name found s is)
-
-pub is_some-viewed : (x : Option (Bor Value)) → is_some x ≡ is_some (option_map (λ v. view v.now) x)
-is_some-viewed None = refl
-is_some-viewed (Some v) = refl
-
--- what is made of the publishers and of the fields is what is kept after the news
-pub kept_after_of : (sub : ℕ) (doc : Option Entries) (old new : KeptDoc) → new.publishers ≡ filter (λ p. not (p == sub)) old.publishers ++ cond (is_some doc) (sub ∷ []) []
-    → ((f : List ℕ) → unwrap_or (at text_cmp new.fields f) [] ≡ placed sub (value_in doc f) (unwrap_or (at text_cmp old.fields f) [])) → IsKeptAfter sub doc old new
-kept_after_of sub doc old new publishers claims = record {
-  publishers = λ s. has_after sub s (is_some doc) old.publishers new.publishers publishers;
-  claims = claims;
-}
-
 pub is_some-copied : {T : Type 0} (x : Option (Bor T)) → is_some x ≡ is_some (option_copied x)
 is_some-copied None = refl
 is_some-copied (Some v) = refl
+
+-- places for the names so far, and for the next one
+pub room_next : (done fields grown : List (List ℕ × List (ℕ × Val))) (name : List ℕ) (claims : List (ℕ × Val)) → ((f : List ℕ) → is_some (at text_cmp done f) ≡ true → is_some (at text_cmp fields f) ≡ true) → ((f : List ℕ) → is_some (at text_cmp fields f) ≡ true → is_some (at text_cmp grown f) ≡ true) → is_some (at text_cmp grown name) ≡ true
+    → (f : List ℕ) → is_some (at text_cmp (done ++ (name, claims) ∷ []) f) ≡ true → is_some (at text_cmp grown f) ≡ true
+room_next done fields grown name claims before grows here f some = step (at text_cmp done f) refl (sym (ap is_some (at-push text_cmp done (name, claims) f)) ∙ some)
+  where
+    step : (x : Option (List (ℕ × Val))) → at text_cmp done f ≡ x → is_some (option_or x (cond (eq_by_cmp text_cmp f name) (Some claims) None)) ≡ true → is_some (at text_cmp grown f) ≡ true
+    step (Some v) e h = grows f (before f (ap is_some e))
+    step None e h = elim (eq_by_cmp text_cmp f name) as (λ b. eq_by_cmp text_cmp f name ≡ b → is_some (cond b (Some claims) None) ≡ true → is_some (at text_cmp grown f) ≡ true) [
+      | true ↦ λ t _. ap (λ q. is_some (at text_cmp grown q)) (key_is name_order f name t) ∙ here
+      | false ↦ λ _ no. absurd (true≢false (sym no))
+    ] refl h
+
+pub none_of : {X : Type 0} (xs : List X) → is_empty xs ≡ true → [] ≡ xs
+none_of [] e = refl
+none_of (x ∷ xs) e = absurd (true≢false (sym e))

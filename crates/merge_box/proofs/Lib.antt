@@ -1,5 +1,9 @@
-pub mod Walks
+pub mod Counting
 pub mod KeptAfter
 pub mod Listing
-pub mod Plans
 pub mod MakePlan
+pub mod Places
+pub mod Plans
+pub mod Puts
+pub mod Telling
+pub mod Walks

@@ -1,40 +1,108 @@
--- What is planned for each document is a plan of the call.
-use Rattle.std.proofs.Common.{◌≡◌, ℕ, ◌==◌, Bool, true, false, cond, not, List, [], ◌∷◌, Option, Some, None, is_some, IsSome, IfSome, option_and_then, unwrap_or, Result, Ok, Err, IfOk, refl, sym, ap, ap₂, subst, ◌∙◌, true≢false}
+-- A plan: what it leaves of a box, and that it does what the call says.
+use Rattle.std.proofs.Common.{◌≡◌, ℕ, ◌==◌, Bool, true, false, cond, List, [], ◌∷◌, Option, Some, None, is_some, IsSome, IfSome, option_and_then, Result, Ok, Err, IfOk, OnErr, refl, sym, ap, ap₂, subst, subst₂, ◌∙◌, true≢false}
 use Rattle.std.specs.Ordering.{is_eq}
 use Rattle.map_model.specs.Maps.{at, IsSorted, filter_map_entries}
-use Rattle.map_model.specs.MapLaws.{at-filter_map_entries, sorted-filter_map_entries, sorted-nil}
-use Rattle.map_model.specs.Differences.{Step, between}
-use Rattle.map_model.specs.DifferenceLaws.{between_itself}
-use Rattle.value_model.specs.Val.{Val, Entries}
+use Rattle.map_model.specs.MapLaws.{at-filter_map_entries, sorted-nil, sorted-filter_map_entries, sorted-union}
+use Rattle.map_model.specs.Differences.{IsDiff, between, diff}
+use Rattle.map_model.specs.DifferenceLaws.{between_itself, one_diff, diff_is}
+use Rattle.value_model.specs.Val.{Entries}
 use Rattle.value_model.specs.Order.{text_cmp}
 use Rattle.value_model.specs.OrderLaws.{compare_itself}
-use Rattle.merge_model.specs.Publishing.{apply, drop_sub, last_news}
+use Rattle.merge_model.specs.Publishing.{Call, apply, drop_sub, last_news, shown, shown_since}
 use Rattle.merge_model.specs.PublishingLaws.{same_sub}
-use Rattle.merge_model.specs.Kept.{has, is_empty, claimed, placed, first_value, merged_doc, kept_at, publishers_at, there_after, claims_of, claims_after}
-use Rattle.merge_model.specs.KeptLaws.{at-merged}
+use Rattle.merge_model.specs.Kept.{has, is_empty, claimed, placed, first_value, merged, merged_doc, kept_at, publishers_at, there_after, claims_of, claims_after, IsInOrder}
+use Rattle.merge_model.specs.MergeLaws.{one_merge}
+use Rattle.merge_model.specs.KeptLaws.{at-merged, merged_is, stands_after}
 use Rattle.ejson_value.specs.declared.key.Key.{Key}
-use Rattle.ejson_value.specs.Key.{key_cmp, key_order}
-use Rattle.merge_box.specs.Names.{name_order}
-use Rattle.merge_box.specs.Held.{KeptDoc, same_value, IsHeld}
-use Rattle.merge_box.specs.Index.{is_listed}
-use Rattle.merge_box.specs.State.{KeptDocs, BoxState, PlanState, KeepsSame, planned, IsPlannedAt, IsPublished, Tells, IsPlan, IsBox, IsWhole}
-use Rattle.merge_box.specs.Committed.{kept_at-planned}
+use Rattle.ejson_value.specs.Key.{name_order, key_cmp, key_order}
+use Rattle.merge_box.specs.Held.{KeptDoc, same_value, with_change, IsHeld, SameDoc}
+use Rattle.merge_box.specs.Index.{Lists, is_listed}
+use Rattle.merge_box.specs.State.{KeptDocs, Told, BoxState, IsBoxAfter, Tells, Answers, IsPlan, IsBox}
+use Rattle.merge_box.specs.Inside.{docs_of, carried_out, with_change_if, after_at, IsGrown, IsInside, IsPlannedAt, IsPublished}
+use Rattle.merge_box.proofs.KeptAfter.{no_claim}
+use Rattle.merge_box.proofs.Places.{same_change, held_same, docs_same, kept_same, held_docs, sorted-docs_of, merged_docs, kept_at-carried_out, sorted-carried_out, after_same}
+
+-- ---- the box inside
+module _ (kept changes : KeptDocs) (lists : Lists) (inside : IsInside kept changes lists) where
+  after_held : (k : Key) (x : Option KeptDoc) → at key_cmp changes k ≡ x → IsHeld (with_change_if x (kept_at key_cmp kept k))
+  after_held k None e = inside.held k
+  after_held k (Some change) e = (inside.ready k change e).held
+
+  pub carried_held : (k : Key) → IsHeld (kept_at key_cmp (carried_out changes kept) k)
+  carried_held k = subst IsHeld (sym (kept_at-carried_out changes kept k inside.changes_by_key)) (after_held k (at key_cmp changes k) refl)
+
+  pub is_box : IsBox (docs_of kept)
+  is_box = record { by_key = sorted-docs_of kept inside.by_key; held = λ k. held_docs kept k inside.by_key (inside.held k) }
+
+  pub will_be_box : IsBox (docs_of (carried_out changes kept))
+  will_be_box = record {
+    by_key = sorted-docs_of (carried_out changes kept) (sorted-carried_out changes kept inside.by_key);
+    held = λ k. held_docs (carried_out changes kept) k (sorted-carried_out changes kept inside.by_key) (carried_held k);
+  }
+
+  -- more places
+  module _ (grown : KeptDocs) (more : Lists) (grows : IsGrown kept grown) (sorted : IsSorted key_cmp grown) (listed : (s : ℕ) (k : Key) → is_listed lists s k ≡ true → is_listed more s k ≡ true) where
+    pub inside_grown : IsInside grown changes more
+    inside_grown = record {
+      by_key = sorted;
+      held = λ k. (grows.docs k).held (inside.held k);
+      listed = λ k s h. listed s k (inside.listed k s (ap (has s) (sym (grows.docs k).same.publishers) ∙ h));
+      changes_by_key = inside.changes_by_key;
+      ready = λ k change is.
+          let was = inside.ready k change is in
+          let e = kept_at key_cmp kept k in
+          let g = kept_at key_cmp grown k in
+          record {
+            place = grows.keys k was.place;
+            names = λ f h. (grows.docs k).names f (was.names f h);
+            held = held_same (with_change e change) (with_change g change) (same_change e g change (grows.docs k).same) (sorted-union name_order change.fields g.fields ((grows.docs k).held (inside.held k)).by_name) was.held;
+          };
+      will_list = λ k change s is h. listed s k (inside.will_list k change s is h);
+    }
+
+    pub kept_grown : docs_of grown ≡ docs_of kept
+    kept_grown = docs_same kept grown inside.by_key sorted inside.held (λ k. (grows.docs k).held (inside.held k)) (λ k. (grows.docs k).same)
+
+pub planned_grown : (kept changes : KeptDocs) (lists : Lists) (inside : IsInside kept changes lists) (grown : KeptDocs) (more : Lists) → IsGrown kept grown → IsInside grown changes more → docs_of (carried_out changes grown) ≡ docs_of (carried_out changes kept)
+planned_grown kept changes lists inside grown more grows now =
+    docs_same (carried_out changes kept) (carried_out changes grown) (sorted-carried_out changes kept inside.by_key) (sorted-carried_out changes grown now.by_key)
+    (carried_held kept changes lists inside) (carried_held grown changes more now)
+    (λ k. subst₂ SameDoc (sym (kept_at-carried_out changes kept k inside.changes_by_key)) (sym (kept_at-carried_out changes grown k inside.changes_by_key))
+        (after_same (at key_cmp changes k) (kept_at key_cmp kept k) (kept_at key_cmp grown k) (grows.docs k).same))
+
+-- a new plan
+module _ (sub : ℕ) (news : List (Key × Option Entries)) (kept before changes : KeptDocs) (lists : Lists) (inside : IsInside kept before lists) (sorted : IsSorted key_cmp changes)
+    (planned : (k : Key) → IsPlannedAt sub (last_news key_cmp news k) (kept_at key_cmp kept k) (at key_cmp changes k))
+    (room : (k : Key) → IsSome (at key_cmp changes k) → IsSome (at key_cmp kept k))
+    (here : (k : Key) → IsPublished (last_news key_cmp news k) → is_listed lists sub k ≡ true) where
+  plan_at : (k : Key) (change : KeptDoc) → at key_cmp changes k ≡ Some change → IsPlannedAt sub (last_news key_cmp news k) (kept_at key_cmp kept k) (Some change)
+  plan_at k change is = subst (IsPlannedAt sub (last_news key_cmp news k) (kept_at key_cmp kept k)) is (planned k)
+
+  lists_it : (w : Option (Option Entries)) (k : Key) (change : KeptDoc) (s : ℕ) → IsPlannedAt sub w (kept_at key_cmp kept k) (Some change) → (IsPublished w → is_listed lists sub k ≡ true) → has s change.publishers ≡ true → is_listed lists s k ≡ true
+  lists_it w k change s p listed there = elim (s == sub) as (λ b. (s == sub) ≡ b → cond b (is_some p.0) (has s (publishers_at key_cmp kept k)) ≡ true → is_listed lists s k ≡ true) [
+    | true ↦ λ t some. ap (λ r. is_listed lists r k) (same_sub s sub t) ∙ listed (subst IsPublished (sym p.1) some)
+    | false ↦ λ _ was. inside.listed k s was
+  ] refl (sym (p.2.after.publishers s) ∙ there)
+
+  pub inside_planned : IsInside kept changes lists
+  inside_planned = record {
+    by_key = inside.by_key;
+    held = inside.held;
+    listed = inside.listed;
+    changes_by_key = sorted;
+    ready = λ k change is. let p = plan_at k change is in record { place = room k (ap is_some is); names = p.3; held = p.2.held };
+    will_list = λ k change s is there. lists_it (last_news key_cmp news k) k change s (plan_at k change is) (here k) there;
+  }
 
 -- one document of a plan
 module _ (sub : ℕ) (w : Option (Option Entries)) (old : KeptDoc) where
-  planned_publishers : (x : Option KeptDoc) → IsPlannedAt sub w old x → (s : ℕ) → has s (unwrap_or x old).publishers ≡ there_after sub w s (has s old.publishers)
+  planned_publishers : (x : Option KeptDoc) → IsPlannedAt sub w old x → (s : ℕ) → has s (with_change_if x old).publishers ≡ there_after sub w s (has s old.publishers)
   planned_publishers None p s = ap (λ v. there_after sub v s (has s old.publishers)) (sym p)
-  planned_publishers (Some e) p s = p.2.publishers s ∙ ap (λ v. there_after sub v s (has s old.publishers)) (sym p.1)
+  planned_publishers (Some change) p s = p.2.after.publishers s ∙ ap (λ v. there_after sub v s (has s old.publishers)) (sym p.1)
 
-  planned_claims : (x : Option KeptDoc) → IsPlannedAt sub w old x → (f : List ℕ) → claims_of text_cmp (unwrap_or x old) f ≡ claims_after text_cmp sub w f (claims_of text_cmp old f)
+  planned_claims : (x : Option KeptDoc) → IsPlannedAt sub w old x → (f : List ℕ) → claims_of text_cmp (with_change_if x old) f ≡ claims_after text_cmp sub w f (claims_of text_cmp old f)
   planned_claims None p f = ap (λ v. claims_after text_cmp sub v f (claims_of text_cmp old f)) (sym p)
-  planned_claims (Some e) p f = p.2.claims f ∙ ap (λ v. claims_after text_cmp sub v f (claims_of text_cmp old f)) (sym p.1)
-
-  planned_lists : (e : KeptDoc) → IsPlannedAt sub w old (Some e) → (s : ℕ) → (listed : ℕ → Bool) → (IsPublished w → listed sub ≡ true) → (has s old.publishers ≡ true → listed s ≡ true) → has s e.publishers ≡ true → listed s ≡ true
-  planned_lists e p s listed here before there = elim (s == sub) as (λ b. (s == sub) ≡ b → cond b (is_some p.0) (has s old.publishers) ≡ true → listed s ≡ true) [
-    | true ↦ λ t some. ap listed (same_sub s sub t) ∙ here (subst IsPublished (sym p.1) some)
-    | false ↦ λ _ was. before was
-  ] refl (sym (p.2.publishers s) ∙ there)
+  planned_claims (Some change) p f = p.2.after.claims f ∙ ap (λ v. claims_after text_cmp sub v f (claims_of text_cmp old f)) (sym p.1)
 
 seen_sorted : (e : KeptDoc) → IsHeld e → IfSome (merged_doc e) (IsSorted text_cmp)
 seen_sorted e held = elim (is_empty e.publishers) as (λ b. IfSome (cond b None (Some (filter_map_entries (λ f claims. first_value claims) e.fields))) (IsSorted text_cmp)) [
@@ -42,61 +110,94 @@ seen_sorted e held = elim (is_empty e.publishers) as (λ b. IfSome (cond b None 
   | false ↦ sorted-filter_map_entries text_cmp (λ f claims. first_value claims) e.fields held.by_name
 ]
 
-abbrev pub told_of : BoxState → KeptDocs → List (Key × Step (List ℕ) Val)
-told_of box plan = filter_map_entries (λ k e. between text_cmp same_value (merged_doc (kept_at key_cmp box.kept k)) (merged_doc e)) plan
-
-module _ (box : BoxState) (plan : PlanState) (whole : IsBox box) (sorted : IsSorted key_cmp plan.kept) where
-  told_at : (k : Key) (x : Option KeptDoc) → option_and_then (λ e. between text_cmp same_value (merged_doc (kept_at key_cmp box.kept k)) (merged_doc e)) x ≡ between text_cmp same_value (merged_doc (kept_at key_cmp box.kept k)) (merged_doc (unwrap_or x (kept_at key_cmp box.kept k)))
-  told_at k None = sym (between_itself name_order same_value (λ v. ap is_eq (compare_itself v)) (merged_doc (kept_at key_cmp box.kept k)) (seen_sorted (kept_at key_cmp box.kept k) (whole.held k)))
-  told_at k (Some e) = refl
-
-  pub plan_tells : IsSorted key_cmp (planned plan box) → plan.messages ≡ told_of box plan.kept → Tells box.kept (planned plan box) plan.messages
-  plan_tells made is = record {
-    by_key = subst (IsSorted key_cmp) (sym is) (sorted-filter_map_entries key_cmp (λ k e. between text_cmp same_value (merged_doc (kept_at key_cmp box.kept k)) (merged_doc e)) plan.kept sorted);
-    each = λ k. ap (λ ms. at key_cmp ms k) is
-        ∙ at-filter_map_entries key_order (λ q e. between text_cmp same_value (merged_doc (kept_at key_cmp box.kept q)) (merged_doc e)) plan.kept k sorted
-        ∙ told_at k (at key_cmp plan.kept k)
-        ∙ sym (ap₂ (between text_cmp same_value) (at-merged key_order name_order box.kept k whole.by_key) (at-merged key_order name_order (planned plan box) k made ∙ ap merged_doc (kept_at-planned plan box k)));
-  }
-
--- the plan of news
-pub plan_is : (sub : ℕ) (news : List (Key × Option Entries)) (old : KeptDocs) (box : BoxState) (plan : PlanState) → KeepsSame old box.kept → IsBox box → IsSorted key_cmp plan.kept → IsSorted key_cmp (planned plan box)
-    → ((k : Key) → IsPlannedAt sub (last_news key_cmp news k) (kept_at key_cmp old k) (at key_cmp plan.kept k))
-    → ((k : Key) → IsSome (at key_cmp plan.kept k) → IsSome (at key_cmp box.kept k))
-    → ((k : Key) → IsPublished (last_news key_cmp news k) → is_listed box.listed sub k ≡ true)
-    → plan.messages ≡ told_of box plan.kept → IsPlan (apply sub news) box plan
-plan_is sub news old box plan same whole sorted made each room here told = record {
-  after = record {
-    publishers = λ k s. ap (λ e. has s e.publishers) (kept_at-planned plan box k) ∙ planned_publishers sub (last_news key_cmp news k) (kept_at key_cmp box.kept k) (at key_cmp plan.kept k) (now k) s;
-    claims = λ k f. ap (λ e. claims_of text_cmp e f) (kept_at-planned plan box k) ∙ planned_claims sub (last_news key_cmp news k) (kept_at key_cmp box.kept k) (at key_cmp plan.kept k) (now k) f;
-  };
-  told = plan_tells box plan whole sorted made told;
-  ready = record {
-    room = room;
-    listed = λ k e s is there. planned_lists sub (last_news key_cmp news k) (kept_at key_cmp box.kept k) e (subst (IsPlannedAt sub (last_news key_cmp news k) (kept_at key_cmp box.kept k)) is (now k)) s (λ r. is_listed box.listed r k) (here k) (whole.listed k s) there;
-  };
+-- over every list of calls that the box stood for
+pub answers_of : (call : Call Key Entries) (old new : KeptDocs) (messages : Told) → IsBox new → IsBoxAfter call old new → Tells old new messages → Answers call old new messages
+answers_of call old new messages whole after told = record {
+  stands = λ past stands. stands_after key_order name_order call past old new stands after order;
+  told = λ past m n stands is_m is_n.
+      let stood = merged_is key_order name_order (shown key_cmp past) (shown_since key_cmp text_cmp past) old stands in
+      let stands_now = stands_after key_order name_order call past old new stands after order in
+      let now = merged_is key_order name_order (shown key_cmp (call ∷ past)) (shown_since key_cmp text_cmp (call ∷ past)) new stands_now in
+      let before = one_merge key_order name_order (shown key_cmp past) (shown_since key_cmp text_cmp past) (merged old) m stood is_m in
+      let afterwards = one_merge key_order name_order (shown key_cmp (call ∷ past)) (shown_since key_cmp text_cmp (call ∷ past)) (merged new) n now is_n in
+      one_diff key_order text_cmp same_value (merged old) (merged new) messages (diff text_cmp same_value key_cmp (merged old) (merged new)) told
+      (diff_is key_order text_cmp same_value (merged old) (merged new) (sorted-filter_map_entries key_cmp (λ k e. merged_doc e) new whole.by_key))
+      ∙ ap₂ (diff text_cmp same_value key_cmp) before afterwards;
 }
   where
-    now : (k : Key) → IsPlannedAt sub (last_news key_cmp news k) (kept_at key_cmp box.kept k) (at key_cmp plan.kept k)
-    now k = subst (λ e. IsPlannedAt sub (last_news key_cmp news k) e (at key_cmp plan.kept k)) (sym (same k)) (each k)
+    order : IsInOrder key_cmp text_cmp new
+    order = record { by_key = whole.by_key; by_name = λ k. (whole.held k).by_name }
 
-held_in : (sub : ℕ) (w : Option (Option Entries)) (old e : KeptDoc) → IsPlannedAt sub w old (Some e) → IsHeld e
-held_in sub w old e p = p.3
+abbrev pub told_of : KeptDocs → KeptDocs → Told
+told_of kept changes = filter_map_entries (λ k change. between text_cmp same_value (merged_doc (kept_at key_cmp kept k)) (merged_doc (with_change (kept_at key_cmp kept k) change))) changes
 
--- each document of the plan is kept whole
-pub whole_plan : (sub : ℕ) (news : List (Key × Option Entries)) (old kept : KeptDocs) → IsSorted key_cmp kept → ((k : Key) → IsPlannedAt sub (last_news key_cmp news k) (kept_at key_cmp old k) (at key_cmp kept k)) → IsWhole kept
-whole_plan sub news old kept sorted each = record { by_key = sorted; held = λ k e is. held_in sub (last_news key_cmp news k) (kept_at key_cmp old k) e (subst (IsPlannedAt sub (last_news key_cmp news k) (kept_at key_cmp old k)) is (each k)) }
+module _ (kept changes : KeptDocs) (lists : Lists) (inside : IsInside kept changes lists) where
+  told_at : (k : Key) (x : Option KeptDoc) → option_and_then (λ change. between text_cmp same_value (merged_doc (kept_at key_cmp kept k)) (merged_doc (with_change (kept_at key_cmp kept k) change))) x
+      ≡ between text_cmp same_value (merged_doc (kept_at key_cmp kept k)) (merged_doc (with_change_if x (kept_at key_cmp kept k)))
+  told_at k None = sym (between_itself name_order same_value (λ v. ap is_eq (compare_itself v)) (merged_doc (kept_at key_cmp kept k)) (seen_sorted (kept_at key_cmp kept k) (inside.held k)))
+  told_at k (Some change) = refl
 
--- a subscription that has no claim loses none
-no_claim : (sub : ℕ) (claims : List (ℕ × Val)) → is_some (claimed sub claims) ≡ false → placed sub None claims ≡ claims
-no_claim sub [] e = refl
-no_claim sub (c ∷ claims) e =
-    let rest = no_claim sub claims in
-    elim (sub == c.0) as (λ b. is_some (cond b (Some c.1) (claimed sub claims)) ≡ false → cond (not b) (c ∷ placed sub None claims) (placed sub None claims) ≡ c ∷ claims) [
-      | true ↦ λ h. absurd (true≢false h)
-      | false ↦ λ h. ap (λ l. c ∷ l) (rest h)
-    ] e
+  tells_inside : (messages : Told) → messages ≡ told_of kept changes → IsDiff text_cmp same_value key_cmp (merged kept) (merged (carried_out changes kept)) messages
+  tells_inside messages is = record {
+    by_key = subst (IsSorted key_cmp) (sym is) (sorted-filter_map_entries key_cmp (λ k change. between text_cmp same_value (merged_doc (kept_at key_cmp kept k)) (merged_doc (with_change (kept_at key_cmp kept k) change))) changes inside.changes_by_key);
+    each = λ k. ap (λ ms. at key_cmp ms k) is
+        ∙ at-filter_map_entries key_order (λ q change. between text_cmp same_value (merged_doc (kept_at key_cmp kept q)) (merged_doc (with_change (kept_at key_cmp kept q) change))) changes k inside.changes_by_key
+        ∙ told_at k (at key_cmp changes k)
+        ∙ sym (ap₂ (between text_cmp same_value) (at-merged key_order name_order kept k inside.by_key)
+          (at-merged key_order name_order (carried_out changes kept) k (sorted-carried_out changes kept inside.by_key) ∙ ap merged_doc (kept_at-carried_out changes kept k inside.changes_by_key)));
+  }
 
+  tells : (messages : Told) → messages ≡ told_of kept changes → Tells (docs_of kept) (docs_of (carried_out changes kept)) messages
+  tells messages is = subst₂ (λ a b. IsDiff text_cmp same_value key_cmp a b messages) (sym (merged_docs kept inside.by_key inside.held))
+      (sym (merged_docs (carried_out changes kept) (sorted-carried_out changes kept inside.by_key) (carried_held kept changes lists inside))) (tells_inside messages is)
+
+  -- what is kept of a document now, and once the changes are carried out
+  now_same : (k : Key) → SameDoc (kept_at key_cmp kept k) (kept_at key_cmp (docs_of kept) k)
+  now_same k = kept_same kept k inside.by_key (inside.held k)
+
+  then_same : (k : Key) → SameDoc (after_at changes kept k) (kept_at key_cmp (docs_of (carried_out changes kept)) k)
+  then_same k = subst (λ e. SameDoc e (kept_at key_cmp (docs_of (carried_out changes kept)) k)) (kept_at-carried_out changes kept k inside.changes_by_key)
+      (kept_same (carried_out changes kept) k (sorted-carried_out changes kept inside.by_key) (carried_held kept changes lists inside k))
+
+  after_call : (sub : ℕ) (news : List (Key × Option Entries)) → ((k : Key) → IsPlannedAt sub (last_news key_cmp news k) (kept_at key_cmp kept k) (at key_cmp changes k)) → IsBoxAfter (apply sub news) (docs_of kept) (docs_of (carried_out changes kept))
+  after_call sub news planned = record {
+    publishers = λ k s. ap (has s) (then_same k).publishers ∙ planned_publishers sub (last_news key_cmp news k) (kept_at key_cmp kept k) (at key_cmp changes k) (planned k) s
+        ∙ ap (λ ps. there_after sub (last_news key_cmp news k) s (has s ps)) (sym (now_same k).publishers);
+    claims = λ k f. (then_same k).claims f ∙ planned_claims sub (last_news key_cmp news k) (kept_at key_cmp kept k) (at key_cmp changes k) (planned k) f
+        ∙ ap (claims_after text_cmp sub (last_news key_cmp news k) f) (sym ((now_same k).claims f));
+  }
+
+  -- the plan of news
+  pub plan_is : (sub : ℕ) (news : List (Key × Option Entries)) (messages : Told) → ((k : Key) → IsPlannedAt sub (last_news key_cmp news k) (kept_at key_cmp kept k) (at key_cmp changes k)) → messages ≡ told_of kept changes
+      → IsPlan (apply sub news) (record { kept = docs_of kept; planned = docs_of (carried_out changes kept) }) messages
+  plan_is sub news messages planned is =
+      let after = after_call sub news planned in
+      let told = tells messages is in
+      record { after = after; told = told; answers = answers_of (apply sub news) (docs_of kept) (docs_of (carried_out changes kept)) messages (will_be_box kept changes lists inside) after told }
+
+  -- what is kept once it is carried out
+  pub carried_is : (new : KeptDocs) → IsSorted key_cmp new → ((k : Key) → IsHeld (kept_at key_cmp new k)) → ((k : Key) → SameDoc (after_at changes kept k) (kept_at key_cmp new k)) → docs_of new ≡ docs_of (carried_out changes kept)
+  carried_is new sorted held same = docs_same (carried_out changes kept) new (sorted-carried_out changes kept inside.by_key) sorted (carried_held kept changes lists inside) held
+      (λ k. subst (λ e. SameDoc e (kept_at key_cmp new k)) (sym (kept_at-carried_out changes kept k inside.changes_by_key)) (same k))
+
+nothing_planned : (change : KeptDoc) → None ≡ Some change → ⊥
+nothing_planned change e = cc
+
+-- no plan
+pub inside_settled : (kept : KeptDocs) (lists : Lists) → IsSorted key_cmp kept → ((k : Key) → IsHeld (kept_at key_cmp kept k)) → ((k : Key) (s : ℕ) → has s (publishers_at key_cmp kept k) ≡ true → is_listed lists s k ≡ true) → IsInside kept [] lists
+inside_settled kept lists sorted held listed = record {
+  by_key = sorted;
+  held = held;
+  listed = listed;
+  changes_by_key = sorted-nil key_cmp;
+  ready = λ k change is. absurd (nothing_planned change is);
+  will_list = λ k change s is _. absurd (nothing_planned change is);
+}
+
+pub empty_inside : IsInside [] [] []
+empty_inside = inside_settled [] [] (sorted-nil key_cmp) (λ k. record { by_name = sorted-nil text_cmp; published = λ f s h. absurd (true≢false (sym h)) }) (λ k s h. absurd (true≢false (sym h)))
+
+-- ---- the plan of a subscription's end: it publishes nothing of what is not listed
 false_of : (b c : Bool) → (b ≡ true → c ≡ true) → c ≡ false → b ≡ false
 false_of true c h e = absurd (true≢false (sym (h refl) ∙ e))
 false_of false c h e = refl
@@ -104,12 +205,18 @@ false_of false c h e = refl
 abbrev pub gone_if : Bool → Option (Option Entries)
 gone_if b = cond b (Some None) None
 
--- the plan of a subscription's end: it publishes nothing of what is not listed
-pub drop_is : (sub : ℕ) (news : List (Key × Option Entries)) (old box : BoxState) (plan : PlanState) → IsBox old → KeepsSame old.kept box.kept → ((k : Key) → last_news key_cmp news k ≡ gone_if (is_listed old.listed sub k)) → IsPlan (apply sub news) box plan → IsPlan (drop_sub sub) box plan
-drop_is sub news old box plan was same gone is = record {
-  after = record {
+module _ (sub : ℕ) (news : List (Key × Option Entries)) (box : BoxState) (messages : Told) (listed : Key → Bool) (whole : IsBox box.kept) (then_whole : IsBox box.planned)
+    (gone : (k : Key) → last_news key_cmp news k ≡ gone_if (listed k)) (publishes : (k : Key) → has sub (publishers_at key_cmp box.kept k) ≡ true → listed k ≡ true) where
+  unpublished : (k : Key) → listed k ≡ false → has sub (publishers_at key_cmp box.kept k) ≡ false
+  unpublished k e = false_of (has sub (publishers_at key_cmp box.kept k)) (listed k) (publishes k) e
+
+  unclaimed : (k : Key) (f : List ℕ) → listed k ≡ false → is_some (claimed sub (claims_of text_cmp (kept_at key_cmp box.kept k) f)) ≡ false
+  unclaimed k f e = false_of (is_some (claimed sub (claims_of text_cmp (kept_at key_cmp box.kept k) f))) (listed k) (λ some. publishes k ((whole.held k).published f sub some)) e
+
+  drop_after : IsPlan (apply sub news) box messages → IsBoxAfter (drop_sub sub) box.kept box.planned
+  drop_after is = record {
     publishers = λ k s. is.after.publishers k s ∙ ap (λ w. there_after sub w s (has s (publishers_at key_cmp box.kept k))) (gone k)
-        ∙ elim (is_listed old.listed sub k) as (λ b. is_listed old.listed sub k ≡ b → there_after sub (gone_if b) s (has s (publishers_at key_cmp box.kept k)) ≡ cond (s == sub) false (has s (publishers_at key_cmp box.kept k))) [
+        ∙ elim (listed k) as (λ b. listed k ≡ b → there_after sub (gone_if b) s (has s (publishers_at key_cmp box.kept k)) ≡ cond (s == sub) false (has s (publishers_at key_cmp box.kept k))) [
           | true ↦ λ _. refl
           | false ↦ λ e. elim (s == sub) as (λ b. (s == sub) ≡ b → has s (publishers_at key_cmp box.kept k) ≡ cond b false (has s (publishers_at key_cmp box.kept k))) [
             | true ↦ λ t. ap (λ r. has r (publishers_at key_cmp box.kept k)) (same_sub s sub t) ∙ unpublished k e
@@ -117,38 +224,23 @@ drop_is sub news old box plan was same gone is = record {
           ] refl
         ] refl;
     claims = λ k f. is.after.claims k f ∙ ap (λ w. claims_after text_cmp sub w f (claims_of text_cmp (kept_at key_cmp box.kept k) f)) (gone k)
-        ∙ elim (is_listed old.listed sub k) as (λ b. is_listed old.listed sub k ≡ b → claims_after text_cmp sub (gone_if b) f (claims_of text_cmp (kept_at key_cmp box.kept k) f) ≡ placed sub None (claims_of text_cmp (kept_at key_cmp box.kept k) f)) [
+        ∙ elim (listed k) as (λ b. listed k ≡ b → claims_after text_cmp sub (gone_if b) f (claims_of text_cmp (kept_at key_cmp box.kept k) f) ≡ placed sub None (claims_of text_cmp (kept_at key_cmp box.kept k) f)) [
           | true ↦ λ _. refl
           | false ↦ λ e. sym (no_claim sub (claims_of text_cmp (kept_at key_cmp box.kept k) f) (unclaimed k f e))
         ] refl;
-  };
-  told = is.told;
-  ready = is.ready;
-}
-  where
-    unpublished : (k : Key) → is_listed old.listed sub k ≡ false → has sub (publishers_at key_cmp box.kept k) ≡ false
-    unpublished k e = ap (λ x. has sub x.publishers) (same k) ∙ false_of (has sub (publishers_at key_cmp old.kept k)) (is_listed old.listed sub k) (was.listed k sub) e
+  }
 
-    unclaimed : (k : Key) (f : List ℕ) → is_listed old.listed sub k ≡ false → is_some (claimed sub (claims_of text_cmp (kept_at key_cmp box.kept k) f)) ≡ false
-    unclaimed k f e = ap (λ x. is_some (claimed sub (claims_of text_cmp x f))) (same k)
-        ∙ false_of (is_some (claimed sub (claims_of text_cmp (kept_at key_cmp old.kept k) f))) (is_listed old.listed sub k) (λ some. was.listed k sub ((was.held k).published f sub some)) e
+  pub drop_is : IsPlan (apply sub news) box messages → IsPlan (drop_sub sub) box messages
+  drop_is is = record { after = drop_after is; told = is.told; answers = answers_of (drop_sub sub) box.kept box.planned messages then_whole (drop_after is) is.told }
 
--- the box with nothing in it
-pub empty_box : IsBox (record { kept = []; listed = [] })
-empty_box = record {
-  by_key = sorted-nil key_cmp;
-  held = λ k. record { by_name = sorted-nil text_cmp; published = λ f s h. absurd (true≢false (sym h)) };
-  listed = λ k s h. absurd (true≢false (sym h));
-}
-
--- a box that keeps the same, and lists no less
-pub box_same : (old new : BoxState) → IsBox old → KeepsSame old.kept new.kept → ((s : ℕ) (k : Key) → is_listed old.listed s k ≡ true → is_listed new.listed s k ≡ true) → IsSorted key_cmp new.kept → IsBox new
-box_same old new was same grows sorted = record {
-  by_key = sorted;
-  held = λ k. subst IsHeld (sym (same k)) (was.held k);
-  listed = λ k s h. grows s k (was.listed k s (ap (λ e. has s e.publishers) (sym (same k)) ∙ h));
-}
+-- a plan that was carried out over what was kept before
+pub done : (call : Call Key Entries) (old new : KeptDocs) (box : BoxState) (messages : Told) → box.kept ≡ old → new ≡ box.planned → IsPlan call box messages → IsPlan call (record { kept = old; planned = new }) messages
+done call old new box messages was now is = subst₂ (λ a b. IsPlan call (record { kept = a; planned = b }) messages) was (sym now) is
 
 pub map_ok : {T E : Type 0} (r : Result T E) (P Q : T → Type 0) → ((x : T) → P x → Q x) → IfOk r P → IfOk r Q
 map_ok (Ok x) P Q f h = f x h
 map_ok (Err e) P Q f h = tt
+
+pub on_err : {T E : Type 0} (r : Result T E) (P : Type 0) → P → OnErr r P
+on_err (Ok x) P h = tt
+on_err (Err e) P h = h

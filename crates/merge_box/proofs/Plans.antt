@@ -1,5 +1,5 @@
 -- What a plan makes of the documents, and what is kept once it is carried out.
-use Rattle.std.proofs.Common.{◌≡◌, ℕ, zero, suc, ◌+◌, ◌<◌, arith, add-one, length, get_or, take, option_map, option_to_list, Bool, true, false, cond, ◌||◌, ◌++◌, List, [], ◌∷◌, map, Option, Some, None, is_some, IsSome, unwrap_or, refl, sym, ap, ap₂, subst, ◌∙◌, true≢false}
+use Rattle.std.proofs.Common.{◌≡◌, ℕ, zero, suc, ◌+◌, ◌<◌, arith, add-one, length, get_or, take, option_map, option_to_list, Bool, true, false, cond, ◌||◌, ◌++◌, List, [], ◌∷◌, map, Option, Some, None, is_some, IsSome, unwrap_or, refl, sym, ap, ap₂, subst, subst₂, ⊎_elim, ◌∙◌, true≢false}
 use Rattle.std.specs.Option.{option_or}
 use Rattle.std.specs.List.{list_any}
 use Rattle.std.specs.BTreeSet.{BTreeSet}
@@ -20,25 +20,12 @@ use Rattle.merge_model.specs.Publishing.{last_news}
 use Rattle.value_model.specs.Val.{Entries}
 use Rattle.ejson_value.specs.declared.key.Key.{Key}
 use Rattle.ejson_value.specs.Key.{key_cmp, key_order}
-use Rattle.merge_box.specs.Held.{KeptDoc, IsHeld, IsKeptAfter}
-use Rattle.merge_box.specs.State.{KeptDocs, KeepsSame, IsPlannedAt, IsPublished, news_of}
+use Rattle.merge_box.specs.Held.{KeptDoc, with_change, IsHeld, IsChange, SameDoc, IsDocGrown, HasPlaces}
+use Rattle.merge_box.specs.State.{KeptDocs, news_of}
+use Rattle.merge_box.specs.Inside.{with_change_if, after_at, IsGrown, IsReady, IsPlannedAt, IsPublished}
+use Rattle.merge_box.proofs.Places.{same_itself, change_grown}
+use Rattle.merge_box.proofs.Puts.{left_from, left_cases}
 use Rattle.merge_box.proofs.Listing.{either_way}
-
--- a place with nothing in it
-module _ (old new : KeptDocs) (key : Key) (none : is_some (at key_cmp old key) ≡ false) (change : (k : Key) → at key_cmp new k ≡ cond (is_eq (key_cmp key k)) (Some nothing_kept) (at key_cmp old k)) where
-  nowhere : (x : Option KeptDoc) → is_some x ≡ false → unwrap_or x nothing_kept ≡ nothing_kept
-  nowhere None e = refl
-  nowhere (Some v) e = absurd (true≢false e)
-
-  pub room_same : KeepsSame old new
-  room_same k = ap (λ x. unwrap_or x nothing_kept) (change k ∙ ap (λ b. cond b (Some nothing_kept) (at key_cmp old k)) (either_way key k))
-      ∙ elim (eq_by_cmp key_cmp k key) as (λ b. eq_by_cmp key_cmp k key ≡ b → unwrap_or (cond b (Some nothing_kept) (at key_cmp old k)) nothing_kept ≡ kept_at key_cmp old k) [
-        | true ↦ λ t. sym (nowhere (at key_cmp old k) (ap (λ q. is_some (at key_cmp old q)) (key_is key_order k key t) ∙ none))
-        | false ↦ λ _. refl
-      ] refl
-
-  pub room_grows : (k : Key) → IsSome (at key_cmp old k) → IsSome (at key_cmp new k)
-  room_grows k some = ap is_some (change k) ∙ elim (is_eq (key_cmp key k)) as (λ b. is_some (cond b (Some nothing_kept) (at key_cmp old k)) ≡ true) [ true ↦ refl | false ↦ some ]
 
 -- one more of the news
 news_at : (news : List Publish) (i : ℕ) (p : Publish) → p ≡ get_or news i p → i < length news → news_of (take (suc i) news) ≡ news_of (take i news) ++ (p.key, p.new) ∷ []
@@ -88,28 +75,32 @@ pub unlisted_news : (index : List (ℕ × BTreeSet Key)) (sub : ℕ) (k : Key) �
 unlisted_news index sub k e = ap (λ b. cond b gone None) e
 
 -- what is put into a plan
-pub put_planned : (old new : KeptDocs) (key copied : Key) (held : KeptDoc) → copied ≡ key → ((k : Key) → at key_cmp new k ≡ cond (is_eq (key_cmp copied k)) (Some held) (at key_cmp old k))
+pub put_planned_here : (old new : KeptDocs) (key copied : Key) (change : KeptDoc) → copied ≡ key → ((k : Key) → at key_cmp new k ≡ cond (is_eq (key_cmp copied k)) (Some change) (at key_cmp old k)) → kept_at key_cmp new key ≡ change
+put_planned_here old new key copied change same put = ap (λ x. unwrap_or x nothing_kept) (put key ∙ ap (λ q. cond (is_eq (key_cmp q key)) (Some change) (at key_cmp old key)) same ∙ ap (λ b. cond b (Some change) (at key_cmp old key)) (eq_by_cmp-self key_order key))
+
+pub put_planned : (old new : KeptDocs) (key copied : Key) (change : KeptDoc) → copied ≡ key → ((k : Key) → at key_cmp new k ≡ cond (is_eq (key_cmp copied k)) (Some change) (at key_cmp old k))
     → (k : Key) → at key_cmp new k ≡ cond (eq_by_cmp key_cmp k key) (Some (kept_at key_cmp new key)) (at key_cmp old k)
-put_planned old new key copied held same change k =
-    change k ∙ ap (λ q. cond (is_eq (key_cmp q k)) (Some held) (at key_cmp old k)) same
-    ∙ ap₂ (λ b e. cond b (Some e) (at key_cmp old k)) (either_way key k) (sym here)
-  where
-    here : kept_at key_cmp new key ≡ held
-    here = ap (λ x. unwrap_or x nothing_kept) (change key ∙ ap (λ q. cond (is_eq (key_cmp q key)) (Some held) (at key_cmp old key)) same ∙ ap (λ b. cond b (Some held) (at key_cmp old key)) (eq_by_cmp-self key_order key))
+put_planned old new key copied change same put k =
+    put k ∙ ap (λ q. cond (is_eq (key_cmp q k)) (Some change) (at key_cmp old k)) same
+    ∙ ap₂ (λ b e. cond b (Some e) (at key_cmp old k)) (either_way key k) (sym (put_planned_here old new key copied change same put))
+
+planned_grown : (sub : ℕ) (w : Option (Option Entries)) (a b : KeptDoc) (x : Option KeptDoc) → IsDocGrown a b → IsPlannedAt sub w a x → IsPlannedAt sub w b x
+planned_grown sub w a b None grown p = p
+planned_grown sub w a b (Some change) grown p = (p.0, p.1, change_grown sub p.0 a b change grown p.2, λ f h. grown.names f (p.3 f h))
 
 -- one more is planned
-pub planned_step : (sub : ℕ) (first kept plan new : KeptDocs) (news : List Publish) (i : ℕ) (p : Publish) → news_of (take (i + 1) news) ≡ news_of (take i news) ++ (p.key, p.new) ∷ []
-    → KeepsSame first kept
-    → ((k : Key) → IsPlannedAt sub (last_news key_cmp (news_of (take i news)) k) (kept_at key_cmp first k) (at key_cmp plan k))
+pub planned_step : (sub : ℕ) (kept grown plan new : KeptDocs) (news : List Publish) (i : ℕ) (p : Publish) → news_of (take (i + 1) news) ≡ news_of (take i news) ++ (p.key, p.new) ∷ []
+    → IsGrown kept grown
+    → ((k : Key) → IsPlannedAt sub (last_news key_cmp (news_of (take i news)) k) (kept_at key_cmp kept k) (at key_cmp plan k))
     → ((k : Key) → at key_cmp new k ≡ cond (eq_by_cmp key_cmp k p.key) (Some (kept_at key_cmp new p.key)) (at key_cmp plan k))
-    → IsKeptAfter sub p.new (kept_at key_cmp kept p.key) (kept_at key_cmp new p.key) → IsHeld (kept_at key_cmp new p.key)
-    → (k : Key) → IsPlannedAt sub (last_news key_cmp (news_of (take (i + 1) news)) k) (kept_at key_cmp first k) (at key_cmp new k)
-planned_step sub first kept plan new news i p more same before change after whole k =
-    subst (λ x. IsPlannedAt sub (last_news key_cmp (news_of (take (i + 1) news)) k) (kept_at key_cmp first k) x) (sym (change k))
-    (subst (λ w. IsPlannedAt sub w (kept_at key_cmp first k) (cond (eq_by_cmp key_cmp k p.key) (Some (kept_at key_cmp new p.key)) (at key_cmp plan k))) (sym (ap (λ es. last_news key_cmp es k) more ∙ last_news-push (news_of (take i news)) p.key p.new k))
-    (elim (eq_by_cmp key_cmp k p.key) as (λ b. eq_by_cmp key_cmp k p.key ≡ b → IsPlannedAt sub (cond b (Some p.new) (last_news key_cmp (news_of (take i news)) k)) (kept_at key_cmp first k) (cond b (Some (kept_at key_cmp new p.key)) (at key_cmp plan k))) [
-      | true ↦ λ t. (p.new, refl, subst (λ old. IsKeptAfter sub p.new old (kept_at key_cmp new p.key)) (same p.key ∙ ap (kept_at key_cmp first) (sym (key_is key_order k p.key t))) after, whole)
-      | false ↦ λ t. before k
+    → IsChange sub p.new (kept_at key_cmp grown p.key) (kept_at key_cmp new p.key) → HasPlaces (kept_at key_cmp grown p.key) (kept_at key_cmp new p.key)
+    → (k : Key) → IsPlannedAt sub (last_news key_cmp (news_of (take (i + 1) news)) k) (kept_at key_cmp grown k) (at key_cmp new k)
+planned_step sub kept grown plan new news i p more grows before change is places k =
+    subst (λ x. IsPlannedAt sub (last_news key_cmp (news_of (take (i + 1) news)) k) (kept_at key_cmp grown k) x) (sym (change k))
+    (subst (λ w. IsPlannedAt sub w (kept_at key_cmp grown k) (cond (eq_by_cmp key_cmp k p.key) (Some (kept_at key_cmp new p.key)) (at key_cmp plan k))) (sym (ap (λ es. last_news key_cmp es k) more ∙ last_news-push (news_of (take i news)) p.key p.new k))
+    (elim (eq_by_cmp key_cmp k p.key) as (λ b. eq_by_cmp key_cmp k p.key ≡ b → IsPlannedAt sub (cond b (Some p.new) (last_news key_cmp (news_of (take i news)) k)) (kept_at key_cmp grown k) (cond b (Some (kept_at key_cmp new p.key)) (at key_cmp plan k))) [
+      | true ↦ λ t. subst (λ q. IsPlannedAt sub (Some p.new) (kept_at key_cmp grown q) (Some (kept_at key_cmp new p.key))) (sym (key_is key_order k p.key t)) (p.new, refl, is, places)
+      | false ↦ λ t. planned_grown sub (last_news key_cmp (news_of (take i news)) k) (kept_at key_cmp kept k) (kept_at key_cmp grown k) (at key_cmp plan k) (grows.docs k) (before k)
     ] refl))
 
 pub room_step : (kept grown plan new : KeptDocs) (key : Key) → ((k : Key) → IsSome (at key_cmp plan k) → IsSome (at key_cmp kept k)) → ((k : Key) → IsSome (at key_cmp kept k) → IsSome (at key_cmp grown k)) → IsSome (at key_cmp grown key)
@@ -131,22 +122,6 @@ listed_step sub index grown news i p more before stays here k h =
       | false ↦ λ t some. stays sub k (before k some)
     ] refl (subst IsPublished (ap (λ es. last_news key_cmp es k) more ∙ last_news-push (news_of (take i news)) p.key p.new k) h)
 
--- what is kept where a document's entry is put, or taken away because it is nothing
-module _ (old new : KeptDocs) (key : Key) (held : KeptDoc) where
-  pub put_kept : ((k : Key) → at key_cmp new k ≡ cond (is_eq (key_cmp key k)) (Some held) (at key_cmp old k)) → (k : Key) → kept_at key_cmp new k ≡ cond (eq_by_cmp key_cmp k key) held (kept_at key_cmp old k)
-  put_kept change k = ap (λ x. unwrap_or x nothing_kept) (change k ∙ ap (λ b. cond b (Some held) (at key_cmp old k)) (either_way key k))
-      ∙ elim (eq_by_cmp key_cmp k key) as (λ b. unwrap_or (cond b (Some held) (at key_cmp old k)) nothing_kept ≡ cond b held (kept_at key_cmp old k)) [ true ↦ refl | false ↦ refl ]
-
-  pub put_others : ((k : Key) → at key_cmp new k ≡ cond (is_eq (key_cmp key k)) (Some held) (at key_cmp old k)) → (k : Key) → eq_by_cmp key_cmp k key ≡ false → at key_cmp new k ≡ at key_cmp old k
-  put_others change k other = change k ∙ ap (λ b. cond b (Some held) (at key_cmp old k)) (either_way key k ∙ other)
-
-  pub trimmed_kept : ((k : Key) → at key_cmp new k ≡ cond (is_eq (key_cmp key k)) None (at key_cmp old k)) → held ≡ nothing_kept → (k : Key) → kept_at key_cmp new k ≡ cond (eq_by_cmp key_cmp k key) held (kept_at key_cmp old k)
-  trimmed_kept change nothing k = ap (λ x. unwrap_or x nothing_kept) (change k ∙ ap (λ b. cond b None (at key_cmp old k)) (either_way key k))
-      ∙ elim (eq_by_cmp key_cmp k key) as (λ b. unwrap_or (cond b None (at key_cmp old k)) nothing_kept ≡ cond b held (kept_at key_cmp old k)) [ true ↦ sym nothing | false ↦ refl ]
-
-pub trimmed_others : (old new : KeptDocs) (key : Key) → ((k : Key) → at key_cmp new k ≡ cond (is_eq (key_cmp key k)) None (at key_cmp old k)) → (k : Key) → eq_by_cmp key_cmp k key ≡ false → at key_cmp new k ≡ at key_cmp old k
-trimmed_others old new key change k other = change k ∙ ap (λ b. cond b None (at key_cmp old k)) (either_way key k ∙ other)
-
 -- one more message
 pub message_next : {X : Type 0} (f : Key → X → Option (Step (List ℕ) Val)) (done : List (Key × X)) (k : Key) (x : X) (messages : List DataMsg) (message : Option DataMsg)
     → map said messages ≡ filter_map_entries f done → option_map said message ≡ option_map (λ step. (k, step)) (f k x)
@@ -164,64 +139,49 @@ message_next f done k x messages message so_far is =
     keyed_is None = refl
     keyed_is (Some step) = refl
 
--- Carrying a plan out: `rest` is the plan without its first entry, which is put into `old` to give `new`.
-nothing_there : {X : Type 0} (x : X) → None ≡ Some x → ⊥
-nothing_there x e = cc
+-- Carrying a plan out: `rest` is the plan without its first entry, the change of the document `key`, which makes `new` of `old`.
+module _ (plan rest old new : KeptDocs) (key : Key) (change : KeptDoc) (value : at key_cmp plan key ≡ Some change) (updates : (k : Key) → at key_cmp rest k ≡ cond (is_eq (key_cmp key k)) None (at key_cmp plan k))
+    (same : SameDoc (with_change (kept_at key_cmp old key) change) (kept_at key_cmp new key)) (others : (k : Key) → eq_by_cmp key_cmp k key ≡ false → at key_cmp new k ≡ at key_cmp old k) where
+  kept_others : (k : Key) → eq_by_cmp key_cmp k key ≡ false → kept_at key_cmp new k ≡ kept_at key_cmp old k
+  kept_others k other = ap (λ x. unwrap_or x nothing_kept) (others k other)
 
-module _ (plan rest : KeptDocs) (key : Key) (held : KeptDoc) (updates : (k : Key) → at key_cmp rest k ≡ cond (is_eq (key_cmp key k)) None (at key_cmp plan k)) where
-  left_at : (k : Key) → at key_cmp rest k ≡ cond (eq_by_cmp key_cmp k key) None (at key_cmp plan k)
-  left_at k = updates k ∙ ap (λ b. cond b None (at key_cmp plan k)) (either_way key k)
+  pub same_step : (k : Key) → SameDoc (after_at plan old k) (after_at rest new k)
+  same_step k = ⊎_elim
+      (λ here.
+        let at_key = key_is key_order k key here.0 in
+        subst (λ q. SameDoc (after_at plan old q) (after_at rest new q)) (sym at_key)
+        (subst₂ (λ x y. SameDoc (with_change_if x (kept_at key_cmp old key)) (with_change_if y (kept_at key_cmp new key))) (sym value) (sym (ap (at key_cmp rest) (sym at_key) ∙ here.1)) same))
+      (λ there. subst₂ (λ x e. SameDoc (after_at plan old k) (with_change_if x e)) (sym there.1) (sym (kept_others k there.0)) (same_itself (after_at plan old k)))
+      (left_cases key_order plan rest key updates k)
 
-  -- what is left is of another key
-  left_from : (k : Key) (e : KeptDoc) → at key_cmp rest k ≡ Some e → (eq_by_cmp key_cmp k key ≡ false) × (at key_cmp plan k ≡ Some e)
-  left_from k e is = elim (eq_by_cmp key_cmp k key) as (λ b. cond b None (at key_cmp plan k) ≡ Some e → (b ≡ false) × (at key_cmp plan k ≡ Some e)) [
-    | true ↦ λ none. absurd (nothing_there e none)
-    | false ↦ λ same. (refl, same)
-  ] (sym (left_at k) ∙ is)
+  pub held_step : IsHeld (kept_at key_cmp new key) → ((k : Key) → IsHeld (kept_at key_cmp old k)) → (k : Key) → IsHeld (kept_at key_cmp new k)
+  held_step here before k = elim (eq_by_cmp key_cmp k key) as (λ b. eq_by_cmp key_cmp k key ≡ b → IsHeld (kept_at key_cmp new k)) [
+    | true ↦ λ t. subst (λ q. IsHeld (kept_at key_cmp new q)) (sym (key_is key_order k key t)) here
+    | false ↦ λ t. subst IsHeld (sym (kept_others k t)) (before k)
+  ] refl
 
-  some_of : (x : Option KeptDoc) → IsSome x → (e : KeptDoc) × (x ≡ Some e)
-  some_of None h = absurd (true≢false (sym h))
-  some_of (Some e) h = (e, refl)
+  pub ready_step : ((k : Key) (c : KeptDoc) → at key_cmp plan k ≡ Some c → IsReady old k c) → (k : Key) (c : KeptDoc) → at key_cmp rest k ≡ Some c → IsReady new k c
+  ready_step ready k c is =
+      let other = left_from key_order plan rest key updates k c is in
+      let was = ready k c other.1 in
+      record {
+        place = ap is_some (others k other.0) ∙ was.place;
+        names = subst (λ e. HasPlaces e c) (sym (kept_others k other.0)) was.names;
+        held = subst (λ e. IsHeld (with_change e c)) (sym (kept_others k other.0)) was.held;
+      }
 
-  pub whole_left : ((k : Key) (e : KeptDoc) → at key_cmp plan k ≡ Some e → IsHeld e) → (k : Key) (e : KeptDoc) → at key_cmp rest k ≡ Some e → IsHeld e
-  whole_left whole k e is = whole k e (left_from k e is).1
+  module _ (index left : List (ℕ × BTreeSet Key)) (will_list : (k : Key) (c : KeptDoc) (s : ℕ) → at key_cmp plan k ≡ Some c → has s c.publishers ≡ true → is_listed (lists_of index) s k ≡ true)
+      (stays : (k : Key) (s : ℕ) → (eq_by_cmp key_cmp k key ≡ true → has s change.publishers ≡ true) → is_listed (lists_of index) s k ≡ true → is_listed (lists_of left) s k ≡ true) where
+    pub will_list_step : (k : Key) (c : KeptDoc) (s : ℕ) → at key_cmp rest k ≡ Some c → has s c.publishers ≡ true → is_listed (lists_of left) s k ≡ true
+    will_list_step k c s is there =
+        let other = left_from key_order plan rest key updates k c is in
+        stays k s (λ t. absurd (true≢false (sym t ∙ other.0))) (will_list k c s other.1 there)
 
-  pub planned_listed_step : (index left : List (ℕ × BTreeSet Key))
-      → ((k : Key) (e : KeptDoc) (s : ℕ) → at key_cmp plan k ≡ Some e → has s e.publishers ≡ true → is_listed (lists_of index) s k ≡ true)
-      → ((k : Key) (s : ℕ) → (eq_by_cmp key_cmp k key ≡ true → has s held.publishers ≡ true) → is_listed (lists_of index) s k ≡ true → is_listed (lists_of left) s k ≡ true)
-      → (k : Key) (e : KeptDoc) (s : ℕ) → at key_cmp rest k ≡ Some e → has s e.publishers ≡ true → is_listed (lists_of left) s k ≡ true
-  planned_listed_step index left before stays k e s is there =
-      let other = left_from k e is in
-      stays k s (λ t. absurd (true≢false (sym t ∙ other.0))) (before k e s other.1 there)
-
-  module _ (old new : KeptDocs) where
-    pub room_left : ((k : Key) → IsSome (at key_cmp plan k) → IsSome (at key_cmp old k)) → ((k : Key) → eq_by_cmp key_cmp k key ≡ false → at key_cmp new k ≡ at key_cmp old k)
-        → (k : Key) → IsSome (at key_cmp rest k) → IsSome (at key_cmp new k)
-    room_left room others k some =
-        let e = some_of (at key_cmp rest k) some in
-        let other = left_from k e.0 e.1 in
-        ap is_some (others k other.0) ∙ room k (ap is_some other.1)
-
-module _ (plan rest old new : KeptDocs) (key : Key) (held : KeptDoc) (value : at key_cmp plan key ≡ Some held) where
-  pub kept_step : ((k : Key) → at key_cmp rest k ≡ cond (is_eq (key_cmp key k)) None (at key_cmp plan k)) → ((k : Key) → kept_at key_cmp new k ≡ cond (eq_by_cmp key_cmp k key) held (kept_at key_cmp old k))
-      → (k : Key) → unwrap_or (at key_cmp rest k) (kept_at key_cmp new k) ≡ unwrap_or (at key_cmp plan k) (kept_at key_cmp old k)
-  kept_step updates put k = ap₂ unwrap_or (left_at plan rest key held updates k) (put k)
-      ∙ elim (eq_by_cmp key_cmp k key) as (λ b. eq_by_cmp key_cmp k key ≡ b → unwrap_or (cond b None (at key_cmp plan k)) (cond b held (kept_at key_cmp old k)) ≡ unwrap_or (at key_cmp plan k) (kept_at key_cmp old k)) [
-        | true ↦ λ t. sym (ap (λ x. unwrap_or x (kept_at key_cmp old k)) (ap (at key_cmp plan) (key_is key_order k key t) ∙ value))
-        | false ↦ λ _. refl
-      ] refl
-
-module _ (plan old new : KeptDocs) (key : Key) (held : KeptDoc) (value : at key_cmp plan key ≡ Some held) (put : (k : Key) → kept_at key_cmp new k ≡ cond (eq_by_cmp key_cmp k key) held (kept_at key_cmp old k)) where
-  pub held_step : ((k : Key) (e : KeptDoc) → at key_cmp plan k ≡ Some e → IsHeld e) → ((k : Key) → IsHeld (kept_at key_cmp old k)) → (k : Key) → IsHeld (kept_at key_cmp new k)
-  held_step whole before k = subst IsHeld (sym (put k)) (elim (eq_by_cmp key_cmp k key) as (λ b. IsHeld (cond b held (kept_at key_cmp old k))) [ true ↦ whole key held value | false ↦ before k ])
-
-  pub kept_listed_step : (index left : List (ℕ × BTreeSet Key))
-      → ((k : Key) (e : KeptDoc) (s : ℕ) → at key_cmp plan k ≡ Some e → has s e.publishers ≡ true → is_listed (lists_of index) s k ≡ true)
-      → ((k : Key) (s : ℕ) → has s (publishers_at key_cmp old k) ≡ true → is_listed (lists_of index) s k ≡ true)
-      → ((k : Key) (s : ℕ) → (eq_by_cmp key_cmp k key ≡ true → has s held.publishers ≡ true) → is_listed (lists_of index) s k ≡ true → is_listed (lists_of left) s k ≡ true)
-      → (k : Key) (s : ℕ) → has s (publishers_at key_cmp new k) ≡ true → is_listed (lists_of left) s k ≡ true
-  kept_listed_step index left planned before stays k s there =
-      elim (eq_by_cmp key_cmp k key) as (λ b. eq_by_cmp key_cmp k key ≡ b → has s (cond b held (kept_at key_cmp old k)).publishers ≡ true → is_listed (lists_of left) s k ≡ true) [
-        | true ↦ λ t h. stays k s (λ _. h) (ap (is_listed (lists_of index) s) (key_is key_order k key t) ∙ planned key held s value h)
-        | false ↦ λ f h. stays k s (λ t. absurd (true≢false (sym t ∙ f))) (before k s h)
-      ] refl (ap (λ e. has s e.publishers) (sym (put k)) ∙ there)
+    pub kept_listed_step : ((k : Key) (s : ℕ) → has s (publishers_at key_cmp old k) ≡ true → is_listed (lists_of index) s k ≡ true) → (k : Key) (s : ℕ) → has s (publishers_at key_cmp new k) ≡ true → is_listed (lists_of left) s k ≡ true
+    kept_listed_step before k s there = elim (eq_by_cmp key_cmp k key) as (λ b. eq_by_cmp key_cmp k key ≡ b → is_listed (lists_of left) s k ≡ true) [
+      | true ↦ λ t.
+          let at_key = key_is key_order k key t in
+          let now = sym (ap (has s) same.publishers) ∙ sym (ap (λ q. has s (publishers_at key_cmp new q)) at_key) ∙ there in
+          stays k s (λ _. now) (ap (is_listed (lists_of index) s) at_key ∙ will_list key change s value now)
+      | false ↦ λ t. stays k s (λ e. absurd (true≢false (sym e ∙ t))) (before k s (sym (ap (λ e. has s e.publishers) (kept_others k t)) ∙ there))
+    ] refl

@@ -1,14 +1,12 @@
 -- Walks in order over the fields that are kept of a document: what is made of the fields so far, with the next one.
-use Rattle.std.proofs.Common.{◌≡◌, Bool, true, false, cond, filter, List, [], ◌∷◌, ◌++◌, Option, Some, None, refl, sym, ap, ap₂, subst, ◌∙◌, append_assoc, append-nil}
+use Rattle.std.proofs.Common.{◌≡◌, List, [], ◌∷◌, ◌++◌, Option, Some, None, sym, ap, ap₂, subst, ◌∙◌, append_assoc, append-nil}
 use Rattle.std.specs.declared.cmp.Ordering.{Ordering}
 use Rattle.std.specs.BTreeMap.{insert_entry}
 use Rattle.std.specs.Map.{keys_of}
 use Rattle.std.proofs.lemmas.List.{map-append}
 use Rattle.map_model.specs.Maps.{IsSorted, IsKeyOrder, keyed, filter_map_entries}
 use Rattle.map_model.specs.OrderLaws.{put_next, pass_next, filter_map_entries-append}
-use Rattle.merge_model.specs.Kept.{is_empty}
-use Rattle.merge_model.specs.Box.{unless_empty}
-use Rattle.merge_box.specs.Held.{put_some, option_filter}
+use Rattle.merge_box.specs.Held.{put_some}
 
 module _ {K X Y : Type 0} {R : K → K → Ordering} (o : IsKeyOrder R) (f : K → X → Option Y) (all done : List (K × X)) (k : K) (x : X) (rest : List (K × X)) (made : List (K × Y)) (whole : all ≡ done ++ (k, x) ∷ rest) (so_far : made ≡ filter_map_entries f done) where
   -- one more is put
@@ -18,13 +16,6 @@ module _ {K X Y : Type 0} {R : K → K → Ordering} (o : IsKeyOrder R) (f : K �
   -- one is passed over
   pub walk_pass : f k x ≡ None → made ≡ filter_map_entries f (done ++ (k, x) ∷ [])
   walk_pass is = so_far ∙ pass_next f done (k, x) is
-
--- one more is put where it is not empty
-pub walk_unless_empty : {K X Z : Type 0} {R : K → K → Ordering} (o : IsKeyOrder R) (g : K → X → List Z) (all done : List (K × X)) (k : K) (x : X) (rest : List (K × X)) (made : List (K × List Z)) (zs : List Z)
-    → all ≡ done ++ (k, x) ∷ rest → made ≡ filter_map_entries (λ q y. unless_empty (g q y)) done → IsSorted R all → zs ≡ g k x
-    → cond (is_empty zs) made (insert_entry R made k zs) ≡ filter_map_entries (λ q y. unless_empty (g q y)) (done ++ (k, x) ∷ [])
-walk_unless_empty o g all done k x rest made [] whole so_far s is = walk_pass o (λ q y. unless_empty (g q y)) all done k x rest made whole so_far (ap unless_empty (sym is))
-walk_unless_empty o g all done k x rest made (z ∷ zs) whole so_far s is = walk_put o (λ q y. unless_empty (g q y)) all done k x rest made whole so_far (z ∷ zs) s (ap unless_empty (sym is))
 
 -- a walk goes on
 pub walk_on : {A : Type 0} (all done : List A) (x : A) (left rest : List A) → all ≡ done ++ left → left ≡ x ∷ rest → all ≡ (done ++ x ∷ []) ++ rest
@@ -43,19 +34,6 @@ walk_keys f done k x made w so_far is =
     ap₂ (λ a b. a ++ keys_of (keyed k b [])) so_far (sym is)
     ∙ sym (map-append (λ e. e.0) (filter_map_entries f done) (keyed k (f k x) []))
     ∙ ap keys_of (sym (filter_map_entries-append f done (k, x)))
-
--- a filter of what a walk makes is a walk
-pub filter-filter_map_entries : {K X Y : Type 0} (p : K × Y → Bool) (f : K → X → Option Y) (es : List (K × X)) → filter p (filter_map_entries f es) ≡ filter_map_entries (λ k x. option_filter (λ v. p (k, v)) (f k x)) es
-filter-filter_map_entries p f [] = refl
-filter-filter_map_entries p f (e ∷ es) =
-    let rest = filter-filter_map_entries p f es in
-    elim (f e.0 e.1) as (λ w. filter p (keyed e.0 w (filter_map_entries f es)) ≡ keyed e.0 (option_filter (λ v. p (e.0, v)) w) (filter_map_entries (λ k x. option_filter (λ v. p (k, v)) (f k x)) es)) [
-      | None ↦ rest
-      | Some v ↦ elim (p (e.0, v)) as (λ b. cond b ((e.0, v) ∷ filter p (filter_map_entries f es)) (filter p (filter_map_entries f es)) ≡ keyed e.0 (cond b (Some v) None) (filter_map_entries (λ k x. option_filter (λ v. p (k, v)) (f k x)) es)) [
-        | true ↦ ap (λ l. (e.0, v) ∷ l) rest
-        | false ↦ rest
-      ]
-    ]
 
 -- a walk that has ended has passed all
 pub walk_end : {A : Type 0} (all done left : List A) → all ≡ done ++ left → left ≡ [] → done ≡ all

@@ -1,18 +1,17 @@
 -- What contracts see of a merge box and of a plan, and what a call does to a box.
-use Rattle.std.specs.Prelude.{◌≡◌, ℕ, true, List, ◌∷◌, map, Option, Some, None, IsSome}
-use Rattle.std.specs.Option.{option_flatten}
-use Rattle.map_model.specs.Maps.{at, IsSorted, union}
+use Rattle.std.specs.Prelude.{◌≡◌, ℕ, Bool, false, not, ◌==◌, List, [], ◌∷◌, map, filter, length, Option}
+use Rattle.std.specs.List.{list_any}
+use Rattle.map_model.specs.Maps.{IsSorted}
 use Rattle.map_model.specs.Differences.{Step, IsDiff, diff}
 use Rattle.value_model.specs.Val.{Val, Entries}
 use Rattle.value_model.specs.Order.{text_cmp}
 use Rattle.merge_model.specs.Merge.{IsMerge}
 use Rattle.merge_model.specs.Publishing.{Call, shown, shown_since}
-use Rattle.merge_model.specs.Kept.{has, merged, kept_at, publishers_at, there_after, claims_of, claims_after, Stands, IsAfter}
+use Rattle.merge_model.specs.Kept.{merged, kept_at, Stands, IsAfter}
 use Rattle.ejson_value.specs.declared.key.Key.{Key}
 use Rattle.ejson_value.specs.declared.change.Publish.{Publish}
 use Rattle.ejson_value.specs.Key.{key_cmp}
-use Rattle.merge_box.specs.Held.{KeptDoc, same_value, IsHeld, IsKeptAfter}
-use Rattle.merge_box.specs.Index.{Lists, is_listed}
+use Rattle.merge_box.specs.Held.{KeptDoc, same_value, IsHeld}
 
 -- what is kept, by key
 abbrev pub KeptDocs : Type 0
@@ -26,34 +25,23 @@ Told = List (Key × Step (List ℕ) Val)
 abbrev pub Calls : Type 0
 Calls = List (Call Key Entries)
 
--- What a box keeps of each document, and which keys it lists under each subscription. An entry with no publisher and no
--- claim says the same as none: it is a place for what a plan brings.
+-- what a box keeps of each document that somebody publishes, and what it keeps once the last plan is carried out
 pub record BoxState : Type 0 where
   pub kept : KeptDocs
-  pub listed : Lists
-
--- what a plan makes of each document that changes, and its messages
-pub record PlanState : Type 0 where
-  pub sub : ℕ
-  pub kept : KeptDocs
-  pub messages : Told
+  pub planned : KeptDocs
 
 -- what is published, as pairs of a key and a document or none
 abbrev pub news_of : List Publish → List (Key × Option Entries)
 news_of news = map (λ p. (p.key, p.new)) news
 
--- the same is kept of each document
-abbrev pub KeepsSame : KeptDocs → KeptDocs → Type 0
-KeepsSame old new = (k : Key) → kept_at key_cmp new k ≡ kept_at key_cmp old k
+-- two or more subscriptions publish the document
+abbrev pub is_shared : List ℕ → Bool
+is_shared [] = false
+is_shared (s ∷ others) = list_any (λ r. not (r == s)) others
 
--- what is kept once the plan is carried out
-abbrev pub planned : PlanState → BoxState → KeptDocs
-planned plan box = union key_cmp plan.kept box.kept
-
--- new is old after the subscription's call said w of the document
-pub record IsSaidAfter (sub : ℕ) (w : Option (Option Entries)) (old new : KeptDoc) : Type 0 where
-  pub publishers : (s : ℕ) → has s new.publishers ≡ there_after sub w s (has s old.publishers)
-  pub claims : (f : List ℕ) → claims_of text_cmp new f ≡ claims_after text_cmp sub w f (claims_of text_cmp old f)
+-- how many documents two or more subscriptions publish
+abbrev pub shared_count : KeptDocs → ℕ
+shared_count kept = length (filter (λ e. is_shared e.1.publishers) kept)
 
 -- the box stands for the calls
 abbrev pub StandsFor : Calls → KeptDocs → Type 0
@@ -78,32 +66,13 @@ pub record Answers (call : Call Key Entries) (old new : KeptDocs) (messages : To
   pub told : (past : Calls) (before after : List (Key × Entries)) → StandsFor past old → IsMergeOf past before → IsMergeOf (call ∷ past) after
       → messages ≡ diff text_cmp same_value key_cmp before after
 
--- the box has a place for each document of the plan, and lists it under its publishers
-pub record IsReady (plan : PlanState) (box : BoxState) : Type 0 where
-  pub room : (k : Key) → IsSome (at key_cmp plan.kept k) → IsSome (at key_cmp box.kept k)
-  pub listed : (k : Key) (e : KeptDoc) (s : ℕ) → at key_cmp plan.kept k ≡ Some e → has s e.publishers ≡ true → is_listed box.listed s k ≡ true
+-- the plan that the box keeps does what the call says, and the messages are the call's answer
+pub record IsPlan (call : Call Key Entries) (box : BoxState) (messages : Told) : Type 0 where
+  pub after : IsBoxAfter call box.kept box.planned
+  pub told : Tells box.kept box.planned messages
+  pub answers : Answers call box.kept box.planned messages
 
--- the plan does what the call says, tells the difference, and the box is ready for it
-pub record IsPlan (call : Call Key Entries) (box : BoxState) (plan : PlanState) : Type 0 where
-  pub after : IsBoxAfter call box.kept (planned plan box)
-  pub told : Tells box.kept (planned plan box) plan.messages
-  pub ready : IsReady plan box
-
--- the keys are in order, each document is kept whole, and each key is listed under the document's publishers
-pub record IsBox (box : BoxState) : Type 0 where
-  pub by_key : IsSorted key_cmp box.kept
-  pub held : (k : Key) → IsHeld (kept_at key_cmp box.kept k)
-  pub listed : (k : Key) (s : ℕ) → has s (publishers_at key_cmp box.kept k) ≡ true → is_listed box.listed s k ≡ true
-
-pub record IsWhole (kept : KeptDocs) : Type 0 where
+-- the keys are in order, and each document is kept whole
+pub record IsBox (kept : KeptDocs) : Type 0 where
   pub by_key : IsSorted key_cmp kept
-  pub held : (k : Key) (e : KeptDoc) → at key_cmp kept k ≡ Some e → IsHeld e
-
--- what the plan has at a key: what is kept after the subscription's news of the document, if there are any
-abbrev pub IsPlannedAt : ℕ → Option (Option Entries) → KeptDoc → Option KeptDoc → Type 0
-IsPlannedAt sub w old None = w ≡ None
-IsPlannedAt sub w old (Some new) = (d : Option Entries) × (w ≡ Some d) × IsKeptAfter sub d old new × IsHeld new
-
--- the news are of a document
-abbrev pub IsPublished : Option (Option Entries) → Type 0
-IsPublished w = IsSome (option_flatten w)
+  pub held : (k : Key) → IsHeld (kept_at key_cmp kept k)

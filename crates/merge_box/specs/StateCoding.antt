@@ -1,4 +1,4 @@
--- Boxes and plans are stored as lists and pairs.
+-- Boxes and messages are stored as lists and pairs.
 use Rattle.std.specs.Prelude.{◌≡◌, ℕ, zero, suc, List, [], refl}
 use Rattle.std.specs.Coded.{Coded, code_by, coded×, coded_list, coded_ℕ}
 use Rattle.map_model.specs.Differences.{Step, added, changed, removed}
@@ -6,8 +6,7 @@ use Rattle.value_model.specs.Val.{Val, Entries}
 use Rattle.value_model.specs.Coding.{entries_code}
 use Rattle.ejson_value.specs.Key.{key_code}
 use Rattle.merge_box.specs.Held.{kept_code}
-use Rattle.merge_box.specs.Index.{Lists}
-use Rattle.merge_box.specs.State.{KeptDocs, Told, BoxState, PlanState}
+use Rattle.merge_box.specs.State.{KeptDocs, Told, BoxState}
 
 abbrev pub step_to : Step (List ℕ) Val → ℕ × Entries × List (List ℕ)
 step_to (added d) = (0, d, [])
@@ -30,14 +29,8 @@ step_code = code_by (ℕ × (Entries × List (List ℕ))) (coded× coded_ℕ (co
 abbrev pub kept_docs_code : Coded KeptDocs
 kept_docs_code = coded_list (coded× key_code kept_code)
 
-abbrev pub lists_code : Coded Lists
-lists_code = coded_list (coded× coded_ℕ (coded_list key_code))
-
 abbrev pub told_code : Coded Told
 told_code = coded_list (coded× key_code step_code)
 
 abbrev pub box_code : Coded BoxState
-box_code = code_by (KeptDocs × Lists) (coded× kept_docs_code lists_code) (λ b. (b.kept, b.listed)) (λ p. record { kept = p.0; listed = p.1 }) (λ _. refl)
-
-abbrev pub plan_code : Coded PlanState
-plan_code = code_by (ℕ × (KeptDocs × Told)) (coded× coded_ℕ (coded× kept_docs_code told_code)) (λ p. (p.sub, (p.kept, p.messages))) (λ p. record { sub = p.0; kept = p.1.0; messages = p.1.1 }) (λ _. refl)
+box_code = code_by (KeptDocs × KeptDocs) (coded× kept_docs_code kept_docs_code) (λ b. (b.kept, b.planned)) (λ p. record { kept = p.0; planned = p.1 }) (λ _. refl)

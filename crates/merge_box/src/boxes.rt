@@ -1,93 +1,68 @@
 //! The merge box and its plans.
-ghost use Rattle.std.specs.Prelude.{◌≡◌, [], ◌∷◌, map, Some, IsSome, IfOk, OnOk, OnErr};
+ghost use Rattle.std.specs.Prelude.{◌≡◌, [], map, IfOk, OnOk, OnErr};
 ghost use Rattle.map_model.specs.Maps.{at};
 ghost use Rattle.merge_model.specs.Publishing.{apply as applied, drop_sub as dropped};
 ghost use Rattle.merge_model.specs.Kept.{merged as merged_docs, merged_doc, kept_at};
-ghost use Rattle.ejson_value.specs.declared.key.Key.{Key};
 ghost use Rattle.ejson_value.specs.Key.{key_cmp};
-ghost use Rattle.merge_box.specs.Index.{lists_of};
 ghost use Rattle.ejson_value.specs.Messages.{said};
-ghost use Rattle.merge_box.specs.State.{BoxState, KeepsSame, planned, news_of, IsBoxAfter, Tells, Answers, IsReady, IsPlan, IsBox};
+ghost use Rattle.merge_box.specs.State.{news_of, shared_count, IsBoxAfter, Tells, Answers, IsPlan, IsBox};
 
 use crate::index::{Index, forget_unlisted};
-use crate::plan::{KeptMap, messages_of, plan_news, put_all, removals};
+use crate::plan::{KeptMap, messages_of, plan_news, removals, take_all};
 use ejson_value::{DataList, Doc, Key, Mem, Publish, Publishes};
 use std::alloc::Global;
 use std::collections::BTreeMap;
 use std::marker::Model;
+use std::mem;
 
 /// The merge box of a session: which subscriptions publish which documents, and for each field of a
 /// document the values in the order in which their subscriptions began to publish it. A client sees
-/// each field's first value.
+/// each field's first value. Contracts see what is kept of each document that somebody publishes,
+/// and what is kept once the last plan is carried out.
 #[derive(Drop)]
 pub struct MergeBox {
     alloc: Global,
+    // With places for what the changes bring.
     kept: KeptMap,
     index: Index,
+    // The last plan: its subscription, and what it changes.
+    sub: u64,
+    changes: KeptMap,
 }
 
 impl Model for MergeBox {
-    ghost use Rattle.merge_box.specs.State.{BoxState, IsBox};
+    ghost use Rattle.merge_box.specs.State.{BoxState};
     ghost use Rattle.merge_box.specs.StateCoding.{box_code};
     ghost use Rattle.merge_box.specs.Index.{lists_of};
+    ghost use Rattle.merge_box.specs.Inside.{docs_of, carried_out, IsInside};
 
     ghost Value = { BoxState };
 
     ghost coded = { box_code };
 
-    ghost view = { λ a. record { kept = a.kept.entries; listed = lists_of a.index.entries } };
+    ghost view = { λ a. record { kept = docs_of a.kept.entries; planned = docs_of (carried_out a.changes.entries a.kept.entries) } };
 
-    ghost invariant = { λ a. IsBox (record { kept = a.kept.entries; listed = lists_of a.index.entries }) };
+    ghost invariant = { λ a. IsInside a.kept.entries a.changes.entries (lists_of a.index.entries) };
 }
 
-/// What a call makes of each document that it changes, and its messages. It holds all memory that
-/// the call needs.
+/// What a planned call answers once it is carried out. What it changes waits in the box, with all
+/// the memory that it needs.
 #[derive(Drop)]
 pub struct MergePlan {
-    sub: u64,
-    kept: KeptMap,
     messages: DataList,
 }
 
 impl Model for MergePlan {
     ghost use Rattle.std.specs.Prelude.{map};
-    ghost use Rattle.merge_box.specs.State.{PlanState, IsWhole};
-    ghost use Rattle.merge_box.specs.StateCoding.{plan_code};
+    ghost use Rattle.merge_box.specs.State.{Told};
+    ghost use Rattle.merge_box.specs.StateCoding.{told_code};
     ghost use Rattle.ejson_value.specs.Messages.{said};
 
-    ghost Value = { PlanState };
+    ghost Value = { Told };
 
-    ghost coded = { plan_code };
+    ghost coded = { told_code };
 
-    ghost view = { λ a. record { sub = a.sub; kept = a.kept.entries; messages = map said a.messages } };
-
-    ghost invariant = { λ a. IsWhole a.kept.entries };
-}
-
-// Plans the news over what is kept, which stays the same but for new places.
-fn make_plan(
-    kept: &mut KeptMap,
-    index: &mut Index,
-    alloc: Global,
-    sub: u64,
-    news: &[Publish],
-) -> Result<MergePlan, Mem>
-    requires { IsBox (record { kept = kept.old.entries; listed = lists_of index.old.entries }) }
-    ensures same { KeepsSame kept.old.entries kept.new.entries }
-    ensures kept_whole { IsBox (record { kept = kept.new.entries; listed = lists_of index.new.entries }) }
-    ensures planned { IfOk result (λ plan. IsPlan (applied sub (news_of news.now))
-        (record { kept = kept.new.entries; listed = lists_of index.new.entries }) plan) }
-{
-    let made = plan_news(kept, index, alloc, sub, news);
-    let _len = kept.len();
-    let plan = made?;
-    let _planned = plan.len();
-    let messages = messages_of(kept, alloc, &plan)?;
-    Ok(MergePlan {
-        sub,
-        kept: plan,
-        messages,
-    })
+    ghost view = { λ a. map said a.messages };
 }
 
 // The document as the client sees it.
@@ -109,7 +84,7 @@ fn merged_at(kept: &KeptMap, alloc: Global, key: &Key) -> Result<Option<Doc>, Me
 impl MergePlan {
     /// The messages that the call will answer.
     pub fn messages(&self) -> &DataList
-        ensures { map said result.now ≡ self.now.messages }
+        ensures { map said result.now ≡ self.now }
     {
         &self.messages
     }
@@ -118,67 +93,73 @@ impl MergePlan {
 impl MergeBox {
     /// A box of which nobody publishes anything.
     pub fn new(alloc: Global) -> MergeBox
-        ensures { result ≡ record { kept = []; listed = [] } }
+        ensures { result ≡ record { kept = []; planned = [] } }
     {
         MergeBox {
             alloc,
             kept: BTreeMap::new(alloc),
             index: BTreeMap::new(alloc),
+            sub: 0,
+            changes: BTreeMap::new(alloc),
         }
     }
 
     /// Tells a proof what a box keeps whole; it does nothing.
     pub fn known(&self)
-        ensures { IsBox self.now }
+        ensures kept { IsBox self.now.kept }
+        ensures planned { IsBox self.now.planned }
     {
         let _ = &self.kept;
     }
 
-    /// Plans `apply`. What is published and its order stay as they are.
-    pub fn plan(&mut self, sub: u64, news: &Publishes) -> Result<MergePlan, Mem>
-        ensures same { KeepsSame self.old.kept self.new.kept }
+    // Plans what a subscription publishes now.
+    fn plan_call(&mut self, sub: u64, news: &[Publish]) -> Result<MergePlan, Mem>
+        ensures same { self.new.kept ≡ self.old.kept }
         ensures planned { IfOk result (λ plan. IsPlan (applied sub (news_of news.now)) self.new plan) }
+        ensures err { OnErr result (self.new ≡ self.old) }
     {
-        make_plan(
-            &mut self.kept,
-            &mut self.index,
-            self.alloc,
-            sub,
-            news.as_slice(),
-        )
+        let made = plan_news(&mut self.kept, &mut self.index, self.alloc, sub, news);
+        let _len = self.kept.len();
+        let changes = made?;
+        let _changed = changes.len();
+        let messages = messages_of(&self.kept, self.alloc, &changes)?;
+        self.sub = sub;
+        self.changes = changes;
+        Ok(MergePlan { messages })
     }
 
-    /// Plans `drop_sub`. What is published and its order stay as they are.
+    /// Plans `apply`. What is kept stays as it is, and the plan is what `commit` carries out next.
+    pub fn plan(&mut self, sub: u64, news: &Publishes) -> Result<MergePlan, Mem>
+        ensures same { self.new.kept ≡ self.old.kept }
+        ensures planned { IfOk result (λ plan. IsPlan (applied sub (news_of news.now)) self.new plan) }
+        ensures err { OnErr result (self.new ≡ self.old) }
+    {
+        self.plan_call(sub, news.as_slice())
+    }
+
+    /// Plans `drop_sub`. What is kept stays as it is, and the plan is what `commit` carries out next.
     pub fn plan_drop(&mut self, sub: u64) -> Result<MergePlan, Mem>
-        ensures same { KeepsSame self.old.kept self.new.kept }
+        ensures same { self.new.kept ≡ self.old.kept }
         ensures planned { IfOk result (λ plan. IsPlan (dropped sub) self.new plan) }
+        ensures err { OnErr result (self.new ≡ self.old) }
     {
         let news = removals(&self.index, self.alloc, sub)?;
-        make_plan(
-            &mut self.kept,
-            &mut self.index,
-            self.alloc,
-            sub,
-            news.as_slice(),
-        )
+        let plan = self.plan_call(sub, news.as_slice())?;
+        self.known();
+        Ok(plan)
     }
 
-    /// Carries the plan out and answers its messages. The plan is of this box, and nothing was
-    /// planned or changed since.
+    /// Carries out what was planned last, and answers the messages of `plan`, which is that plan. It
+    /// takes no memory.
     pub fn commit(&mut self, plan: MergePlan) -> DataList
-        requires { IsReady plan self.old }
-        ensures kept { KeepsSame (planned plan self.old) self.new.kept }
-        ensures messages { map said result ≡ plan.messages }
+        ensures kept { self.new.kept ≡ self.old.planned }
+        ensures messages { map said result ≡ plan }
     {
-        let MergePlan {
-            sub,
-            kept,
-            messages,
-        } = plan;
-        put_all(&mut self.kept, &mut self.index, sub, kept);
-        forget_unlisted(&mut self.index, sub);
+        let changes = mem::replace(&mut self.changes, BTreeMap::new(self.alloc));
+        take_all(&mut self.kept, &mut self.index, self.sub, changes);
+        forget_unlisted(&mut self.index, self.sub);
         let _len = self.kept.len();
-        messages
+        plan.messages
     }
 
     /// Puts what a subscription publishes now, and answers what the client is told, by collection
@@ -188,14 +169,10 @@ impl MergeBox {
         ensures told { IfOk result (λ messages. Tells self.old.kept self.new.kept (map said messages)) }
         ensures answers { IfOk result (λ messages.
             Answers (applied sub (news_of news.now)) self.old.kept self.new.kept (map said messages)) }
-        ensures err { OnErr result (KeepsSame self.old.kept self.new.kept) }
+        ensures err { OnErr result (self.new ≡ self.old) }
     {
-        self.known();
         let plan = self.plan(sub, news)?;
-        self.known();
-        let messages = self.commit(plan);
-        self.known();
-        Ok(messages)
+        Ok(self.commit(plan))
     }
 
     /// Takes away all that a subscription publishes, and answers what the client is told, by
@@ -204,14 +181,10 @@ impl MergeBox {
         ensures after { OnOk result (IsBoxAfter (dropped sub) self.old.kept self.new.kept) }
         ensures told { IfOk result (λ messages. Tells self.old.kept self.new.kept (map said messages)) }
         ensures answers { IfOk result (λ messages. Answers (dropped sub) self.old.kept self.new.kept (map said messages)) }
-        ensures err { OnErr result (KeepsSame self.old.kept self.new.kept) }
+        ensures err { OnErr result (self.new ≡ self.old) }
     {
-        self.known();
         let plan = self.plan_drop(sub)?;
-        self.known();
-        let messages = self.commit(plan);
-        self.known();
-        Ok(messages)
+        Ok(self.commit(plan))
     }
 
     /// The document at this key as the client sees it.
@@ -220,5 +193,19 @@ impl MergeBox {
     {
         let doc = merged_at(&self.kept, self.alloc, key)?;
         Ok(doc)
+    }
+
+    /// How many documents two or more subscriptions publish. It looks at each document.
+    pub fn listed(&self) -> u64
+        ensures { result ≡ shared_count self.now.kept }
+    {
+        let _len = self.kept.len();
+        let mut count = 0;
+        for (_, held) in self.kept.iter() {
+            if held.is_shared() {
+                count += 1;
+            }
+        }
+        count
     }
 }

@@ -1,9 +1,10 @@
 //! The claims on one field of a document.
 ghost use Rattle.std.specs.Prelude.{◌≡◌, ◌∷◌, ◌++◌, ◌==◌, [], not, filter, option_map, IfOk, OnOk, OnErr};
 ghost use Rattle.ejson_value.specs.View.{view};
-ghost use Rattle.merge_model.specs.Kept.{give, placed, first_value, is_empty};
+ghost use Rattle.merge_model.specs.Kept.{claimed, give, placed, first_value, is_empty};
+ghost use Rattle.merge_box.specs.Held.{keeps, changed_claims};
 
-use ejson_value::{Mem, Value, copy};
+use ejson_value::{Mem, Value, compare, copy};
 use std::alloc::Global;
 use std::marker::Model;
 
@@ -58,6 +59,29 @@ impl Claims {
         }
     }
 
+    // The subscription's value.
+    fn claim_of(&self, sub: u64) -> Option<&Value>
+        ensures { option_map (λ v. view v.now) result ≡ claimed sub self.now }
+    {
+        for claim in self.claims.as_slice() {
+            if claim.sub == sub {
+                return Some(&claim.value);
+            }
+        }
+        None
+    }
+
+    // Whether the subscription has this value already, where None is no value.
+    fn keeps(&self, sub: u64, value: Option<&Value>) -> bool
+        ensures { result ≡ keeps sub (option_map (λ v. view v.now) value.entry) self.now }
+    {
+        match (self.claim_of(sub), value) {
+            (None, None) => true,
+            (Some(old), Some(new)) => compare(old, new).is_eq(),
+            _ => false,
+        }
+    }
+
     /// One more claim, behind all others.
     fn push(&mut self, sub: u64, value: &Value) -> Result<(), Mem>
         ensures ok { OnOk result (self.new ≡ self.old ++ (sub, view value.now) ∷ []) }
@@ -99,6 +123,22 @@ impl Claims {
             }
         }
         Ok(copies)
+    }
+
+    /// A copy with what the subscription publishes now, where that is something else than before.
+    pub(crate) fn changed(
+        &self,
+        alloc: Global,
+        sub: u64,
+        value: Option<&Value>,
+    ) -> Result<Option<Claims>, Mem>
+        ensures { IfOk result (λ claims. claims ≡ changed_claims sub (option_map (λ v. view v.now) value.entry) self.now) }
+    {
+        if self.keeps(sub, value) {
+            Ok(None)
+        } else {
+            Ok(Some(self.placed(alloc, sub, value)?))
+        }
     }
 
     /// A copy with what the subscription publishes now, where None is nothing.

@@ -1,15 +1,16 @@
 //! What is kept of one document.
-ghost use Rattle.std.specs.Prelude.{◌≡◌, ◌==◌, ◌≢◌, ◌++◌, ◌∷◌, ℕ, List, [], not, filter, is_some, option_map, option_copied, unwrap_or, IfOk, OnOk, if◌then◌else◌, ◌↔◌, IsTrue};
+ghost use Rattle.std.specs.Prelude.{◌≡◌, ◌==◌, ◌++◌, ◌∷◌, ℕ, false, List, [], not, IsSome, filter, is_some, option_map, option_copied, unwrap_or, IfOk, OnOk, if◌then◌else◌};
 ghost use Rattle.std.specs.Option.{option_or};
-ghost use Rattle.std.specs.BTreeMap.{insert_entry};
+ghost use Rattle.std.specs.List.{list_any};
 ghost use Rattle.std.specs.Map.{keys_of};
 ghost use Rattle.map_model.specs.Maps.{at, keyed, filter_map_entries};
-ghost use Rattle.map_model.specs.Differences.{is_there, new_fields, cleared};
+ghost use Rattle.map_model.specs.Differences.{is_there};
 ghost use Rattle.merge_model.specs.Kept.{placed, nothing_kept, has, is_empty, merged_fields, first_value};
-ghost use Rattle.merge_model.specs.Box.{unless_empty};
+ghost use Rattle.std.specs.Ordering.{eq_by_cmp};
 ghost use Rattle.value_model.specs.Order.{text_cmp};
 ghost use Rattle.ejson_value.specs.View.{view};
-ghost use Rattle.merge_box.specs.Held.{value_in, same_value, put_some, unseen, gone, IsHeld, IsKeptAfter};
+ghost use Rattle.merge_box.specs.State.{is_shared};
+ghost use Rattle.merge_box.specs.Held.{value_in, same_value, put_some, unseen, lost, changed_claims, with_change, IsHeld, IsChange, SameDoc, IsDocGrown, HasPlaces};
 
 use crate::claims::Claims;
 use ejson_value::{Doc, Mem, Names, Text, Value, compare, copy};
@@ -17,8 +18,9 @@ use std::alloc::Global;
 use std::collections::BTreeMap;
 use std::marker::Model;
 
-/// The subscriptions that publish a document, and the claims on each of its fields. A contract sees
-/// it as `Kept`. Each subscription with a claim publishes the document.
+/// The subscriptions that publish a document, and the claims on each of its fields; of a change,
+/// those that publish it afterwards, and the claims on each field that changes. A contract sees it
+/// as `Kept`. Each subscription with a claim publishes the document.
 #[derive(Drop)]
 pub(crate) struct Held {
     publishers: Vec<u64>,
@@ -62,6 +64,18 @@ fn publishers_after(
     Ok(made)
 }
 
+// Whether another subscription than the first is among these.
+fn has_other(others: &[u64], first: u64) -> bool
+    ensures { result ≡ list_any (λ r. not (r == first)) others.now }
+{
+    for other in others {
+        if *other != first {
+            return true;
+        }
+    }
+    false
+}
+
 // What the document has as the field of this name.
 fn value_in<'a>(doc: Option<&'a Doc>, name: &Text) -> Option<&'a Value>
     ensures { option_map (λ v. view v.now) result ≡ value_in (option_copied doc.entry) name.now }
@@ -72,18 +86,24 @@ fn value_in<'a>(doc: Option<&'a Doc>, name: &Text) -> Option<&'a Value>
     }
 }
 
-// Puts the claims as those of the field, unless there are none.
-fn put_claims(fields: &mut BTreeMap<Text, Claims>, name: &Text, claims: Claims) -> Result<(), Mem>
-    ensures { OnOk result (fields.new.entries ≡
-        (if is_empty claims then fields.old.entries else insert_entry text_cmp fields.old.entries name.now claims)) }
+// Puts the claims as those of the field, if there are any.
+fn put_claims(
+    fields: &mut BTreeMap<Text, Claims>,
+    name: &Text,
+    claims: Option<Claims>,
+) -> Result<(), Mem>
+    ensures { OnOk result (fields.new.entries ≡ put_some text_cmp fields.old.entries name.now claims) }
 {
-    if !claims.is_empty() {
-        drop(fields.insert(name.copy()?, claims)?);
+    match claims {
+        None => Ok(()),
+        Some(claims) => {
+            drop(fields.insert(name.copy()?, claims)?);
+            Ok(())
+        }
     }
-    Ok(())
 }
 
-// The claims on the fields that had some, with what `sub` publishes now.
+// The claims on the fields that had some, where what `sub` publishes now changes them.
 fn fields_after(
     alloc: Global,
     fields: &BTreeMap<Text, Claims>,
@@ -91,12 +111,12 @@ fn fields_after(
     doc: Option<&Doc>,
 ) -> Result<BTreeMap<Text, Claims>, Mem>
     ensures { IfOk result (λ made. made.entries ≡
-        filter_map_entries (λ f claims. unless_empty (placed sub (value_in (option_copied doc.entry) f) claims)) fields.now.entries) }
+        filter_map_entries (λ f claims. changed_claims sub (value_in (option_copied doc.entry) f) claims) fields.now.entries) }
 {
     let mut made = BTreeMap::new(alloc);
     for (name, claims) in fields.iter() {
-        let placed = claims.placed(alloc, sub, value_in(doc, name))?;
-        put_claims(&mut made, name, placed)?;
+        let changed = claims.changed(alloc, sub, value_in(doc, name))?;
+        put_claims(&mut made, name, changed)?;
     }
     Ok(made)
 }
@@ -122,14 +142,14 @@ fn claim_others(
     Ok(())
 }
 
-// The claims on all fields, with what `sub` publishes now.
-fn fields_with(
+// The claims on each field that changes, with what `sub` publishes now.
+fn changed_fields(
     alloc: Global,
     fields: &BTreeMap<Text, Claims>,
     sub: u64,
     doc: Option<&Doc>,
 ) -> Result<BTreeMap<Text, Claims>, Mem>
-    ensures { IfOk result (λ made. (f : List ℕ) → unwrap_or (at text_cmp made.entries f) [] ≡
+    ensures { IfOk result (λ made. (f : List ℕ) → unwrap_or (at text_cmp made.entries f) (unwrap_or (at text_cmp fields.now.entries f) []) ≡
         placed sub (value_in (option_copied doc.entry) f) (unwrap_or (at text_cmp fields.now.entries f) [])) }
 {
     let _len = fields.len();
@@ -140,6 +160,61 @@ fn fields_with(
             claim_others(alloc, &mut made, fields, sub, doc)?;
             Ok(made)
         }
+    }
+}
+
+// Makes a place for the field, if there is none.
+fn make_place(fields: &mut BTreeMap<Text, Claims>, alloc: Global, name: &Text) -> Result<(), Mem>
+    ensures same { (f : List ℕ) → unwrap_or (at text_cmp fields.new.entries f) [] ≡ unwrap_or (at text_cmp fields.old.entries f) [] }
+    ensures grows { (f : List ℕ) → IsSome (at text_cmp fields.old.entries f) → IsSome (at text_cmp fields.new.entries f) }
+    ensures room { OnOk result (IsSome (at text_cmp fields.new.entries name.now)) }
+{
+    if !fields.contains_key(name) {
+        drop(fields.insert(name.copy()?, Claims::new(alloc))?);
+    }
+    Ok(())
+}
+
+// Makes a place for each field that changes.
+fn make_places(
+    fields: &mut BTreeMap<Text, Claims>,
+    alloc: Global,
+    changes: &BTreeMap<Text, Claims>,
+) -> Result<(), Mem>
+    ensures same { (f : List ℕ) → unwrap_or (at text_cmp fields.new.entries f) [] ≡ unwrap_or (at text_cmp fields.old.entries f) [] }
+    ensures grows { (f : List ℕ) → IsSome (at text_cmp fields.old.entries f) → IsSome (at text_cmp fields.new.entries f) }
+    ensures room { OnOk result ((f : List ℕ) → IsSome (at text_cmp changes.now.entries f) → IsSome (at text_cmp fields.new.entries f)) }
+{
+    for (name, _) in changes.iter() {
+        make_place(fields, alloc, name)?;
+    }
+    Ok(())
+}
+
+// Puts the claims in the field's place, and takes the place away where there are none.
+fn put_or_clear(fields: &mut BTreeMap<Text, Claims>, name: &Text, claims: Claims)
+    requires { IsSome (at text_cmp fields.old.entries name.now) }
+    ensures claims { (f : List ℕ) → unwrap_or (at text_cmp fields.new.entries f) [] ≡
+        (if eq_by_cmp text_cmp f name.now then claims else unwrap_or (at text_cmp fields.old.entries f) []) }
+    ensures others { (f : List ℕ) → eq_by_cmp text_cmp f name.now ≡ false →
+        at text_cmp fields.new.entries f ≡ at text_cmp fields.old.entries f }
+{
+    if claims.is_empty() {
+        drop(fields.remove(name));
+    } else if let Some(place) = fields.get_mut(name) {
+        *place = claims;
+    }
+}
+
+// Puts the claims on each field that changes in its place. It takes no memory.
+fn take_fields(fields: &mut BTreeMap<Text, Claims>, changes: BTreeMap<Text, Claims>)
+    requires { (f : List ℕ) → IsSome (at text_cmp changes.entries f) → IsSome (at text_cmp fields.old.entries f) }
+    ensures { (f : List ℕ) → unwrap_or (at text_cmp fields.new.entries f) [] ≡
+        unwrap_or (at text_cmp changes.entries f) (unwrap_or (at text_cmp fields.old.entries f) []) }
+{
+    let mut changes = changes;
+    while let Some((name, claims)) = changes.pop_first() {
+        put_or_clear(fields, &name, claims);
     }
 }
 
@@ -160,13 +235,6 @@ impl Held {
         let _ = &self.fields;
     }
 
-    /// Whether nobody publishes the document and there is no claim.
-    pub(crate) fn is_nothing(&self) -> bool
-        ensures { IsTrue result ↔ (self.now ≡ nothing_kept) }
-    {
-        self.publishers.is_empty() && self.fields.is_empty()
-    }
-
     /// Whether the subscription publishes the document.
     pub(crate) fn publishes(&self, sub: u64) -> bool
         ensures { result ≡ has sub self.now.publishers }
@@ -180,14 +248,49 @@ impl Held {
         !self.publishers.is_empty()
     }
 
-    /// What is kept once `sub` publishes this document, or none.
-    pub(crate) fn after(&self, alloc: Global, sub: u64, doc: Option<&Doc>) -> Result<Held, Mem>
-        ensures { IfOk result (λ made. IsKeptAfter sub (option_copied doc.entry) self.now made) }
+    /// Whether two or more subscriptions publish the document.
+    pub(crate) fn is_shared(&self) -> bool
+        ensures { result ≡ is_shared self.now.publishers }
+    {
+        match self.publishers.as_slice() {
+            [] => false,
+            [first, others @ ..] => has_other(others, *first),
+        }
+    }
+
+    /// What changes once `sub` publishes this document, or none: its time grows with the document,
+    /// and it copies only the claims on fields that change.
+    pub(crate) fn change(&self, alloc: Global, sub: u64, doc: Option<&Doc>) -> Result<Held, Mem>
+        ensures { IfOk result (λ change. IsChange sub (option_copied doc.entry) self.now change) }
     {
         let publishers = publishers_after(alloc, self.publishers.as_slice(), sub, doc.is_some())?;
-        let fields = fields_with(alloc, &self.fields, sub, doc)?;
+        let _was = self.fields.len();
+        let fields = changed_fields(alloc, &self.fields, sub, doc)?;
         let _len = fields.len();
         Ok(Held { publishers, fields })
+    }
+
+    /// Makes a place for each field of the change.
+    pub(crate) fn make_places(&mut self, alloc: Global, change: &Held) -> Result<(), Mem>
+        ensures grown { IsDocGrown self.old self.new }
+        ensures room { OnOk result (HasPlaces self.new change.now) }
+    {
+        let made = make_places(&mut self.fields, alloc, &change.fields);
+        let _len = self.fields.len();
+        made
+    }
+
+    /// Takes over the change. It takes no memory.
+    pub(crate) fn take(&mut self, change: Held)
+        requires places { HasPlaces self.old change }
+        requires held { IsHeld (with_change self.old change) }
+        ensures same { SameDoc (with_change self.old change) self.new }
+        ensures held { IsHeld self.new }
+    {
+        let Held { publishers, fields } = change;
+        self.publishers = publishers;
+        take_fields(&mut self.fields, fields);
+        let _len = self.fields.len();
     }
 
     /// The document as the client sees it.
@@ -204,26 +307,23 @@ impl Held {
         Ok(doc)
     }
 
+    // The value that the client sees as that field.
+    fn shown(&self, name: &Text) -> Option<&Value>
+        ensures { option_map (λ v. view v.now) result ≡ at text_cmp (merged_fields self.now.fields) name.now }
+    {
+        match self.fields.get(name) {
+            None => None,
+            Some(claims) => claims.first(),
+        }
+    }
+
     // Whether the client sees this value as that field.
     fn shows(&self, name: &Text, value: &Value) -> bool
         ensures { result ≡ is_there text_cmp same_value (view value.now) (at text_cmp (merged_fields self.now.fields) name.now) }
     {
-        match self.fields.get(name) {
+        match self.shown(name) {
             None => false,
-            Some(claims) => match claims.first() {
-                None => false,
-                Some(shown) => compare(shown, value).is_eq(),
-            },
-        }
-    }
-
-    // Whether the client sees a field of this name.
-    fn has(&self, name: &Text) -> bool
-        ensures { result ≡ is_some (at text_cmp (merged_fields self.now.fields) name.now) }
-    {
-        match self.fields.get(name) {
-            None => false,
-            Some(claims) => claims.first().is_some(),
+            Some(shown) => compare(shown, value).is_eq(),
         }
     }
 
@@ -244,27 +344,21 @@ impl Held {
         }
     }
 
-    // Adds the name, unless there is no value or the client still sees a field of this name.
-    fn push_unseen(&self, names: &mut Names, name: &Text, value: Option<&Value>) -> Result<(), Mem>
+    // Adds the name, if the client sees a field of this name and there is no value any more.
+    fn push_lost(&self, names: &mut Names, name: &Text, value: Option<&Value>) -> Result<(), Mem>
         ensures { OnOk result (names.new ≡ names.old ++
-            keys_of (keyed name.now (gone (merged_fields self.now.fields) name.now (option_map (λ v. view v.now) value.entry)) [])) }
+            keys_of (keyed name.now (lost (merged_fields self.now.fields) name.now (option_map (λ v. view v.now) value.entry)) [])) }
     {
-        match value {
-            None => Ok(()),
-            Some(_) => {
-                if self.has(name) {
-                    Ok(())
-                } else {
-                    names.push(name.copy()?)
-                }
-            }
+        match (value, self.shown(name)) {
+            (None, Some(_)) => names.push(name.copy()?),
+            _ => Ok(()),
         }
     }
 
-    /// The fields that the client sees here, and not or otherwise before.
+    /// The fields of this change that the client did not see before, or saw otherwise.
     pub(crate) fn new_fields(&self, alloc: Global, before: &Held) -> Result<Doc, Mem>
         ensures { IfOk result (λ doc. doc ≡
-            new_fields text_cmp same_value (merged_fields before.now.fields) (merged_fields self.now.fields)) }
+            filter_map_entries (λ f claims. unseen (merged_fields before.now.fields) f (first_value claims)) self.now.fields) }
     {
         let mut doc = Doc::new(alloc);
         for (name, claims) in self.fields.iter() {
@@ -273,14 +367,14 @@ impl Held {
         Ok(doc)
     }
 
-    /// The names of the fields that the client sees here, and not afterwards.
-    pub(crate) fn cleared(&self, alloc: Global, after: &Held) -> Result<Names, Mem>
-        ensures { IfOk result (λ names. names ≡
-            cleared text_cmp same_value (merged_fields self.now.fields) (merged_fields after.now.fields)) }
+    /// The names of the fields of this change that the client saw before, and sees no more.
+    pub(crate) fn cleared(&self, alloc: Global, before: &Held) -> Result<Names, Mem>
+        ensures { IfOk result (λ names. names ≡ keys_of
+            (filter_map_entries (λ f claims. lost (merged_fields before.now.fields) f (first_value claims)) self.now.fields)) }
     {
         let mut names = Names::new(alloc);
         for (name, claims) in self.fields.iter() {
-            after.push_unseen(&mut names, name, claims.first())?;
+            before.push_lost(&mut names, name, claims.first())?;
         }
         Ok(names)
     }

@@ -10,6 +10,3 @@ mod plan;
 
 pub use boxes::{MergeBox, MergePlan};
 pub use ejson_value::{DataList, DataMsg};
-
-#[cfg(test)]
-mod tests;

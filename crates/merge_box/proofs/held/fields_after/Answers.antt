@@ -1,10 +1,9 @@
-use Rattle.std.proofs.Common.{◌∷◌, [], ◌++◌, ap, sym, subst, ◌∙◌, option_copied}
+use Rattle.std.proofs.Common.{◌∷◌, [], ◌++◌, refl, ap, sym, subst, ◌∙◌, option_copied}
 use Rattle.map_model.specs.Maps.{IsSorted}
 use Rattle.value_model.specs.Order.{text_cmp}
-use Rattle.merge_model.specs.Kept.{placed}
-use Rattle.merge_box.specs.Held.{value_in}
-use Rattle.merge_box.specs.Names.{name_order}
-use Rattle.merge_box.proofs.Walks.{walk_unless_empty, walk_on}
+use Rattle.merge_box.specs.Held.{value_in, put_some, changed_claims}
+use Rattle.ejson_value.specs.Key.{name_order}
+use Rattle.merge_box.proofs.Walks.{walk_put_some, walk_on}
 use Rattle.merge_box.proofs.held.fields_after.Goals as goal
 
 pub loop-name-preserved : goal.loop-name-preserved
@@ -20,6 +19,8 @@ loop-name-preserved c =
       is_finite = tt;
       done = walk.done ++ (name, claims) ∷ [];
       whole = walk_on all walk.done (name, claims) c.loop-name.name-iterator rest walk.whole c.in-Some.ensures.steps;
-      made = c.in_ok-put_claims.ensures ∙ walk_unless_empty name_order (λ f cs. placed c.args.sub (value_in (option_copied c.args.doc) f) cs) all walk.done name claims rest c.loop-name.made.entries c.in_ok-placed.placed
-          (walk.whole ∙ ap (λ l. walk.done ++ l) c.in-Some.ensures.steps) walk.made sorted (c.in_ok-placed.ensures ∙ ap (λ w. placed c.args.sub w claims) c.value_in.ensures);
+      made = c.in_ok-put_claims.ensures
+          ∙ ap (put_some text_cmp c.loop-name.made.entries name) (c.in_ok-changed.ensures ∙ ap (λ w. changed_claims c.args.sub w claims) c.value_in.ensures)
+          ∙ walk_put_some name_order (λ f cs. changed_claims c.args.sub (value_in (option_copied c.args.doc) f) cs) all walk.done name claims rest c.loop-name.made.entries (changed_claims c.args.sub (value_in (option_copied c.args.doc) name) claims)
+          (walk.whole ∙ ap (λ l. walk.done ++ l) c.in-Some.ensures.steps) walk.made sorted refl;
     }

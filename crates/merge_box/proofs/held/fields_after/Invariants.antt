@@ -1,9 +1,7 @@
 use Rattle.std.proofs.Common.{◌≡◌, ℕ, List, ◌++◌, option_copied}
 use Rattle.value_model.specs.Val.{Val}
 use Rattle.map_model.specs.Maps.{filter_map_entries}
-use Rattle.merge_model.specs.Kept.{placed}
-use Rattle.merge_model.specs.Box.{unless_empty}
-use Rattle.merge_box.specs.Held.{value_in}
+use Rattle.merge_box.specs.Held.{value_in, changed_claims}
 use Rattle.merge_box.proofs.held.fields_after.Given as goal
 
 abbrev pub invariant-loop-name : goal.invariant-loop-name
@@ -12,5 +10,5 @@ invariant-loop-name l = record {
   is_finite : goal.iterator-loop-name.is_finite l.name-iterator;
   done : List (List ℕ × List (ℕ × Val));
   whole : l.initial.name-iterator ≡ done ++ l.name-iterator;
-  made : l.made.entries ≡ filter_map_entries (λ f claims. unless_empty (placed l.sub (value_in (option_copied l.doc) f) claims)) done;
+  made : l.made.entries ≡ filter_map_entries (λ f claims. changed_claims l.sub (value_in (option_copied l.doc) f) claims) done;
 }

@@ -4,7 +4,7 @@ use Rattle.map_model.specs.Differences.{between}
 use Rattle.merge_model.specs.Kept.{kept_at, merged_doc}
 use Rattle.value_model.specs.Order.{text_cmp}
 use Rattle.ejson_value.specs.Key.{key_cmp}
-use Rattle.merge_box.specs.Held.{same_value}
+use Rattle.merge_box.specs.Held.{same_value, with_change}
 use Rattle.ejson_value.specs.Messages.{said}
 use Rattle.merge_box.specs.State.{KeptDocs}
 use Rattle.merge_box.proofs.plan.messages_of.Given as goal
@@ -15,5 +15,5 @@ invariant-loop-key l = record {
   is_finite : goal.iterator-loop-key.is_finite l.key-iterator;
   done : KeptDocs;
   whole : l.initial.key-iterator ≡ done ++ l.key-iterator;
-  made : map said l.messages ≡ filter_map_entries (λ k held. between text_cmp same_value (merged_doc (kept_at key_cmp l.kept.entries k)) (merged_doc held)) done;
+  made : map said l.messages ≡ filter_map_entries (λ k change. between text_cmp same_value (merged_doc (kept_at key_cmp l.kept.entries k)) (merged_doc (with_change (kept_at key_cmp l.kept.entries k) change))) done;
 }

@@ -5,14 +5,15 @@ use Rattle.merge_model.specs.Kept.{kept_at}
 use Rattle.ejson_value.specs.declared.key.Key.{Key}
 use Rattle.ejson_value.specs.Key.{key_cmp}
 use Rattle.merge_box.specs.Index.{lists_of, is_listed}
-use Rattle.merge_box.specs.State.{KeepsSame, IsPlannedAt, IsPublished, news_of}
+use Rattle.merge_box.specs.State.{news_of}
+use Rattle.merge_box.specs.Inside.{IsGrown, IsPlannedAt, IsPublished}
 use Rattle.merge_box.proofs.plan.plan_news.Given as goal
 
 abbrev pub invariant-loop-publish : goal.invariant-loop-publish
 invariant-loop-publish l = record {
-  same : KeepsSame l.initial.kept.entries l.kept.entries;
+  grown : IsGrown l.initial.kept.entries l.kept.entries;
   listed : (s : ℕ) (k : Key) → is_listed (lists_of l.initial.index.entries) s k ≡ true → is_listed (lists_of l.index.entries) s k ≡ true;
-  planned : (k : Key) → IsPlannedAt l.sub (last_news key_cmp (news_of (take l.publish-index l.news)) k) (kept_at key_cmp l.initial.kept.entries k) (at key_cmp l.plan.entries k);
+  planned : (k : Key) → IsPlannedAt l.sub (last_news key_cmp (news_of (take l.publish-index l.news)) k) (kept_at key_cmp l.kept.entries k) (at key_cmp l.plan.entries k);
   room : (k : Key) → IsSome (at key_cmp l.plan.entries k) → IsSome (at key_cmp l.kept.entries k);
   listed_here : (k : Key) → IsPublished (last_news key_cmp (news_of (take l.publish-index l.news)) k) → is_listed (lists_of l.index.entries) l.sub k ≡ true;
 }

@@ -1,5 +1,18 @@
-use Rattle.merge_box.proofs.Plans.{put_planned}
+use Rattle.std.proofs.Common.{sym, subst}
+use Rattle.merge_model.specs.Kept.{kept_at}
+use Rattle.ejson_value.specs.Key.{key_cmp}
+use Rattle.merge_box.specs.Held.{IsChange}
+use Rattle.merge_box.proofs.Places.{change_grown}
+use Rattle.merge_box.proofs.Plans.{put_planned, put_planned_here}
 use Rattle.merge_box.proofs.plan.plan_publish.Goals as goal
 
 pub returns-clause-planned : goal.returns-clause-planned
-returns-clause-planned c = put_planned c.args.plan.now.entries c.insert.new.self.entries c.args.publish.now.key c.in_ok-copy.field-0 c.in_ok-held.held c.in_ok-copy.ensures c.in_ok-insert.ensures.updates.0
+returns-clause-planned c = put_planned c.args.plan.now.entries c.insert.new.self.entries c.args.publish.now.key c.in_ok-copy.field-0 c.in_ok-change.change c.in_ok-copy.ensures c.in_ok-insert.ensures.updates.0
+
+pub returns-clause-change : goal.returns-clause-change
+returns-clause-change c =
+    let key = c.args.publish.now.key in
+    let grown = c.make_places_at.new.kept.entries in
+    subst (IsChange c.args.sub c.args.publish.now.new (kept_at key_cmp grown key))
+    (sym (put_planned_here c.args.plan.now.entries c.insert.new.self.entries key c.in_ok-copy.field-0 c.in_ok-change.change c.in_ok-copy.ensures c.in_ok-insert.ensures.updates.0))
+    (change_grown c.args.sub c.args.publish.now.new (kept_at key_cmp c.make_room.new.kept.entries key) (kept_at key_cmp grown key) c.in_ok-change.change (c.make_places_at.ensures.grown.docs key) c.in_ok-change.ensures)

@@ -1,19 +1,19 @@
-use Rattle.std.proofs.Common.{unwrap_or, subst₂, sym, ap₂, ◌∙◌}
+use Rattle.std.proofs.Common.{ap, subst, ◌∙◌}
 use Rattle.merge_model.specs.Kept.{kept_at}
-use Rattle.map_model.specs.Maps.{at}
+use Rattle.ejson_value.specs.declared.key.Key.{Key}
 use Rattle.ejson_value.specs.Key.{key_cmp}
-use Rattle.merge_box.specs.State.{IsReady}
-use Rattle.merge_box.specs.Committed.{kept_at-planned}
+use Rattle.merge_box.specs.Held.{SameDoc}
+use Rattle.merge_box.specs.Index.{lists_of}
+use Rattle.merge_box.specs.Inside.{after_at}
+use Rattle.merge_box.specs.State.{KeptDocs}
+use Rattle.merge_box.proofs.MakePlan.{carried_is}
 use Rattle.merge_box.proofs.boxes.MergeBox.commit.Goals as goal
 
-pub put_all-requires-clause-room : goal.put_all-requires-clause-room
-put_all-requires-clause-room c = (subst₂ IsReady (sym c.plan.view_is) (sym c.self.view_is) c.requires).room
-
-pub put_all-requires-clause-planned_listed : goal.put_all-requires-clause-planned_listed
-put_all-requires-clause-planned_listed c = (subst₂ IsReady (sym c.plan.view_is) (sym c.self.view_is) c.requires).listed
-
 pub returns-clause-kept : goal.returns-clause-kept
-returns-clause-kept c = λ k.
-    c.put_all.ensures.kept k
-    ∙ ap₂ (λ p b. unwrap_or (at key_cmp p.kept k) (kept_at key_cmp b.kept k)) c.plan.view_is c.self.view_is
-    ∙ sym (kept_at-planned c.args.plan c.args.self.now k)
+returns-clause-kept c =
+    let kept = c.self.inside.kept.entries in
+    let new = c.take_all.new.kept.entries in
+    let Same : KeptDocs → Type 0 = λ changes. (k : Key) → SameDoc (after_at changes kept k) (kept_at key_cmp new k) in
+    carried_is kept c.self.inside.changes.entries (lists_of c.self.inside.index.entries) c.self.invariant new c.len-len.ensures.ordered c.take_all.ensures.held
+    (subst Same (ap (λ m. m.entries) c.replace-changes.ensures.value) c.take_all.ensures.same)
+    ∙ ap (λ b. b.planned) c.self.view_is

@@ -1,16 +1,20 @@
-use Rattle.std.proofs.Common.{ap, ◌∙◌}
-use Rattle.merge_model.specs.Publishing.{apply, drop_sub, last_news}
+use Rattle.std.proofs.Common.{sym, ap, ◌∙◌}
+use Rattle.merge_model.specs.Publishing.{last_news}
+use Rattle.merge_model.specs.Kept.{has, kept_at}
 use Rattle.ejson_value.specs.Key.{key_cmp}
-use Rattle.merge_box.specs.Index.{lists_of}
-use Rattle.merge_box.specs.State.{BoxState, IsPlan, news_of}
-use Rattle.merge_box.proofs.MakePlan.{drop_is, map_ok}
+use Rattle.merge_box.specs.Index.{lists_of, is_listed}
+use Rattle.merge_box.specs.State.{news_of}
+use Rattle.merge_box.proofs.MakePlan.{drop_is}
+use Rattle.merge_box.proofs.Places.{kept_same}
 use Rattle.merge_box.proofs.boxes.MergeBox.plan_drop.Goals as goal
 
 pub returns-clause-planned : goal.returns-clause-planned
 returns-clause-planned c =
-    let old : BoxState = record { kept = c.self.inside.kept.entries; listed = lists_of c.self.inside.index.entries } in
-    let box : BoxState = record { kept = c.make_plan.new.kept.entries; listed = lists_of c.make_plan.new.index.entries } in
-    let news = news_of c.as_slice.result.now in
-    map_ok c.make_plan.result (IsPlan (apply c.args.sub news) box) (IsPlan (drop_sub c.args.sub) box)
-    (λ plan is. drop_is c.args.sub news old box plan c.self.invariant c.make_plan.ensures.same (λ k. ap (λ n. last_news key_cmp (news_of n) k) c.as_slice.ensures ∙ c.in_ok-news.ensures k) is)
-    c.make_plan.ensures.planned
+    let lists = lists_of c.self.inside.index.entries in
+    let kept = c.self.inside.kept.entries in
+    let box = c.plan_call.new.self in
+    drop_is c.args.sub (news_of c.as_slice.result.now) box c.in_ok-plan.plan (is_listed lists c.args.sub) c.known.ensures.kept c.known.ensures.planned
+    (λ k. ap (λ n. last_news key_cmp (news_of n) k) c.as_slice.ensures ∙ c.in_ok-news.ensures k)
+    (λ k there. c.self.invariant.listed k c.args.sub
+      (ap (has c.args.sub) (sym (kept_same kept k c.self.invariant.by_key (c.self.invariant.held k)).publishers ∙ ap (λ b. (kept_at key_cmp b.kept k).publishers) c.self.view_is ∙ ap (λ m. (kept_at key_cmp m k).publishers) (sym c.plan_call.ensures.same)) ∙ there))
+    c.in_ok-plan.ensures.planned

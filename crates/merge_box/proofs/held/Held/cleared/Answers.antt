@@ -1,18 +1,16 @@
-use Rattle.std.proofs.Common.{not, is_some, ◌∷◌, [], ◌++◌, refl, ap, sym, ◌∙◌}
+use Rattle.std.proofs.Common.{◌∷◌, [], ◌++◌, refl, ap, ◌∙◌}
 use Rattle.std.specs.Map.{keys_of}
-use Rattle.map_model.specs.Maps.{at, keyed, filter_map_entries}
-use Rattle.map_model.specs.Differences.{cleared}
-use Rattle.value_model.specs.Order.{text_cmp}
+use Rattle.map_model.specs.Maps.{keyed, filter_map_entries}
 use Rattle.merge_model.specs.Kept.{merged_fields, first_value}
 use Rattle.merge_box.specs.Claims.{Name, Pairs}
-use Rattle.merge_box.specs.Held.{same_value, gone}
-use Rattle.merge_box.proofs.Walks.{walk_on, walk_end, walk_keys, filter-filter_map_entries}
+use Rattle.merge_box.specs.Held.{lost}
+use Rattle.merge_box.proofs.Walks.{walk_on, walk_end, walk_keys}
 use Rattle.merge_box.proofs.held.Held.cleared.Goals as goal
 
 pub loop-name-preserved : goal.loop-name-preserved
 loop-name-preserved c =
     let walk = c.loop-name.invariant in
-    let seen = merged_fields c.args.after.now.fields in
+    let seen = merged_fields c.args.before.now.fields in
     let name = c.in-Some.name.now in
     let claims = c.in-Some.claims.now in
     let rest = c.next.new.self in
@@ -22,17 +20,15 @@ loop-name-preserved c =
       is_finite = tt;
       done = walk.done ++ (name, claims) ∷ [];
       whole = walk_on all walk.done (name, claims) c.loop-name.name-iterator rest walk.whole c.in-Some.ensures.steps;
-      made = c.in_ok-push_unseen.ensures
-          ∙ ap (λ w. c.loop-name.names ++ keys_of (keyed name (gone seen name w) [])) c.first.ensures
-          ∙ walk_keys (λ f cs. gone seen f (first_value cs)) walk.done name claims c.loop-name.names (gone seen name (first_value claims)) walk.made refl;
+      made = c.in_ok-push_lost.ensures
+          ∙ ap (λ w. c.loop-name.names ++ keys_of (keyed name (lost seen name w) [])) c.first.ensures
+          ∙ walk_keys (λ f cs. lost seen f (first_value cs)) walk.done name claims c.loop-name.names (lost seen name (first_value claims)) walk.made refl;
     }
 
 pub returns : goal.returns
 returns c =
     let walk = c.loop-name.invariant in
-    let seen = merged_fields c.args.after.now.fields in
-    let f = λ (name : Name) (claims : Pairs). gone seen name (first_value claims) in
+    let seen = merged_fields c.args.before.now.fields in
+    let f = λ (name : Name) (claims : Pairs). lost seen name (first_value claims) in
     let all = walk_end c.into_iter-name-iterator.result walk.done c.loop-name.name-iterator walk.whole c.in-None.ensures.steps.0 ∙ c.into_iter-name-iterator.ensures.into_iter_gives ∙ c.iter-name-items.ensures.rest in
-    walk.made ∙ ap (λ es. keys_of (filter_map_entries f es)) all
-    ∙ sym (ap keys_of (filter-filter_map_entries (λ e. not (is_some (at text_cmp seen e.0))) (λ name claims. first_value claims) c.self.inside.fields.entries))
-    ∙ ap (λ e. cleared text_cmp same_value (merged_fields e.fields) seen) c.self.view_is
+    walk.made ∙ ap (λ es. keys_of (filter_map_entries f es)) all ∙ ap (λ e. keys_of (filter_map_entries f e.fields)) c.self.view_is

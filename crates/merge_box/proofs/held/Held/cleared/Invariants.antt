@@ -3,7 +3,7 @@ use Rattle.std.specs.Map.{keys_of}
 use Rattle.value_model.specs.Val.{Val}
 use Rattle.map_model.specs.Maps.{filter_map_entries}
 use Rattle.merge_model.specs.Kept.{merged_fields, first_value}
-use Rattle.merge_box.specs.Held.{gone}
+use Rattle.merge_box.specs.Held.{lost}
 use Rattle.merge_box.proofs.held.Held.cleared.Given as goal
 
 abbrev pub invariant-loop-name : goal.invariant-loop-name
@@ -12,5 +12,5 @@ invariant-loop-name l = record {
   is_finite : goal.iterator-loop-name.is_finite l.name-iterator;
   done : List (List ℕ × List (ℕ × Val));
   whole : l.initial.name-iterator ≡ done ++ l.name-iterator;
-  made : l.names ≡ keys_of (filter_map_entries (λ f claims. gone (merged_fields l.after.fields) f (first_value claims)) done);
+  made : l.names ≡ keys_of (filter_map_entries (λ f claims. lost (merged_fields l.before.fields) f (first_value claims)) done);
 }

@@ -4,7 +4,7 @@ use Rattle.value_model.specs.Order.{text_cmp}
 use Rattle.value_model.specs.Doc.{put}
 use Rattle.merge_model.specs.Kept.{first_value}
 use Rattle.ejson_value.specs.View.{view}
-use Rattle.merge_box.specs.Names.{name_order}
+use Rattle.ejson_value.specs.Key.{name_order}
 use Rattle.merge_box.proofs.Walks.{walk_on, walk_put, walk_pass}
 use Rattle.merge_box.proofs.held.Held.merged.Goals as goal
 

@@ -1,12 +1,11 @@
-use Rattle.std.proofs.Common.{not, ◌∷◌, [], ◌++◌, refl, ap, sym, subst, ◌∙◌}
-use Rattle.map_model.specs.Maps.{at, IsSorted, filter_map_entries}
-use Rattle.map_model.specs.Differences.{is_there, new_fields}
+use Rattle.std.proofs.Common.{◌∷◌, [], ◌++◌, refl, ap, sym, subst, ◌∙◌}
+use Rattle.map_model.specs.Maps.{IsSorted, filter_map_entries}
 use Rattle.value_model.specs.Order.{text_cmp}
 use Rattle.merge_model.specs.Kept.{merged_fields, first_value}
 use Rattle.merge_box.specs.Claims.{Name, Pairs}
-use Rattle.merge_box.specs.Names.{name_order}
-use Rattle.merge_box.specs.Held.{same_value, put_some, unseen}
-use Rattle.merge_box.proofs.Walks.{walk_on, walk_end, walk_put_some, filter-filter_map_entries}
+use Rattle.ejson_value.specs.Key.{name_order}
+use Rattle.merge_box.specs.Held.{put_some, unseen}
+use Rattle.merge_box.proofs.Walks.{walk_on, walk_end, walk_put_some}
 use Rattle.merge_box.proofs.held.Held.new_fields.Goals as goal
 
 pub loop-name-preserved : goal.loop-name-preserved
@@ -35,5 +34,4 @@ returns c =
     let f = λ (name : Name) (claims : Pairs). unseen seen name (first_value claims) in
     let all = walk_end c.into_iter-name-iterator.result walk.done c.loop-name.name-iterator walk.whole c.in-None.ensures.steps.0 ∙ c.into_iter-name-iterator.ensures.into_iter_gives ∙ c.iter-name-items.ensures.rest in
     walk.made ∙ ap (filter_map_entries f) all
-    ∙ sym (filter-filter_map_entries (λ e. not (is_there text_cmp same_value e.1 (at text_cmp seen e.0))) (λ name claims. first_value claims) c.self.inside.fields.entries)
-    ∙ ap (λ e. new_fields text_cmp same_value seen (merged_fields e.fields)) c.self.view_is
+    ∙ ap (λ e. filter_map_entries f e.fields) c.self.view_is

@@ -1,0 +1,65 @@
+-- What a box keeps inside: documents with places for what a plan brings, and the changes of the last plan.
+use Rattle.std.specs.Prelude.{◌≡◌, ℕ, true, List, Option, Some, None, IsSome, if◌then◌else◌}
+use Rattle.std.specs.Option.{option_flatten}
+use Rattle.map_model.specs.Maps.{at, IsSorted, union, filter_map_entries}
+use Rattle.value_model.specs.Val.{Val, Entries}
+use Rattle.merge_model.specs.Kept.{has, is_empty, kept_at, publishers_at}
+use Rattle.merge_model.specs.Box.{unless_empty}
+use Rattle.ejson_value.specs.declared.key.Key.{Key}
+use Rattle.ejson_value.specs.Key.{key_cmp}
+use Rattle.merge_box.specs.Held.{KeptDoc, with_change, IsHeld, IsChange, IsDocGrown, HasPlaces}
+use Rattle.merge_box.specs.Index.{Lists, is_listed}
+use Rattle.merge_box.specs.State.{KeptDocs}
+
+-- the fields with claims
+abbrev pub claimed_fields : List (List ℕ × List (ℕ × Val)) → List (List ℕ × List (ℕ × Val))
+claimed_fields fields = filter_map_entries (λ f claims. unless_empty claims) fields
+
+-- the document without its empty places, if somebody publishes it
+abbrev pub published_doc : KeptDoc → Option KeptDoc
+published_doc e = if is_empty e.publishers then None else Some (record { publishers = e.publishers; fields = claimed_fields e.fields })
+
+-- the documents that somebody publishes
+abbrev pub docs_of : KeptDocs → KeptDocs
+docs_of kept = filter_map_entries (λ k e. published_doc e) kept
+
+-- what is kept once the changes are carried out
+abbrev pub carried_out : KeptDocs → KeptDocs → KeptDocs
+carried_out changes kept = union key_cmp (filter_map_entries (λ k change. Some (with_change (kept_at key_cmp kept k) change)) changes) kept
+
+abbrev pub with_change_if : Option KeptDoc → KeptDoc → KeptDoc
+with_change_if None e = e
+with_change_if (Some change) e = with_change e change
+
+-- the same at a key
+abbrev pub after_at : KeptDocs → KeptDocs → Key → KeptDoc
+after_at changes kept k = with_change_if (at key_cmp changes k) (kept_at key_cmp kept k)
+
+-- the same is kept of each document, in no fewer places
+pub record IsGrown (old new : KeptDocs) : Type 0 where
+  pub keys : (k : Key) → IsSome (at key_cmp old k) → IsSome (at key_cmp new k)
+  pub docs : (k : Key) → IsDocGrown (kept_at key_cmp old k) (kept_at key_cmp new k)
+
+-- the change of a document can be carried out, with no memory
+pub record IsReady (kept : KeptDocs) (k : Key) (change : KeptDoc) : Type 0 where
+  pub place : IsSome (at key_cmp kept k)
+  pub names : HasPlaces (kept_at key_cmp kept k) change
+  pub held : IsHeld (with_change (kept_at key_cmp kept k) change)
+
+-- each document is kept whole and is listed under its publishers, and the changes can be carried out
+pub record IsInside (kept changes : KeptDocs) (lists : Lists) : Type 0 where
+  pub by_key : IsSorted key_cmp kept
+  pub held : (k : Key) → IsHeld (kept_at key_cmp kept k)
+  pub listed : (k : Key) (s : ℕ) → has s (publishers_at key_cmp kept k) ≡ true → is_listed lists s k ≡ true
+  pub changes_by_key : IsSorted key_cmp changes
+  pub ready : (k : Key) (change : KeptDoc) → at key_cmp changes k ≡ Some change → IsReady kept k change
+  pub will_list : (k : Key) (change : KeptDoc) (s : ℕ) → at key_cmp changes k ≡ Some change → has s change.publishers ≡ true → is_listed lists s k ≡ true
+
+-- what a plan has at a key: the change that the subscription's news of the document make, if there are any
+abbrev pub IsPlannedAt : ℕ → Option (Option Entries) → KeptDoc → Option KeptDoc → Type 0
+IsPlannedAt sub w old None = w ≡ None
+IsPlannedAt sub w old (Some change) = (d : Option Entries) × (w ≡ Some d) × IsChange sub d old change × HasPlaces old change
+
+-- the news are of a document
+abbrev pub IsPublished : Option (Option Entries) → Type 0
+IsPublished w = IsSome (option_flatten w)

@@ -1,0 +1,264 @@
+//! The box as a client sees it. Expected messages are written by hand.
+use ejson_value::{Doc, Key, Mem, Publish, Publishes, Text, Value, Whole};
+use merge_box::{DataList, DataMsg, MergeBox};
+use std::alloc::Global;
+use std::test::Fail;
+
+// Each row is one call: the subscription; the document's id and then its fields, or `gone`, or `drop` where the
+// subscription ends; what the client is told, and in brackets how many documents two or more subscriptions publish.
+
+const FIRST_PUBLISHER_WINS: &str = "1 x a=1 => added c/x a=1; [0]
+2 x a=2 =>  [1]
+2 x a=3 =>  [1]
+1 x a=4 => changed c/x a=4; [1]
+2 x a=3 =>  [1]
+";
+
+const WINNER_LEAVES: &str = "1 x a=1 b=1 => added c/x a=1 b=1; [0]
+2 x a=2 c=2 => changed c/x c=2; [1]
+1 drop => changed c/x a=2 -b; [0]
+2 drop => removed c/x; [0]
+2 drop =>  [0]
+";
+
+const CLEARED_FIELD_GOES_BEHIND: &str = "1 x a=1 => added c/x a=1; [0]
+2 x a=2 =>  [1]
+1 x => changed c/x a=2; [1]
+1 x a=1 =>  [1]
+2 x => changed c/x a=1; [1]
+1 x => changed c/x -a; [1]
+";
+
+const EQUAL_VALUES_ARE_NOT_TOLD: &str = "1 x a=7 => added c/x a=7; [0]
+2 x a=7 =>  [1]
+1 gone x =>  [0]
+2 gone x => removed c/x; [0]
+";
+
+const STAYS_WHILE_ONE_PUBLISHES: &str = "1 x a=1 => added c/x a=1; [0]
+2 x =>  [1]
+1 gone x => changed c/x -a; [0]
+1 y => added c/y; [0]
+2 gone x => removed c/x; [0]
+1 gone z =>  [0]
+";
+
+const FIRST_ENDS: &str = "0 t1 a=1 => added c/t1 a=1; [0]
+1 t1 a=2 b=3 => changed c/t1 b=3; [1]
+0 drop => changed c/t1 a=2; [0]
+";
+
+fn number(n: i64) -> Value {
+    match Whole::of(n) {
+        None => Value::Null,
+        Some(whole) => Value::Int(whole),
+    }
+}
+
+fn put_field(doc: &mut Doc, alloc: Global, field: &str) -> Result<(), Mem> {
+    match field.split_once("=") {
+        None => Ok(()),
+        Some((name, n)) => doc.put(
+            Text::from_str(alloc, name)?,
+            number(n.parse::<i64>().unwrap_or(0)),
+        ),
+    }
+}
+
+fn doc_of(alloc: Global, fields: &str) -> Result<Doc, Mem> {
+    let mut doc = Doc::new(alloc);
+    for field in fields.split(' ') {
+        put_field(&mut doc, alloc, field)?;
+    }
+    Ok(doc)
+}
+
+fn key_of(alloc: Global, id: &str) -> Result<Key, Mem> {
+    Ok(Key {
+        collection: Text::from_str(alloc, "c")?,
+        id: Text::from_str(alloc, id)?,
+    })
+}
+
+fn news_of(alloc: Global, id: &str, new: Option<Doc>) -> Result<Publishes, Mem> {
+    let key = key_of(alloc, id)?;
+    let mut news = Publishes::new(alloc);
+    news.push(Publish { key, new })?;
+    Ok(news)
+}
+
+fn put(merge: &mut MergeBox, alloc: Global, sub: u64, act: &str) -> Result<DataList, Mem> {
+    let (id, fields) = match act.split_once(" ") {
+        None => (act, ""),
+        Some((id, fields)) => (id, fields),
+    };
+    let doc = doc_of(alloc, fields)?;
+    let news = news_of(alloc, id, Some(doc))?;
+    merge.apply(sub, &news)
+}
+
+fn call(merge: &mut MergeBox, alloc: Global, sub: u64, act: &str) -> Result<DataList, Mem> {
+    if act == "drop" {
+        return merge.drop_sub(sub);
+    }
+    match act.strip_prefix("gone ") {
+        None => put(merge, alloc, sub, act),
+        Some(id) => {
+            let news = news_of(alloc, id, None)?;
+            merge.apply(sub, &news)
+        }
+    }
+}
+
+fn write_fields(out: &mut String, alloc: Global, doc: &Doc) -> Result<(), Mem> {
+    for (name, value) in doc.iter() {
+        out.push_str(" ")?;
+        out.push_str(name.as_str())?;
+        let text = match value {
+            Value::Int(whole) => format!(in alloc; "={}", whole.get())?,
+            _ => format!(in alloc; "=?")?,
+        };
+        out.push_str(text.as_str())?;
+    }
+    Ok(())
+}
+
+fn write_key(out: &mut String, word: &str, key: &Key) -> Result<(), Mem> {
+    out.push_str(word)?;
+    out.push_str(key.collection.as_str())?;
+    out.push_str("/")?;
+    out.push_str(key.id.as_str())?;
+    Ok(())
+}
+
+fn write_names(out: &mut String, names: &[Text]) -> Result<(), Mem> {
+    for name in names {
+        out.push_str(" -")?;
+        out.push_str(name.as_str())?;
+    }
+    Ok(())
+}
+
+fn write_message(out: &mut String, alloc: Global, message: &DataMsg) -> Result<(), Mem> {
+    match message {
+        DataMsg::Added { key, fields } => {
+            write_key(out, "added ", key)?;
+            write_fields(out, alloc, fields)
+        }
+        DataMsg::Changed {
+            key,
+            fields,
+            cleared,
+        } => {
+            write_key(out, "changed ", key)?;
+            write_fields(out, alloc, fields)?;
+            write_names(out, cleared.as_slice())
+        }
+        DataMsg::Removed { key } => write_key(out, "removed ", key),
+    }
+}
+
+// The messages as text, each with a semicolon behind it.
+fn text_of(alloc: Global, messages: &DataList) -> Result<String, Mem> {
+    let mut out = String::new(alloc);
+    for message in messages.as_slice() {
+        write_message(&mut out, alloc, message)?;
+        out.push_str(";")?;
+    }
+    Ok(out)
+}
+
+fn told(merge: &mut MergeBox, alloc: Global, sub: u64, act: &str) -> Result<String, Mem> {
+    let messages = call(merge, alloc, sub, act)?;
+    let text = text_of(alloc, &messages)?;
+    Ok(format!(in alloc; "{} [{}]", text.as_str(), merge.listed())?)
+}
+
+fn is_right(merge: &mut MergeBox, alloc: Global, row: &str) -> Result<bool, Fail> {
+    let Some((call, wanted)) = row.split_once(" => ") else {
+        return Ok(false);
+    };
+    match call.split_once(" ") {
+        None => Ok(false),
+        Some((sub, act)) => {
+            let text = told(merge, alloc, sub.parse::<u64>().unwrap_or(0), act)?;
+            Ok(text.as_str() == wanted)
+        }
+    }
+}
+
+// How many rows of the table are right before the first that is not.
+fn right_rows(merge: &mut MergeBox, alloc: Global, rows: &str) -> Result<u64, Fail> {
+    let mut right = 0;
+    for row in rows.lines() {
+        if !is_right(merge, alloc, row)? {
+            return Ok(right);
+        }
+        right = right.saturating_add(1);
+    }
+    Ok(right)
+}
+
+fn right_in(alloc: Global, rows: &str) -> Result<u64, Fail> {
+    let mut merge = MergeBox::new(alloc);
+    right_rows(&mut merge, alloc, rows)
+}
+
+#[test]
+fn tables_of_calls(rt: HostRuntime) -> Result<(), Fail> {
+    for rows in [
+        FIRST_PUBLISHER_WINS,
+        WINNER_LEAVES,
+        CLEARED_FIELD_GOES_BEHIND,
+        EQUAL_VALUES_ARE_NOT_TOLD,
+        STAYS_WHILE_ONE_PUBLISHES,
+        FIRST_ENDS,
+    ] {
+        assert_eq!(rt; right_in(rt.alloc(), rows)?, rows.lines().count() as u64, "in {rows}");
+    }
+    Ok(())
+}
+
+fn shown(merge: &MergeBox, alloc: Global, id: &str) -> Result<String, Mem> {
+    let mut out = String::new(alloc);
+    match merge.merged(&key_of(alloc, id)?)? {
+        None => out.push_str("none")?,
+        Some(doc) => write_fields(&mut out, alloc, &doc)?,
+    }
+    Ok(out)
+}
+
+fn shown_after(alloc: Global, rows: &str, id: &str) -> Result<String, Fail> {
+    let mut merge = MergeBox::new(alloc);
+    let _right = right_rows(&mut merge, alloc, rows)?;
+    Ok(shown(&merge, alloc, id)?)
+}
+
+#[test]
+fn what_the_client_sees(rt: HostRuntime) -> Result<(), Fail> {
+    assert_eq!(rt; shown_after(rt.alloc(), FIRST_ENDS, "t1")?.as_str(), " a=2 b=3");
+    assert_eq!(rt; shown_after(rt.alloc(), WINNER_LEAVES, "x")?.as_str(), "none");
+    Ok(())
+}
+
+// Plans the end of subscription 1 twice, and carries the second plan out.
+fn planned_twice(merge: &mut MergeBox, alloc: Global) -> Result<String, Mem> {
+    let first = merge.plan_drop(1)?;
+    let mut out = text_of(alloc, first.messages())?;
+    let second = merge.plan_drop(1)?;
+    out.push_str(text_of(alloc, &merge.commit(second))?.as_str())?;
+    out.push_str(shown(merge, alloc, "x")?.as_str())?;
+    Ok(out)
+}
+
+fn planned_text(alloc: Global) -> Result<String, Fail> {
+    let mut merge = MergeBox::new(alloc);
+    let _told = told(&mut merge, alloc, 1, "x a=1")?;
+    Ok(planned_twice(&mut merge, alloc)?)
+}
+
+#[test]
+fn a_plan_changes_nothing_by_itself(rt: HostRuntime) -> Result<(), Fail> {
+    assert_eq!(rt; planned_text(rt.alloc())?.as_str(), "removed c/x;removed c/x;none");
+    Ok(())
+}
