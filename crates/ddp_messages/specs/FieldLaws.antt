@@ -4,7 +4,8 @@ use Rattle.std.proofs.Common.{ap, ◌∙◌}
 use Rattle.std.proofs.lemmas.Bool.{le-leb}
 use Rattle.serde_json.specs.Data.{string}
 use Rattle.serde_json.specs.Find.{as_str}
-use Rattle.value_model.specs.Val.{Val, Vals, Entries, vals_of, fields_of, entries_of-fields_of}
+use Rattle.value_model.specs.Val.{Val, Vals, Entries, vals_of, fields_of}
+use Rattle.value_model.specs.ValLaws.{entries_of-fields_of}
 use Rattle.value_model.specs.Val as value
 use Rattle.value_model.specs.Valid.{IsValue, AreValues, IsDocument}
 use Rattle.value_model.specs.ValidLaws.{IsValue-object}

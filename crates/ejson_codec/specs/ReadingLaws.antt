@@ -9,7 +9,8 @@ use Rattle.value_model.specs.Val.{Val, null, boolean, int, text, date, list, obj
 use Rattle.value_model.specs.Valid.{IsWhole, max_whole, IsUserName, max_user_name}
 use Rattle.value_model.specs.TruthLaws.{both_true}
 use Rattle.value_model.specs.Depth.{depth, vals_depth, fields_depth}
-use Rattle.ejson_value.specs.Results.{made, made-ok}
+use Rattle.ejson_value.specs.Results.{made}
+use Rattle.ejson_value.specs.ResultLaws.{made-ok}
 use Rattle.ejson_codec.specs.Shape.{keys_of_members, shape_of, first_of}
 use Rattle.ejson_codec.specs.Base64.{bytes_of}
 use Rattle.ejson_codec.specs.Base64Laws.{bytes_of_some, bytes_of-base64}

@@ -5,7 +5,8 @@ use Rattle.std.specs.List.Sorted.{IsStrictlySortedBy}
 use Rattle.std.specs.Map.{keys_of}
 use Rattle.serde_json.specs.Data.{Num, unsigned, negative, float, Data, Items, no_items, item, Members, no_members, member}
 use Rattle.serde_json.specs.Data as tree
-use Rattle.value_model.specs.Val.{Val, object, vals_of, Entries, fields_of, entries_of-fields_of}
+use Rattle.value_model.specs.Val.{Val, object, vals_of, Entries, fields_of}
+use Rattle.value_model.specs.ValLaws.{entries_of-fields_of}
 use Rattle.value_model.specs.Order.{text_cmp}
 use Rattle.value_model.specs.Valid.{IsWhole, IsUserName, IsValue, AreValues, HaveValues, HasRisingNames}
 use Rattle.ejson_codec.specs.Shape.{keys_of_members, shape_of, first_of}

@@ -7,7 +7,8 @@ use Rattle.std.proofs.lemmas.Int.{ints}
 use Rattle.serde_json.specs.Data.{Num, unsigned, negative, float, Data, Items, no_items, item, Members, no_members, member}
 use Rattle.serde_json.specs.Data as json
 use Rattle.serde_json.specs.Find.{of_integer}
-use Rattle.value_model.specs.Val.{Val, null, boolean, int, text, date, bytes, list, object, user, Vals, no_vals, val, Fields, no_fields, field, vals_of, list_of, Entries, fields_of, entries_of, vals_of-list_of, fields_of-entries_of}
+use Rattle.value_model.specs.Val.{Val, null, boolean, int, text, date, bytes, list, object, user, Vals, no_vals, val, Fields, no_fields, field, vals_of, list_of, Entries, fields_of, entries_of}
+use Rattle.value_model.specs.ValLaws.{vals_of-list_of, fields_of-entries_of}
 use Rattle.value_model.specs.TruthLaws.{both_true}
 use Rattle.value_model.specs.Valid.{IsWhole, IsValue, AreValues, HaveValues}
 use Rattle.value_model.specs.Size.{is_name, names_of, is_special}

@@ -5,7 +5,8 @@ use Rattle.std.specs.List.{list_any, flat_map}
 use Rattle.std.specs.Option.{option_map_or}
 use Rattle.std.proofs.lemmas.List.Folds.{list_any-append, flat_map-map}
 use Rattle.std.proofs.lemmas.Bool.{false≢true}
-use Rattle.value_model.specs.Val.{Val, list, object, Entries, vals_of, list_of, fields_of, list_of-vals_of, entries_of-fields_of}
+use Rattle.value_model.specs.Val.{Val, list, object, Entries, vals_of, list_of, fields_of}
+use Rattle.value_model.specs.ValLaws.{list_of-vals_of, entries_of-fields_of}
 use Rattle.value_model.specs.Doc.{get}
 use Rattle.value_model.specs.Branches.{Branch, branches, position_of, field_of, element_at, if_object, is_path}
 use Rattle.ejson_value.specs.declared.value.Value.{Value}

@@ -2,7 +2,8 @@
 use Rattle.std.specs.Prelude.{◌≡◌, ℕ, List, refl}
 use Rattle.std.specs.Coded.{Coded, code_by, coded_ℕ, coded_list, coded×}
 use Rattle.std.proofs.Common.{ap}
-use Rattle.value_model.specs.Val.{Val, null, boolean, int, text, date, bytes, list, object, user, list_of, entries_of, list_of-vals_of, entries_of-fields_of}
+use Rattle.value_model.specs.Val.{Val, null, boolean, int, text, date, bytes, list, object, user, list_of, entries_of}
+use Rattle.value_model.specs.ValLaws.{list_of-vals_of, entries_of-fields_of}
 use Rattle.value_model.specs.Coding.{val_code}
 use Rattle.ejson_value.specs.declared.value.Value.{Value}
 use Rattle.ejson_value.specs.declared.value.Value.TheVariants as shape

@@ -9,5 +9,6 @@ pub mod ChangeLaws
 pub mod Messages
 pub mod Asking
 pub mod Results
+pub mod ResultLaws
 pub mod Code
 pub mod Places

@@ -1,7 +1,8 @@
 -- Lemmas of loops that read parts one after another: what was read so far goes in front of what the rest reads as.
 use Rattle.std.proofs.Common.{◌≡◌, List, [], ◌∷◌, ◌++◌, Ok, Err, refl, ap, sym, ◌∙◌, false, cond, not}
 use Rattle.std.proofs.lemmas.List.{append_assoc}
-use Rattle.value_model.specs.Val.{Entries, fields_of, entries_of, entries_of-fields_of}
+use Rattle.value_model.specs.Val.{Entries, fields_of, entries_of}
+use Rattle.value_model.specs.ValLaws.{entries_of-fields_of}
 use Rattle.selector_match.specs.Reading.{has_operator, has_plain_name}
 use Rattle.ejson_value.specs.Results.{made, with_both}
 use Rattle.modifier_apply.specs.declared.fault.ModifierFault.TheVariants.{BadOperand}

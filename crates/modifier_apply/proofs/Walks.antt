@@ -6,7 +6,8 @@ use Rattle.std.proofs.lemmas.List.{set-set}
 use Rattle.std.specs.Ordering.{eq_by_cmp}
 use Rattle.map_model.specs.Maps.{at}
 use Rattle.map_model.specs.MapLaws.{same_maps, at-put, at-remove, sorted-put, sorted-remove}
-use Rattle.value_model.specs.Val.{Val, Entries, null, object, list, fields_of, vals_of, entries_of-fields_of, list_of-vals_of}
+use Rattle.value_model.specs.Val.{Val, Entries, null, object, list, fields_of, vals_of}
+use Rattle.value_model.specs.ValLaws.{entries_of-fields_of, list_of-vals_of}
 use Rattle.value_model.specs.Branches.{position_of}
 use Rattle.value_model.specs.Valid.{HasRisingNames}
 use Rattle.value_model.specs.Order.{text_cmp}

@@ -3,7 +3,8 @@ use Rattle.std.specs.Prelude.{if◌then◌else◌, nat_le, ◌&&◌}
 use Rattle.std.proofs.Common.{Bool, true, false, ◌≡◌, List, [], ◌∷◌, Some, None, refl, ap, ap₂, sym, ◌∙◌}
 use Rattle.std.proofs.lemmas.Bool.{leb-true}
 use Rattle.std.specs.List.{list_all}
-use Rattle.value_model.specs.Val.{Val, Entries, val, vals_of, list_of-vals_of, fields_of, entries_of, entries_of-fields_of}
+use Rattle.value_model.specs.Val.{Val, Entries, val, vals_of, fields_of, entries_of}
+use Rattle.value_model.specs.ValLaws.{list_of-vals_of, entries_of-fields_of}
 use Rattle.ejson_value.specs.View.{view, views}
 use Rattle.ejson_value.specs.declared.value.Value.{Value}
 use Rattle.ejson_value.specs.declared.value.Value.TheVariants as shape

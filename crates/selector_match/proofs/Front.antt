@@ -2,7 +2,8 @@
 use Rattle.std.proofs.Common.{◌≡◌, ◌==◌, false, length, List, [], ◌∷◌, Ok, Err, refl, ap}
 use Rattle.std.specs.Prelude.{if◌then◌else◌}
 use Rattle.std.specs.List.{list_all}
-use Rattle.value_model.specs.Val.{Val, list, vals_of, list_of-vals_of}
+use Rattle.value_model.specs.Val.{Val, list, vals_of}
+use Rattle.value_model.specs.ValLaws.{list_of-vals_of}
 use Rattle.ejson_value.specs.Results.{after}
 use Rattle.selector_match.specs.declared.fault.SelectorFault.TheVariants.{BadOperand}
 use Rattle.selector_match.specs.Query.{Query, no_clauses, clause, Clause, query_of, no_queries, query, queries_of, no_predicates, predicate, Predicate, predicates_of}

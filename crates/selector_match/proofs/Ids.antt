@@ -8,7 +8,8 @@ use Rattle.std.proofs.lemmas.Bool.Decides.{nat_tests}
 use Rattle.std.proofs.lemmas.Cmp.{nat_list_cmp_total}
 use Rattle.std.proofs.lemmas.Map.Lookups.{exact_bytes}
 use Rattle.value_model.specs.TruthLaws.{equal_of}
-use Rattle.value_model.specs.Val.{Val, text, object, Entries, fields_of, entries_of-fields_of}
+use Rattle.value_model.specs.Val.{Val, text, object, Entries, fields_of}
+use Rattle.value_model.specs.ValLaws.{entries_of-fields_of}
 use Rattle.value_model.specs.Order.{text_cmp}
 use Rattle.value_model.specs.OrderLaws.{own_reverse_ties}
 use Rattle.value_model.specs.Doc.{get, put}

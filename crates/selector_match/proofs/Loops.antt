@@ -4,7 +4,8 @@ use Rattle.std.specs.List.{list_any, list_all}
 use Rattle.std.proofs.lemmas.List.{take_all}
 use Rattle.std.proofs.lemmas.List.Folds.{list_any_more, list_any_at, list_all_more, list_all_at}
 use Rattle.std.specs.Option.{option_map_or}
-use Rattle.value_model.specs.Val.{Val, Fields, vals_of, list_of, list_of-vals_of}
+use Rattle.value_model.specs.Val.{Val, Fields, vals_of, list_of}
+use Rattle.value_model.specs.ValLaws.{list_of-vals_of}
 use Rattle.value_model.specs.Branches.{Branch}
 use Rattle.selector_match.specs.Query.{Query, queries_of}
 use Rattle.selector_match.specs.Holds.{list_in, elements, has_length, branch_candidates, query_holds, clause_holds, all_hold, some_holds, predicates_hold, predicate_holds}

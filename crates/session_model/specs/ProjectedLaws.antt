@@ -3,7 +3,8 @@ use Rattle.std.specs.Prelude.{◌≡◌, ℕ, ◌≤◌, List, ◌∷◌, Bool, 
 use Rattle.std.proofs.Common.{ap, sym, subst, arith}
 use Rattle.map_model.specs.Maps.{IsSorted, keyed, filter_map_entries}
 use Rattle.map_model.specs.MapLaws.{sorted-filter_map_entries}
-use Rattle.value_model.specs.Val.{Val, null, boolean, int, text, date, bytes, list, object, Vals, no_vals, val, Fields, no_fields, field, Entries, fields_of, entries_of, fields_of-entries_of, entries_of-fields_of}
+use Rattle.value_model.specs.Val.{Val, null, boolean, int, text, date, bytes, list, object, Vals, no_vals, val, Fields, no_fields, field, Entries, fields_of, entries_of}
+use Rattle.value_model.specs.ValLaws.{fields_of-entries_of, entries_of-fields_of}
 use Rattle.value_model.specs.Depth.{depth, vals_depth, fields_depth}
 use Rattle.value_model.specs.Order.{text_cmp}
 use Rattle.value_model.specs.Valid.{IsValue, AreValues, HaveValues, HasRisingNames, IsDocument}

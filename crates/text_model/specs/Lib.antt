@@ -1,5 +1,5 @@
 pub mod Exact
 pub mod TextLaws
-pub mod WrittenTexts
-pub mod ReadTrees
+pub mod WrittenTextLaws
+pub mod ReadTreeLaws
 pub mod MessageLaws

@@ -11,7 +11,7 @@ use Rattle.ejson_value.specs.declared.message.DataMsg.TheVariants.{Added, Change
 use Rattle.ejson_codec.specs.Written.{written, members_written}
 use Rattle.text_model.specs.Exact.{HasExactNumbers, ItemsHaveExactNumbers, MembersHaveExactNumbers}
 use Rattle.text_model.specs.TextLaws.{read-compact_text}
-use Rattle.text_model.specs.WrittenTexts.{exact-written, exact_items, exact_members, exact_escaped}
+use Rattle.text_model.specs.WrittenTextLaws.{exact-written, exact_items, exact_members, exact_escaped}
 use Rattle.ddp_messages.specs.ClientMessage.{ClientMessage}
 use Rattle.ddp_messages.specs.ClientMessage as client
 use Rattle.ddp_messages.specs.ServerMessage.{ServerMessage}

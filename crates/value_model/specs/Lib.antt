@@ -1,4 +1,5 @@
 pub mod Val
+pub mod ValLaws
 pub mod TruthLaws
 pub mod Coding
 pub mod Depth

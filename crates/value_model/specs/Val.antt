@@ -1,7 +1,6 @@
 -- The values of EJSON: those of JSON, with whole numbers alone, and dates, binary data and values of user types beside them (the EJSON appendix of Meteor's DDP specification).
 -- A text is the list of its UTF-8 bytes, a date is its milliseconds since 1970, and a value of a user type is the type's name with the value that stands for it.
-use Rattle.std.specs.Prelude.{◌≡◌, ℕ, ℤ, Bool, List, [], ◌∷◌, refl}
-use Rattle.std.proofs.Common.{ap}
+use Rattle.std.specs.Prelude.{ℕ, ℤ, Bool, List, [], ◌∷◌}
 
 mutual
   pub data Val : Type 0 where
@@ -44,20 +43,3 @@ fields_of (e ∷ es) = field e.0 e.1 (fields_of es)
 abbrev pub entries_of : Fields → Entries
 entries_of no_fields = []
 entries_of (field name v fs) = (name, v) ∷ entries_of fs
-
--- Both forms of a list and of a document say the same.
-pub list_of-vals_of : (vs : List Val) → list_of (vals_of vs) ≡ vs
-list_of-vals_of [] = refl
-list_of-vals_of (v ∷ vs) = ap (λ rest. v ∷ rest) (list_of-vals_of vs)
-
-pub vals_of-list_of : (vs : Vals) → vals_of (list_of vs) ≡ vs
-vals_of-list_of no_vals = refl
-vals_of-list_of (val v vs) = ap (λ rest. val v rest) (vals_of-list_of vs)
-
-pub entries_of-fields_of : (es : Entries) → entries_of (fields_of es) ≡ es
-entries_of-fields_of [] = refl
-entries_of-fields_of (e ∷ es) = ap (λ rest. (e.0, e.1) ∷ rest) (entries_of-fields_of es)
-
-pub fields_of-entries_of : (fs : Fields) → fields_of (entries_of fs) ≡ fs
-fields_of-entries_of no_fields = refl
-fields_of-entries_of (field name v fs) = ap (λ rest. field name v rest) (fields_of-entries_of fs)

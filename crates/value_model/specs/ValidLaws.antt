@@ -6,7 +6,8 @@ use Rattle.std.specs.Map.{lookup, remove_entry}
 use Rattle.std.specs.declared.cmp.Ordering.TheVariants.{Less, Equal, Greater}
 use Rattle.std.specs.Ordering.{match_ordering}
 use Rattle.std.specs.BTreeMap.{insert_entry}
-use Rattle.value_model.specs.Val.{Val, object, vals_of, fields_of, Entries, entries_of-fields_of}
+use Rattle.value_model.specs.Val.{Val, object, vals_of, fields_of, Entries}
+use Rattle.value_model.specs.ValLaws.{entries_of-fields_of}
 use Rattle.value_model.specs.Order.{text_cmp}
 use Rattle.value_model.specs.Valid.{IsValue, AreValues, HaveValues, HasRisingNames, IsDocument}
 use Rattle.value_model.specs.Doc.{put}

@@ -16,7 +16,7 @@ use Rattle.ejson_codec.specs.ValueLaws.{reads_valid}
 use Rattle.std.specs.List.Sorted.{IsStrictlySortedBy}
 use Rattle.ejson_codec.specs.Trees.{HasRisingKeys}
 use Rattle.ejson_codec.specs.declared.fault.EjsonFault.{EjsonFault}
-use Rattle.text_model.specs.ReadTrees.{read_rises}
+use Rattle.text_model.specs.ReadTreeLaws.{read_rises}
 use Rattle.text_model.specs.TextLaws.{read-compact_text}
 use Rattle.ddp_messages.specs.Written.{client_written}
 use Rattle.ddp_messages.specs.RisingLaws.{client_rising}

@@ -1,6 +1,6 @@
 use Rattle.std.proofs.Common.{length, ap, sym, ◌∙◌}
 use Rattle.std.specs.Prelude.{nat_lt}
-use Rattle.value_model.specs.Val.{list_of-vals_of}
+use Rattle.value_model.specs.ValLaws.{list_of-vals_of}
 use Rattle.app_model.proofs.names.has_more_items.Goals as goal
 
 pub returns : goal.returns

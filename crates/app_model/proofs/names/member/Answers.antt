@@ -1,5 +1,5 @@
 use Rattle.std.proofs.Common.{ap, sym, ◌∙◌}
-use Rattle.value_model.specs.Val.{entries_of-fields_of}
+use Rattle.value_model.specs.ValLaws.{entries_of-fields_of}
 use Rattle.value_model.specs.Doc.{get}
 use Rattle.app_model.proofs.names.member.Goals as goal
 

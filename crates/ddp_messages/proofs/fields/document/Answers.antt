@@ -1,5 +1,5 @@
 use Rattle.std.proofs.Common.{Some, option_and_then, ap, ◌∙◌}
-use Rattle.value_model.specs.Val.{entries_of-fields_of}
+use Rattle.value_model.specs.ValLaws.{entries_of-fields_of}
 use Rattle.ejson_value.specs.View.{view}
 use Rattle.ejson_value.specs.declared.value.Value.{Value}
 use Rattle.ddp_messages.specs.Forms.{fields_of_value}

@@ -1,5 +1,5 @@
 use Rattle.std.proofs.Common.{Ok, ap, ◌∙◌}
-use Rattle.value_model.specs.Val.{list_of-vals_of}
+use Rattle.value_model.specs.ValLaws.{list_of-vals_of}
 use Rattle.ejson_value.specs.View.{view}
 use Rattle.modifier_apply.specs.Modified.{elements}
 use Rattle.modifier_apply.proofs.edits.elements.Goals as goal

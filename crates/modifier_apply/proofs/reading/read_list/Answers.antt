@@ -1,5 +1,5 @@
 use Rattle.std.proofs.Common.{Ok, ap, sym, ◌∙◌}
-use Rattle.value_model.specs.Val.{list_of-vals_of}
+use Rattle.value_model.specs.ValLaws.{list_of-vals_of}
 use Rattle.ejson_value.specs.View.{view}
 use Rattle.modifier_apply.specs.Reading.{list_reading}
 use Rattle.modifier_apply.proofs.reading.read_list.Goals as goal

@@ -1,6 +1,7 @@
 use Rattle.std.specs.Prelude.{Result, Ok, Err, IfOk}
 use Rattle.std.proofs.Common.{◌≡◌, ap, sym, ◌∙◌}
-use Rattle.value_model.specs.Val.{Entries, Fields, fields_of, entries_of, entries_of-fields_of}
+use Rattle.value_model.specs.Val.{Entries, Fields, fields_of, entries_of}
+use Rattle.value_model.specs.ValLaws.{entries_of-fields_of}
 use Rattle.publication.specs.Projected.{projected}
 use Rattle.publication.proofs.queries.projected.Goals as goal
 

@@ -1,5 +1,6 @@
 use Rattle.std.proofs.Common.{Some, ap, sym, ◌∙◌}
-use Rattle.value_model.specs.Val.{val, no_vals, entries_of-fields_of}
+use Rattle.value_model.specs.Val.{val, no_vals}
+use Rattle.value_model.specs.ValLaws.{entries_of-fields_of}
 use Rattle.ejson_value.specs.View.{view}
 use Rattle.ejson_value.specs.declared.value.Value.{Value}
 use Rattle.replay_events.specs.Events.{doc_alone}

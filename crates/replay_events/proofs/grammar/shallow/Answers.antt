@@ -1,5 +1,5 @@
 use Rattle.std.proofs.Common.{Some, None, if◌then◌else◌, Bool, ap, sym, ◌∙◌}
-use Rattle.value_model.specs.Val.{entries_of-fields_of}
+use Rattle.value_model.specs.ValLaws.{entries_of-fields_of}
 use Rattle.replay_events.proofs.grammar.shallow.Goals as goal
 
 pub returns-then-has_few_levels : goal.returns-then-has_few_levels

@@ -7,7 +7,8 @@ use Rattle.ejson_value.proofs.Walks.{item_depth, field_depth}
 use Rattle.selector_match.specs.Query.{Query, clause, query, predicate}
 use Rattle.selector_match.specs.View.{clause_view, predicate_view}
 use Rattle.selector_match.specs.Reading.{Gives, reading, clauses_reading, clause_made, queries_reading, condition_reading, more_queries_reading, predicates_reading, predicate_made, operator_named, element_operand, set_operand}
-use Rattle.ejson_value.specs.Results.{made, after, made_more}
+use Rattle.ejson_value.specs.Results.{made, after}
+use Rattle.ejson_value.specs.ResultLaws.{made_more}
 use Rattle.selector_match.proofs.Front.{after-query, after-queries, after-predicates, some_queries}
 use Rattle.selector_match.proofs.reading.+reading.Goals as goal
 
