@@ -1,4 +1,4 @@
--- Lemmas of the loops that fill the parts of a value one after another: what was filled so far goes in front of what the rest is filled as.
+-- Lemmas of the loops that fill the parts of a value one after another.
 use Rattle.std.proofs.Common.{◌≡◌, ℕ, List, [], ◌∷◌, ◌++◌, Ok, Err, refl, ap, sym, subst, ◌∙◌}
 use Rattle.std.proofs.lemmas.List.{map-append}
 use Rattle.std.proofs.lemmas.Cmp.{nat_list_cmp_total}
@@ -10,15 +10,8 @@ use Rattle.value_model.specs.Val.{Val, Vals, no_vals, val, vals_of, Fields, no_f
 use Rattle.value_model.specs.Order.{text_cmp}
 use Rattle.value_model.specs.Doc.{put}
 use Rattle.ejson_value.specs.declared.value.Value.{Value}
-use Rattle.app_model.specs.Template.{Filling, made, with_both}
-
-abbrev pub after : {X Q : Type 0} → (X → Q → Q) → List X → Q → Q
-after cons [] q = q
-after cons (x ∷ xs) q = cons x (after cons xs q)
-
-pub after-append : {X Q : Type 0} (cons : X → Q → Q) (xs : List X) (x : X) (q : Q) → after cons (xs ++ x ∷ []) q ≡ after cons xs (cons x q)
-after-append cons [] x q = refl
-after-append cons (y ∷ xs) x q = ap (λ r. cons y r) (after-append cons xs x q)
+use Rattle.ejson_value.specs.Results.{made, with_both, after, after-append}
+use Rattle.app_model.specs.Template.{Filling}
 
 pub after-vals : (vs : List Val) → after val vs no_vals ≡ vals_of vs
 after-vals [] = refl
@@ -31,14 +24,6 @@ field_before e fs = field e.0 e.1 fs
 pub after-fields : (es : Entries) → after field_before es no_fields ≡ fields_of es
 after-fields [] = refl
 after-fields (e ∷ es) = ap (λ r. field e.0 e.1 r) (after-fields es)
-
-pub made_none : (r : Filling Vals) → r ≡ made (λ q. after val [] q) r
-made_none (Ok q) = refl
-made_none (Err e) = refl
-
-pub made_more : (xs : List Val) (x : Val) (c : Filling Val) (r : Filling Vals) → c ≡ Ok x → made (λ q. after val xs q) (with_both val c r) ≡ made (λ q. after val (xs ++ x ∷ []) q) r
-made_more xs x c (Ok q) is = ap (λ o. made (λ q. after val xs q) (with_both val o (Ok q))) is ∙ ap (λ s. Ok s) (sym (after-append val xs x q))
-made_more xs x c (Err e) is = ap (λ o. made (λ q. after val xs q) (with_both val o (Err e))) is
 
 pub field_more : (es : Entries) (name : List ℕ) (x : Val) (c : Filling Val) (r : Filling Fields) → c ≡ Ok x →
     made (λ q. after field_before es q) (with_both (λ w ws. field name w ws) c r) ≡ made (λ q. after field_before (es ++ (name, x) ∷ []) q) r

@@ -1,2 +1,4 @@
 pub mod Front
 pub mod Forms
+pub mod PathLaws
+pub mod Extents

@@ -6,18 +6,19 @@ use Rattle.std.specs.Str.{bytes_eq}
 use Rattle.std.specs.Bool.{Decides}
 use Rattle.std.proofs.lemmas.Slice.Eq.{bytes_eq-Decides}
 use Rattle.std.proofs.lemmas.Bool.Decides.{same_from_decides}
-use Rattle.value_model.specs.Val.{Val, null, boolean, int, text, date, bytes, list, object, Vals, no_vals, val, Fields}
+use Rattle.value_model.specs.Val.{Val, text, object, Vals, no_vals, val, Fields}
 use Rattle.value_model.specs.Size.{is_name}
 use Rattle.value_model.specs.Branches.{field_of}
+use Rattle.ejson_value.specs.Results.{made, and_then, made-ok, and_then-ok}
 use Rattle.app_model.specs.declared.publication.Projection.{Projection}
 use Rattle.app_model.specs.declared.fault.Flaw.{Flaw}
 use Rattle.app_model.specs.declared.fault.Flaw.TheVariants as flaw
 use Rattle.app_model.specs.declared.publication.CursorRule.{CursorRule}
-use Rattle.app_model.specs.Faults.{Place, below, element, Reading, bad, made, and_then}
+use Rattle.app_model.specs.Faults.{Place, below, element, Reading, bad}
 use Rattle.app_model.specs.Fields.{projection_reading}
 use Rattle.app_model.specs.Rules.{Rules, publishes, HaveDistinctNames}
 use Rattle.app_model.specs.App.{has_name}
-use Rattle.app_model.specs.Reading.{is_valid_name, valid_name, name_reading, is_cursor, published_as, is_published, alias_reading, if_known, known_reading, selector_of, parts_reading, rule_reading, rules_behind}
+use Rattle.app_model.specs.Reading.{is_valid_name, valid_name, name_reading, is_cursor, published_as, is_published, alias_reading, if_known, known_reading, selector_of, names_reading, parts_reading, rule_reading, rules_behind}
 
 flipped : (a b : List ℕ) → Decides (bytes_eq a b) (a ≡ b) → Decides (bytes_eq a b) (b ≡ a)
 flipped a b d = (λ e. sym (d.0 e), λ p. d.1 (sym p))
@@ -44,11 +45,6 @@ distinct-append (r ∷ rules) rule all new =
     let parts = neither (is_name r.name rule.name) (publishes rules rule.name) new in
     (publishes-append rules rule r.name all.0 (is_name-sym rule.name r.name ∙ parts.0), distinct-append rules rule all.1 parts.1)
 
--- what was read in two steps
-and_then-ok : {A B : Type 0} (r : Reading A) (f : A → Reading B) (b : B) → and_then r f ≡ Ok b → (a : A) × ((r ≡ Ok a) × (f a ≡ Ok b))
-and_then-ok (Ok a) f b e = (a, (refl, e))
-and_then-ok (Err x) f b e = cc
-
 unless_bad : {A : Type 0} (wrong : Bool) (f : Flaw) (place : Place) (r : Reading A) (a : A) → (if wrong then bad f place else r) ≡ Ok a → (wrong ≡ false) × (r ≡ Ok a)
 unless_bad true f place r a e = cc
 unless_bad false f place r a e = (refl, e)
@@ -59,27 +55,17 @@ if_good false f place name n e = cc
 
 -- a name that was read is the text itself
 name_read : (place : Place) (v : Val) (n : List ℕ) → name_reading place v ≡ Ok n → v ≡ text n
-name_read place (text s) n e = ap text (if_good (is_valid_name s) _ place s n e)
-name_read place null n e = cc
-name_read place (boolean b) n e = cc
-name_read place (int z) n e = cc
-name_read place (date z) n e = cc
-name_read place (bytes s) n e = cc
-name_read place (list vs) n e = cc
-name_read place (object fs) n e = cc
+name_read place (text s) n e = ap text (if_good (is_valid_name s) flaw.BadName place s n e)
+name_read place v n e = cc
 
 known_read : (collections : List (List ℕ)) (place : Place) (c : Option Val) (n : List ℕ) → known_reading collections place c ≡ Ok n → c ≡ Some (text n)
 known_read collections place None n e = cc
 known_read collections place (Some v) n e =
     let two = and_then-ok (name_reading place v) (λ name. if_known (has_name collections name) place name) n e in
-    ap (λ w. Some w) (name_read place v two.0 two.1.0 ∙ ap text (if_good (has_name collections two.0) _ place two.0 n two.1.1))
+    ap (λ w. Some w) (name_read place v two.0 two.1 ∙ ap text (if_good (has_name collections two.0) flaw.UnknownCollection place two.0 n two.2))
 
 ok_is : {A : Type 0} (a b : A) → let r : Reading A = Ok a in r ≡ Ok b → a ≡ b
 ok_is a b e = cc
-
-made-ok : {A B : Type 0} (f : A → B) (r : Reading A) (b : B) → made f r ≡ Ok b → (a : A) × ((r ≡ Ok a) × (f a ≡ b))
-made-ok f (Ok a) b e = (a, (refl, ok_is (f a) b e))
-made-ok f (Err x) b e = cc
 
 published : (collections : List (List ℕ)) (p q : Place) (own c : Option Val) (alias : Option (List ℕ)) (name : List ℕ) → alias_reading p own ≡ Ok alias → known_reading collections q c ≡ Ok name →
     published_as own c ≡ Some (text (unwrap_or alias name))
@@ -88,21 +74,28 @@ published collections p q None c alias name e k =
     known_read collections q c name k ∙ ap (λ (o : Option (List ℕ)). Some (text (unwrap_or o name))) none
 published collections p q (Some v) c alias name e k =
     let two = made-ok (λ (n : List ℕ). Some n) (name_reading p v) alias e in
-    ap (λ w. Some w) (name_read p v two.0 two.1.0) ∙ ap (λ (o : Option (List ℕ)). Some (text (unwrap_or o name))) two.1.1
+    ap (λ w. Some w) (name_read p v two.0 two.1) ∙ ap (λ (o : Option (List ℕ)). Some (text (unwrap_or o name))) two.2
+
+named : (collections : List (List ℕ)) (place : Place) (fs : Fields) (names : List ℕ × List ℕ) → names_reading collections place fs ≡ Ok names →
+    published_as (field_of fs (codes "as")) (field_of fs (codes "collection")) ≡ Some (text names.1)
+named collections place fs names e =
+    let own = field_of fs (codes "as") in
+    let c = field_of fs (codes "collection") in
+    let both = λ (alias : Option (List ℕ)) (name : List ℕ). let n : List ℕ × List ℕ = (name, unwrap_or alias name) in n in
+    let by_alias = and_then-ok (alias_reading (below place (codes "as")) own) (λ alias. and_then (known_reading collections (below place (codes "collection")) c) (λ name. Ok (both alias name))) names e in
+    let by_name = and_then-ok (known_reading collections (below place (codes "collection")) c) (λ name. Ok (both by_alias.0 name)) names by_alias.2 in
+    published collections (below place (codes "as")) (below place (codes "collection")) own c by_alias.0 by_name.0 by_alias.1 by_name.1
+    ∙ ap (λ (n : List ℕ × List ℕ). Some (text n.1)) (ok_is (both by_alias.0 by_name.0) names by_name.2)
 
 -- a cursor that was read publishes under the name that it was tested for
 parts_published : (collections : List (List ℕ)) (place : Place) (fs : Fields) (rule : CursorRule) → parts_reading collections place fs ≡ Ok rule →
     published_as (field_of fs (codes "as")) (field_of fs (codes "collection")) ≡ Some (text rule.name)
 parts_published collections place fs rule e =
-    let own = field_of fs (codes "as") in
-    let c = field_of fs (codes "collection") in
-    let rule_of = λ (alias : Option (List ℕ)) (name : List ℕ) (fields : Projection). let r : CursorRule = record { collection = name; name = unwrap_or alias name; selector = selector_of (field_of fs (codes "selector")); fields = fields } in r in
+    let rule_of = λ (names : List ℕ × List ℕ) (fields : Projection). let r : CursorRule = record { collection = names.0; name = names.1; selector = selector_of (field_of fs (codes "selector")); fields = fields } in r in
     let projected = projection_reading (below place (codes "fields")) (field_of fs (codes "fields")) in
-    let by_alias = and_then-ok (alias_reading (below place (codes "as")) own) (λ alias. and_then (known_reading collections (below place (codes "collection")) c) (λ name. and_then projected (λ fields. Ok (rule_of alias name fields)))) rule e in
-    let by_name = and_then-ok (known_reading collections (below place (codes "collection")) c) (λ name. and_then projected (λ fields. Ok (rule_of by_alias.0 name fields))) rule by_alias.1.1 in
-    let by_fields = and_then-ok projected (λ fields. Ok (rule_of by_alias.0 by_name.0 fields)) rule by_name.1.1 in
-    published collections (below place (codes "as")) (below place (codes "collection")) own c by_alias.0 by_name.0 by_alias.1.0 by_name.1.0
-    ∙ ap (λ (r : CursorRule). Some (text r.name)) (ok_is (rule_of by_alias.0 by_name.0 by_fields.0) rule by_fields.1.1)
+    let by_names = and_then-ok (names_reading collections place fs) (λ names. and_then projected (λ fields. Ok (rule_of names fields))) rule e in
+    let by_fields = and_then-ok projected (λ fields. Ok (rule_of by_names.0 fields)) rule by_names.2 in
+    named collections place fs by_names.0 by_names.1 ∙ ap (λ (r : CursorRule). Some (text r.name)) (ok_is (rule_of by_names.0 by_fields.0) rule by_fields.2)
 
 rule_fresh : (collections : List (List ℕ)) (place : Place) (rules : Rules) (v : Val) (rule : CursorRule) → rule_reading collections place rules v ≡ Ok rule → publishes rules rule.name ≡ false
 rule_fresh collections place rules (object fs) rule e =
@@ -110,16 +103,10 @@ rule_fresh collections place rules (object fs) rule e =
     let shaped = unless_bad (not (is_cursor fs)) flaw.BadShape place (if is_published rules name then bad flaw.DoubleName place else parts_reading collections place fs) rule e in
     let new = unless_bad (is_published rules name) flaw.DoubleName place (parts_reading collections place fs) rule shaped.1 in
     ap (λ n. is_published rules n) (sym (parts_published collections place fs rule new.1)) ∙ new.0
-rule_fresh collections place rules null rule e = cc
-rule_fresh collections place rules (boolean b) rule e = cc
-rule_fresh collections place rules (int z) rule e = cc
-rule_fresh collections place rules (text s) rule e = cc
-rule_fresh collections place rules (date z) rule e = cc
-rule_fresh collections place rules (bytes s) rule e = cc
-rule_fresh collections place rules (list vs) rule e = cc
+rule_fresh collections place rules v rule e = cc
 
 pub rules_distinct : (collections : List (List ℕ)) (place : Place) (rules : Rules) (vs : Vals) (all : Rules) → rules_behind collections place rules vs ≡ Ok all → HaveDistinctNames rules → HaveDistinctNames all
 rules_distinct collections place rules no_vals all e d = subst HaveDistinctNames (ok_is rules all e) d
 rules_distinct collections place rules (val v vs) all e d =
     let read = and_then-ok (rule_reading collections (element place (length rules)) rules v) (λ rule. rules_behind collections place (rules ++ rule ∷ []) vs) all e in
-    rules_distinct collections place (rules ++ read.0 ∷ []) vs all read.1.1 (distinct-append rules read.0 d (rule_fresh collections (element place (length rules)) rules v read.0 read.1.0))
+    rules_distinct collections place (rules ++ read.0 ∷ []) vs all read.2 (distinct-append rules read.0 d (rule_fresh collections (element place (length rules)) rules v read.0 read.1))

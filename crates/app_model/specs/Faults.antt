@@ -28,16 +28,7 @@ abbrev pub Reading : Type 0 → Type 0
 Reading X = Result X AppFault
 
 abbrev pub bad : {X : Type 0} → Flaw → Place → Reading X
-bad f place = Err (fault.Bad f place)
-
-abbrev pub made : {A B : Type 0} → (A → B) → Reading A → Reading B
-made f (Ok a) = Ok (f a)
-made f (Err e) = Err e
-
--- what is read on from a part that could be read
-abbrev pub and_then : {A B : Type 0} → Reading A → (A → Reading B) → Reading B
-and_then (Ok a) f = f a
-and_then (Err e) f = Err e
+bad f place = Err (fault.Bad (flaw_number f) place)
 
 -- The call answers as the reading says, or want of memory.
 abbrev pub Gives : {T X : Type 0} → (T → X) → Result T AppFault → Reading X → Type 0

@@ -1,14 +1,15 @@
 -- How the fields of a cursor are read as a projection: `1` at each path to publish these alone, `0` at each to publish all but these (MongoDB's documentation, "Project Fields to Return from Query").
-use Rattle.std.specs.Prelude.{ℕ, ℤ, pos, Bool, true, false, not, List, [], ◌∷◌, ◌++◌, Option, None, Some, Ok, codes, if◌then◌else◌, ◌&&◌}
+use Rattle.std.specs.Prelude.{◌≡◌, ◌||◌, ℕ, ℤ, pos, Bool, true, false, not, List, [], ◌∷◌, ◌++◌, Option, None, Some, Ok, codes, if◌then◌else◌, ◌&&◌}
 use Rattle.std.proofs.Common.{int_eq}
 use Rattle.std.specs.List.{list_any}
 use Rattle.value_model.specs.Val.{Val, int, object, Fields, no_fields, field}
 use Rattle.value_model.specs.Size.{is_name}
 use Rattle.value_model.specs.Branches.{path_of}
+use Rattle.ejson_value.specs.Results.{made, and_then}
 use Rattle.app_model.specs.declared.fault.Flaw.TheVariants as flaw
 use Rattle.app_model.specs.declared.publication.Projection.{Projection}
 use Rattle.app_model.specs.declared.publication.Projection.TheVariants as projection
-use Rattle.app_model.specs.Faults.{Place, below, Reading, bad, made, and_then}
+use Rattle.app_model.specs.Faults.{Place, below, Reading, bad}
 
 abbrev pub APath : Type 0
 APath = List (List ℕ)
@@ -35,6 +36,10 @@ leads_to (a ∷ p) (b ∷ q) = is_name a b && leads_to p q
 -- A path may follow others where it isn't about the id, and no other is a prefix of it. A prefix comes first in the order of bytes.
 abbrev pub can_follow : List APath → APath → Bool
 can_follow paths path = not (begins_with_id path) && not (list_any (λ p. leads_to p path) paths)
+
+-- other paths are those before and this one, in whatever order: they pass the same tests
+abbrev pub Joins : List APath → List APath → APath → Type 0
+Joins old new path = (test : APath → Bool) → list_any test new ≡ (test path || list_any test old)
 
 abbrev pub path_behind : List APath → Option APath → Option APath
 path_behind paths None = None

@@ -1,5 +1,6 @@
 pub mod Faults
 pub mod Template
+pub mod Measuring
 pub mod Rules
 pub mod App
 pub mod Coding

@@ -7,10 +7,11 @@ use Rattle.value_model.specs.Val.{Val, text, list, object, Vals, no_vals, val, F
 use Rattle.value_model.specs.Order.{text_cmp}
 use Rattle.value_model.specs.Size.{is_name, names_of}
 use Rattle.value_model.specs.Branches.{field_of}
+use Rattle.ejson_value.specs.Results.{made, and_then}
 use Rattle.app_model.specs.declared.fault.Flaw.TheVariants as flaw
 use Rattle.app_model.specs.declared.publication.CursorRule.{CursorRule}
 use Rattle.app_model.specs.Rules.{Rules, publishes}
-use Rattle.app_model.specs.Faults.{Place, below, element, Reading, bad, made, and_then}
+use Rattle.app_model.specs.Faults.{Place, below, element, Reading, bad}
 use Rattle.app_model.specs.Fields.{projection_reading}
 use Rattle.app_model.specs.App.{App, has_name}
 
@@ -93,12 +94,18 @@ known_reading collections place (Some v) = and_then (name_reading place v) (λ n
 abbrev pub selector_of : Option Val → Val
 selector_of selector = unwrap_or selector (object no_fields)
 
-abbrev pub parts_reading : List (List ℕ) → Place → Fields → Reading CursorRule
-parts_reading collections place fs =
+-- the name of a cursor's collection, and the published one
+abbrev pub names_reading : List (List ℕ) → Place → Fields → Reading (List ℕ × List ℕ)
+names_reading collections place fs =
     and_then (alias_reading (below place (codes "as")) (field_of fs (codes "as"))) (λ alias.
     and_then (known_reading collections (below place (codes "collection")) (field_of fs (codes "collection"))) (λ collection.
+    Ok (collection, unwrap_or alias collection)))
+
+abbrev pub parts_reading : List (List ℕ) → Place → Fields → Reading CursorRule
+parts_reading collections place fs =
+    and_then (names_reading collections place fs) (λ names.
     and_then (projection_reading (below place (codes "fields")) (field_of fs (codes "fields"))) (λ fields.
-    Ok (record { collection = collection; name = unwrap_or alias collection; selector = selector_of (field_of fs (codes "selector")); fields = fields }))))
+    Ok (record { collection = names.0; name = names.1; selector = selector_of (field_of fs (codes "selector")); fields = fields })))
 
 -- a cursor behind others
 abbrev pub rule_reading : List (List ℕ) → Place → Rules → Val → Reading CursorRule

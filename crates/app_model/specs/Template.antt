@@ -3,6 +3,7 @@ use Rattle.std.specs.Prelude.{◌≡◌, ℕ, ℤ, pos, negsuc, Bool, List, [], 
 use Rattle.value_model.specs.Val.{Val, int, text, list, object, Vals, no_vals, val, Fields, no_fields, field}
 use Rattle.value_model.specs.Depth.{depth}
 use Rattle.value_model.specs.Size.{size, is_name}
+use Rattle.ejson_value.specs.Results.{made, with_both}
 use Rattle.app_model.specs.declared.fault.FillFault.{FillFault}
 use Rattle.app_model.specs.declared.fault.FillFault.TheVariants as fault
 use Rattle.app_model.specs.declared.template.Placeholder.{Placeholder}
@@ -26,16 +27,6 @@ placeholder_in _ = None
 
 abbrev pub Filling : Type 0 → Type 0
 Filling X = Result X FillFault
-
-abbrev pub made : {A B : Type 0} → (A → B) → Filling A → Filling B
-made f (Ok a) = Ok (f a)
-made f (Err e) = Err e
-
--- what is made of two parts, where both can be filled
-abbrev pub with_both : {A B C : Type 0} → (A → B → C) → Filling A → Filling B → Filling C
-with_both f (Err e) b = Err e
-with_both f (Ok a) (Err e) = Err e
-with_both f (Ok a) (Ok b) = Ok (f a b)
 
 -- the n-th of a list, from 0
 abbrev pub nth : {X : Type 0} → List X → ℤ → Option X

@@ -1,5 +1,5 @@
 //! Applications.
-ghost use Rattle.std.specs.Prelude.{◌≡◌, [], Some, option_map};
+ghost use Rattle.std.specs.Prelude.{◌≡◌, [], Some, IfOk, option_map};
 ghost use Rattle.std.specs.Option.{option_copied};
 ghost use Rattle.value_model.specs.Val.{object, fields_of, vals_of};
 ghost use Rattle.ejson_value.specs.View.{view};
@@ -8,15 +8,16 @@ ghost use Rattle.app_model.specs.App.{has_collection, publication};
 ghost use Rattle.app_model.specs.Reading.{listed_reading, names_behind, collections_reading, has_no_methods, publications_put, publications_reading, members_reading, app_reading};
 
 use crate::cursors::read_publication;
-use crate::fault::{AppFault, Flaw};
+use crate::fault::{AppFault, Flaw, bad};
 use crate::names::{
     has_more_fields, has_more_items, has_name, has_only_app_keys, member, read_name,
 };
 use crate::place::element;
 use crate::publication::Publication;
-use ejson_value::{Doc, Items, Names, Text, Value};
+use ejson_value::{Doc, Items, Mem, Names, Text, Value};
 use std::alloc::Global;
 use std::collections::BTreeMap;
+use std::default::Emptied;
 use std::marker::Model;
 
 const MAX_COLLECTIONS: usize = 64;
@@ -49,10 +50,7 @@ fn read_listed(alloc: Global, names: &Names, value: &Value) -> Result<Text, AppF
     let place = element(alloc, "collections", names.len())?;
     let name = read_name(&place, value)?;
     if has_name(names, &name) {
-        Err(AppFault::Bad {
-            flaw: Flaw::DoubleName,
-            place,
-        })
+        Err(bad(Flaw::DoubleName, place))
     } else {
         Ok(name)
     }
@@ -76,16 +74,10 @@ fn read_collections(alloc: Global, member: Option<&Value>) -> Result<Names, AppF
         return Ok(Names::new(alloc));
     };
     let Value::List(items) = value else {
-        return Err(AppFault::Bad {
-            flaw: Flaw::BadShape,
-            place: Text::from_str(alloc, "collections")?,
-        });
+        return Err(bad(Flaw::BadShape, Text::from_str(alloc, "collections")?));
     };
     if has_more_items(items, MAX_COLLECTIONS) {
-        return Err(AppFault::Bad {
-            flaw: Flaw::TooMany,
-            place: Text::from_str(alloc, "collections")?,
-        });
+        return Err(bad(Flaw::TooMany, Text::from_str(alloc, "collections")?));
     }
     read_names(alloc, items)
 }
@@ -105,13 +97,7 @@ fn has_no_methods(member: Option<&Value>) -> bool
     };
     match value {
         Value::Object(fields) => is_empty(fields),
-        Value::Null
-        | Value::Bool(_)
-        | Value::Int(_)
-        | Value::Text(_)
-        | Value::Date(_)
-        | Value::Bytes(_)
-        | Value::List(_) => false,
+        _ => false,
     }
 }
 
@@ -141,16 +127,10 @@ fn read_publications(
         return Ok(BTreeMap::new(alloc));
     };
     let Value::Object(fields) = value else {
-        return Err(AppFault::Bad {
-            flaw: Flaw::BadShape,
-            place: Text::from_str(alloc, "publications")?,
-        });
+        return Err(bad(Flaw::BadShape, Text::from_str(alloc, "publications")?));
     };
     if has_more_fields(fields, MAX_PUBLICATIONS) {
-        return Err(AppFault::Bad {
-            flaw: Flaw::TooMany,
-            place: Text::from_str(alloc, "publications")?,
-        });
+        return Err(bad(Flaw::TooMany, Text::from_str(alloc, "publications")?));
     }
     put_publications(alloc, collections, fields)
 }
@@ -160,10 +140,7 @@ fn read_members(alloc: Global, fields: &Doc) -> Result<App, AppFault>
 {
     let collections = read_collections(alloc, member(alloc, fields, "collections")?)?;
     if !has_no_methods(member(alloc, fields, "methods")?) {
-        return Err(AppFault::Bad {
-            flaw: Flaw::BadShape,
-            place: Text::from_str(alloc, "methods")?,
-        });
+        return Err(bad(Flaw::BadShape, Text::from_str(alloc, "methods")?));
     }
     let publications = read_publications(
         alloc,
@@ -176,6 +153,18 @@ fn read_members(alloc: Global, fields: &Doc) -> Result<App, AppFault>
     })
 }
 
+fn copy_publications(
+    publications: &BTreeMap<Text, Publication>,
+) -> Result<BTreeMap<Text, Publication>, Mem>
+    ensures { IfOk result (λ m. m.entries ≡ publications.now.entries) }
+{
+    let mut copies = BTreeMap::emptied(publications)?;
+    for (name, publication) in publications.iter() {
+        drop(copies.insert(name.copy()?, publication.copy()?)?);
+    }
+    Ok(copies)
+}
+
 impl App {
     /// The application that the value describes: an object with the keys `collections`, `methods` and
     /// `publications`, each of which may be missing. `methods` is an empty object.
@@ -183,18 +172,22 @@ impl App {
         ensures { Gives (λ app. app) result (app_reading (view value.now)) }
     {
         let Value::Object(fields) = value else {
-            return Err(AppFault::Bad {
-                flaw: Flaw::BadShape,
-                place: Text::new(alloc),
-            });
+            return Err(bad(Flaw::BadShape, Text::new(alloc)));
         };
         if !has_only_app_keys(fields) {
-            return Err(AppFault::Bad {
-                flaw: Flaw::BadShape,
-                place: Text::new(alloc),
-            });
+            return Err(bad(Flaw::BadShape, Text::new(alloc)));
         }
         read_members(alloc, fields)
+    }
+
+    /// An application equal to this one.
+    pub fn copy(&self) -> Result<App, Mem>
+        ensures { IfOk result (λ app. app ≡ self.now) }
+    {
+        Ok(App {
+            collections: self.collections.copy()?,
+            publications: copy_publications(&self.publications)?,
+        })
     }
 
     /// The names of its collections, as they are listed.

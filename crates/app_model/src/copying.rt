@@ -1,29 +1,49 @@
-//! Copies of projections.
+//! Copies of the parts of an application.
 ghost use Rattle.std.specs.Prelude.{◌≡◌, IfOk};
 
-use crate::publication::{Paths, Projection};
-use ejson_value::Mem;
-use std::alloc::Global;
-
-fn copy_paths(alloc: Global, paths: &Paths) -> Result<Paths, Mem>
-    ensures { IfOk result (λ copies. copies ≡ paths.now) }
-{
-    let mut copies = Paths::new(alloc);
-    for path in paths.as_slice() {
-        copies.push(path.copy()?)?;
-    }
-    Ok(copies)
-}
+use crate::publication::{CursorRule, Projection, Publication};
+use ejson_value::{Copied, Mem};
 
 impl Projection {
     /// A projection equal to this one.
-    pub fn copy(&self, alloc: Global) -> Result<Projection, Mem>
+    pub fn copy(&self) -> Result<Projection, Mem>
         ensures { IfOk result (λ p. p ≡ self.now) }
     {
         match self {
             Projection::All => Ok(Projection::All),
-            Projection::Only(paths) => Ok(Projection::Only(copy_paths(alloc, paths)?)),
-            Projection::Without(paths) => Ok(Projection::Without(copy_paths(alloc, paths)?)),
+            Projection::Only(paths) => Ok(Projection::Only(paths.copy()?)),
+            Projection::Without(paths) => Ok(Projection::Without(paths.copy()?)),
         }
+    }
+}
+
+impl CursorRule {
+    /// A cursor equal to this one.
+    pub fn copy(&self) -> Result<CursorRule, Mem>
+        ensures { IfOk result (λ rule. rule ≡ self.now) }
+    {
+        Ok(CursorRule {
+            collection: self.collection.copy()?,
+            name: self.name.copy()?,
+            selector: self.selector.copy()?,
+            fields: self.fields.copy()?,
+        })
+    }
+}
+
+impl Copied for CursorRule {
+    fn copied(&self) -> Result<CursorRule, Mem> {
+        self.copy()
+    }
+}
+
+impl Publication {
+    /// A publication equal to this one.
+    pub fn copy(&self) -> Result<Publication, Mem>
+        ensures { IfOk result (λ p. p ≡ self.now) }
+    {
+        Ok(Publication {
+            cursors: self.cursors.copy()?,
+        })
     }
 }

@@ -4,16 +4,17 @@ ghost use Rattle.value_model.specs.Val.{fields_of, vals_of};
 ghost use Rattle.value_model.specs.Branches.{field_of};
 ghost use Rattle.ejson_value.specs.View.{view};
 ghost use Rattle.app_model.specs.Rules.{publishes};
-ghost use Rattle.app_model.specs.Faults.{element, Gives};
-ghost use Rattle.app_model.specs.Reading.{is_cursor, is_published, published_as, alias_reading, known_reading, selector_of, parts_reading, rule_reading, rules_behind, cursors_reading, named_reading, publication_reading};
+ghost use Rattle.app_model.specs.Faults.{below, element, Gives};
+ghost use Rattle.app_model.specs.Fields.{projection_reading};
+ghost use Rattle.app_model.specs.Reading.{is_cursor, is_published, published_as, alias_reading, known_reading, selector_of, names_reading, parts_reading, rule_reading, rules_behind, cursors_reading, named_reading, publication_reading};
 
-use crate::fault::{AppFault, Flaw};
+use crate::fault::{AppFault, Flaw, bad};
 use crate::fields::read_projection;
 use crate::names::{
     has_more_items, has_name, has_only_cursor_keys, is_valid_name, member, read_name,
 };
 use crate::place::{below, element};
-use crate::publication::{CursorRule, CursorRules, Publication};
+use crate::publication::{CursorRule, CursorRules, Projection, Publication};
 use crate::template::Template;
 use ejson_value::{Doc, Items, Mem, Names, Text, Value, copy};
 use std::alloc::Global;
@@ -47,13 +48,7 @@ fn is_published(rules: &CursorRules, name: Option<&Value>) -> bool
     };
     match value {
         Value::Text(name) => has_published_name(rules, name),
-        Value::Null
-        | Value::Bool(_)
-        | Value::Int(_)
-        | Value::Date(_)
-        | Value::Bytes(_)
-        | Value::List(_)
-        | Value::Object(_) => false,
+        _ => false,
     }
 }
 
@@ -86,19 +81,13 @@ fn read_known(
     ensures { Gives (λ name. name) result (known_reading collections.now place.now (option_map (λ v. view v.now) collection.entry)) }
 {
     let Some(value) = collection else {
-        return Err(AppFault::Bad {
-            flaw: Flaw::BadShape,
-            place: place.copy()?,
-        });
+        return Err(bad(Flaw::BadShape, place.copy()?));
     };
     let name = read_name(place, value)?;
     if has_name(collections, &name) {
         Ok(name)
     } else {
-        Err(AppFault::Bad {
-            flaw: Flaw::UnknownCollection,
-            place: place.copy()?,
-        })
+        Err(bad(Flaw::UnknownCollection, place.copy()?))
     }
 }
 
@@ -122,6 +111,57 @@ fn named(alias: Option<Text>, collection: &Text) -> Result<Text, Mem>
     }
 }
 
+fn read_own_name(alloc: Global, place: &Text, fields: &Doc) -> Result<Option<Text>, AppFault>
+    ensures { Gives (λ name. name) result (alias_reading (below place.now (codes "as")) (field_of (fields_of fields.now) (codes "as"))) }
+{
+    let at_alias = below(alloc, place.as_str(), "as")?;
+    read_alias(&at_alias, member(alloc, fields, "as")?)
+}
+
+fn read_collection(
+    alloc: Global,
+    collections: &Names,
+    place: &Text,
+    fields: &Doc,
+) -> Result<Text, AppFault>
+    ensures { Gives (λ name. name) result (known_reading collections.now (below place.now (codes "collection")) (field_of (fields_of fields.now) (codes "collection"))) }
+{
+    let at_collection = below(alloc, place.as_str(), "collection")?;
+    read_known(
+        collections,
+        &at_collection,
+        member(alloc, fields, "collection")?,
+    )
+}
+
+// The collection's name, and the published one.
+fn read_names(
+    alloc: Global,
+    collections: &Names,
+    place: &Text,
+    fields: &Doc,
+) -> Result<(Text, Text), AppFault>
+    ensures { Gives (λ names. names) result (names_reading collections.now place.now (fields_of fields.now)) }
+{
+    let alias = read_own_name(alloc, place, fields)?;
+    let collection = read_collection(alloc, collections, place, fields)?;
+    let name = named(alias, &collection)?;
+    Ok((collection, name))
+}
+
+fn read_published(alloc: Global, place: &Text, fields: &Doc) -> Result<Projection, AppFault>
+    ensures { Gives (λ p. p) result (projection_reading (below place.now (codes "fields")) (field_of (fields_of fields.now) (codes "fields"))) }
+{
+    let at_fields = below(alloc, place.as_str(), "fields")?;
+    read_projection(alloc, &at_fields, member(alloc, fields, "fields")?)
+}
+
+fn read_template(alloc: Global, fields: &Doc) -> Result<Template, Mem>
+    ensures { IfOk result (λ t. t ≡ selector_of (field_of (fields_of fields.now) (codes "selector"))) }
+{
+    read_selector(alloc, member(alloc, fields, "selector")?)
+}
+
 fn read_parts(
     alloc: Global,
     collections: &Names,
@@ -130,18 +170,9 @@ fn read_parts(
 ) -> Result<CursorRule, AppFault>
     ensures { Gives (λ rule. rule) result (parts_reading collections.now place.now (fields_of fields.now)) }
 {
-    let at_alias = below(alloc, place.as_str(), "as")?;
-    let alias = read_alias(&at_alias, member(alloc, fields, "as")?)?;
-    let at_collection = below(alloc, place.as_str(), "collection")?;
-    let collection = read_known(
-        collections,
-        &at_collection,
-        member(alloc, fields, "collection")?,
-    )?;
-    let at_fields = below(alloc, place.as_str(), "fields")?;
-    let projection = read_projection(alloc, &at_fields, member(alloc, fields, "fields")?)?;
-    let selector = read_selector(alloc, member(alloc, fields, "selector")?)?;
-    let name = named(alias, &collection)?;
+    let (collection, name) = read_names(alloc, collections, place, fields)?;
+    let projection = read_published(alloc, place, fields)?;
+    let selector = read_template(alloc, fields)?;
     Ok(CursorRule {
         collection,
         name,
@@ -161,22 +192,13 @@ fn read_rule(
     ensures { Gives (λ rule. rule) result (rule_reading collections.now place.now rules.now (view value.now)) }
 {
     let Value::Object(fields) = value else {
-        return Err(AppFault::Bad {
-            flaw: Flaw::BadShape,
-            place: place.copy()?,
-        });
+        return Err(bad(Flaw::BadShape, place.copy()?));
     };
     if !is_cursor(alloc, fields)? {
-        return Err(AppFault::Bad {
-            flaw: Flaw::BadShape,
-            place: place.copy()?,
-        });
+        return Err(bad(Flaw::BadShape, place.copy()?));
     }
     if is_double(alloc, rules, fields)? {
-        return Err(AppFault::Bad {
-            flaw: Flaw::DoubleName,
-            place: place.copy()?,
-        });
+        return Err(bad(Flaw::DoubleName, place.copy()?));
     }
     read_parts(alloc, collections, place, fields)
 }
@@ -219,10 +241,7 @@ fn read_cursors(
     ensures { Gives (λ p. p) result (cursors_reading collections.now place (vals_of items.now)) }
 {
     if has_more_items(items, MAX_CURSORS) {
-        return Err(AppFault::Bad {
-            flaw: Flaw::TooMany,
-            place,
-        });
+        return Err(bad(Flaw::TooMany, place));
     }
     Ok(Publication {
         cursors: read_rules(alloc, collections, &place, items)?,
@@ -241,10 +260,7 @@ fn read_named(
     if is_valid_name(name) {
         read_cursors(alloc, collections, place, items)
     } else {
-        Err(AppFault::Bad {
-            flaw: Flaw::BadName,
-            place,
-        })
+        Err(bad(Flaw::BadName, place))
     }
 }
 
@@ -260,15 +276,6 @@ pub(crate) fn read_publication(
     let place = below(alloc, "publications", name.as_str())?;
     match value {
         Value::List(items) => read_named(alloc, collections, place, name, items),
-        Value::Null
-        | Value::Bool(_)
-        | Value::Int(_)
-        | Value::Text(_)
-        | Value::Date(_)
-        | Value::Bytes(_)
-        | Value::Object(_) => Err(AppFault::Bad {
-            flaw: Flaw::BadShape,
-            place,
-        }),
+        _ => Err(bad(Flaw::BadShape, place)),
     }
 }

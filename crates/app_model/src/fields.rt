@@ -1,16 +1,16 @@
 //! Reading the projection of a cursor.
-ghost use Rattle.std.specs.Prelude.{◌≡◌, [], IfOk, option_map};
-ghost use Rattle.std.specs.List.{list_any};
+ghost use Rattle.std.specs.Prelude.{◌≡◌, [], Some, IfOk, IfSome, OnSome, option_map};
 ghost use Rattle.value_model.specs.Val.{fields_of};
 ghost use Rattle.value_model.specs.Branches.{path_of};
 ghost use Rattle.ejson_value.specs.View.{view};
 ghost use Rattle.app_model.specs.Faults.{below, Gives};
-ghost use Rattle.app_model.specs.Fields.{flag, says, begins_with_id, leads_to, can_follow, path_behind, next_path, or_bad_shape, paths_behind, projecting, fields_reading, projection_reading};
+ghost use Rattle.app_model.specs.Fields.{flag, says, begins_with_id, Joins, path_behind, next_path, or_bad_shape, paths_behind, projecting, fields_reading, projection_reading};
 
-use crate::fault::{AppFault, Flaw};
+use crate::fault::{AppFault, Flaw, bad};
 use crate::place::below;
 use crate::publication::{Paths, Projection};
-use ejson_value::{Doc, Mem, Part, Path, PathFault, Text, Value};
+use crate::seen::{Seen, part_names};
+use ejson_value::{Doc, Mem, Path, PathFault, Text, Value};
 use std::alloc::Global;
 
 // The number that stands at a path that is included, or left out.
@@ -25,65 +25,39 @@ fn says(including: bool, value: &Value) -> bool
 {
     match value {
         Value::Int(number) => number.get() == flag(including),
-        Value::Null
-        | Value::Bool(_)
-        | Value::Text(_)
-        | Value::Date(_)
-        | Value::Bytes(_)
-        | Value::List(_)
-        | Value::Object(_) => false,
+        _ => false,
     }
 }
 
-fn begins_with_id(path: &[Part]) -> bool
+fn begins_with_id(path: &[Text]) -> bool
     ensures { result ≡ begins_with_id path.now }
 {
     match path.split_first() {
         None => false,
-        Some((part, _rest)) => part.name().as_str() == "_id",
+        Some((part, _rest)) => part.as_str() == "_id",
     }
 }
 
-// Whether the second path is the first or goes on from it.
-fn leads_to(shorter: &[Part], longer: &[Part]) -> bool
-    ensures { result ≡ leads_to shorter.now longer.now }
+// The path, which joins the others, if it may stand behind them.
+fn path_behind(alloc: Global, seen: &mut Seen, path: Path) -> Result<Option<Path>, Mem>
+    ensures path { IfOk result (λ found. found ≡ path_behind seen.old (Some path)) }
+    ensures seen { IfOk result (λ found. OnSome found (Joins seen.old seen.new path)) }
 {
-    let Some((part, more)) = shorter.split_first() else {
-        return true;
-    };
-    let Some((other, rest)) = longer.split_first() else {
-        return false;
-    };
-    part.name().as_str() == other.name().as_str() && leads_to(more, rest)
-}
-
-fn has_prefix(paths: &Paths, path: &Path) -> bool
-    ensures { result ≡ list_any (λ p. leads_to p path.now) paths.now }
-{
-    for prefix in paths.as_slice() {
-        if leads_to(prefix.parts(), path.parts()) {
-            return true;
-        }
+    let names = part_names(alloc, &path)?;
+    if begins_with_id(&names) || seen.has_prefix(&names) {
+        return Ok(None);
     }
-    false
-}
-
-fn can_follow(paths: &Paths, path: &Path) -> bool
-    ensures { result ≡ can_follow paths.now path.now }
-{
-    !begins_with_id(path.parts()) && !has_prefix(paths, path)
+    seen.put(names)?;
+    Ok(Some(path))
 }
 
 // The path that the name writes, if it may stand behind the others.
-fn path_behind(alloc: Global, paths: &Paths, name: &Text) -> Result<Option<Path>, Mem>
-    ensures { IfOk result (λ path. path ≡ path_behind paths.now (path_of name.now)) }
+fn named_path(alloc: Global, seen: &mut Seen, name: &Text) -> Result<Option<Path>, Mem>
+    ensures path { IfOk result (λ found. found ≡ path_behind seen.old (path_of name.now)) }
+    ensures seen { IfOk result (λ found. IfSome found (λ path. Joins seen.old seen.new path)) }
 {
     match Path::read(alloc, name) {
-        Ok(path) => Ok(if can_follow(paths, &path) {
-            Some(path)
-        } else {
-            None
-        }),
+        Ok(path) => path_behind(alloc, seen, path),
         Err(PathFault::BadPath) => Ok(None),
         Err(PathFault::Memory) => Err(Mem),
     }
@@ -92,14 +66,15 @@ fn path_behind(alloc: Global, paths: &Paths, name: &Text) -> Result<Option<Path>
 fn next_path(
     alloc: Global,
     including: bool,
-    paths: &Paths,
+    seen: &mut Seen,
     name: &Text,
     value: &Value,
 ) -> Result<Option<Path>, Mem>
-    ensures { IfOk result (λ path. path ≡ next_path including paths.now name.now (view value.now)) }
+    ensures path { IfOk result (λ found. found ≡ next_path including seen.old name.now (view value.now)) }
+    ensures seen { IfOk result (λ found. IfSome found (λ path. Joins seen.old seen.new path)) }
 {
     if says(including, value) {
-        path_behind(alloc, paths, name)
+        named_path(alloc, seen, name)
     } else {
         Ok(None)
     }
@@ -109,27 +84,29 @@ fn read_path(
     alloc: Global,
     place: &Text,
     including: bool,
-    paths: &Paths,
+    seen: &mut Seen,
     name: &Text,
     value: &Value,
 ) -> Result<Path, AppFault>
-    ensures { Gives (λ path. path) result (or_bad_shape (below place.now name.now) (next_path including paths.now name.now (view value.now))) }
+    ensures path { Gives (λ path. path) result (or_bad_shape (below place.now name.now) (next_path including seen.old name.now (view value.now))) }
+    ensures seen { IfOk result (λ path. Joins seen.old seen.new path) }
 {
-    match next_path(alloc, including, paths, name, value)? {
+    match next_path(alloc, including, seen, name, value)? {
         Some(path) => Ok(path),
-        None => Err(AppFault::Bad {
-            flaw: Flaw::BadShape,
-            place: below(alloc, place.as_str(), name.as_str())?,
-        }),
+        None => Err(bad(
+            Flaw::BadShape,
+            below(alloc, place.as_str(), name.as_str())?,
+        )),
     }
 }
 
 fn read_paths(alloc: Global, place: &Text, including: bool, fields: &Doc) -> Result<Paths, AppFault>
     ensures { Gives (λ paths. paths) result (paths_behind place.now including [] (fields_of fields.now)) }
 {
+    let mut seen = Seen::new(alloc);
     let mut paths = Paths::new(alloc);
     for (name, value) in fields.iter() {
-        let path = read_path(alloc, place, including, &paths, name, value)?;
+        let path = read_path(alloc, place, including, &mut seen, name, value)?;
         paths.push(path)?;
     }
     Ok(paths)
@@ -168,15 +145,6 @@ pub(crate) fn read_projection(
     };
     match value {
         Value::Object(fields) => read_fields(alloc, place, fields),
-        Value::Null
-        | Value::Bool(_)
-        | Value::Int(_)
-        | Value::Text(_)
-        | Value::Date(_)
-        | Value::Bytes(_)
-        | Value::List(_) => Err(AppFault::Bad {
-            flaw: Flaw::BadShape,
-            place: place.copy()?,
-        }),
+        _ => Err(bad(Flaw::BadShape, place.copy()?)),
     }
 }

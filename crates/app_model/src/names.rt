@@ -9,7 +9,7 @@ ghost use Rattle.app_model.specs.Faults.{Gives};
 ghost use Rattle.app_model.specs.App.{has_name};
 ghost use Rattle.app_model.specs.Reading.{is_valid_name, name_reading, is_app_key, is_cursor_key};
 
-use crate::fault::{AppFault, Flaw};
+use crate::fault::{AppFault, Flaw, bad};
 use ejson_value::{Doc, Items, Mem, Names, Text, Value};
 use std::alloc::Global;
 
@@ -35,18 +35,12 @@ pub(crate) fn read_name(place: &Text, value: &Value) -> Result<Text, AppFault>
     ensures { Gives (λ name. name) result (name_reading place.now (view value.now)) }
 {
     let Value::Text(name) = value else {
-        return Err(AppFault::Bad {
-            flaw: Flaw::BadShape,
-            place: place.copy()?,
-        });
+        return Err(bad(Flaw::BadShape, place.copy()?));
     };
     if is_valid_name(name) {
         Ok(name.copy()?)
     } else {
-        Err(AppFault::Bad {
-            flaw: Flaw::BadName,
-            place: place.copy()?,
-        })
+        Err(bad(Flaw::BadName, place.copy()?))
     }
 }
 

@@ -2,17 +2,15 @@
 ghost use Rattle.std.specs.Prelude.{◌≡◌, Option, Some, ok_or, option_map, IfOk};
 ghost use Rattle.value_model.specs.Val.{text, list, object, vals_of, fields_of};
 ghost use Rattle.ejson_value.specs.View.{view};
+ghost use Rattle.ejson_value.specs.Results.{made};
 ghost use Rattle.app_model.specs.declared.fault.FillFault.TheVariants.{NoParam};
-ghost use Rattle.app_model.specs.Template.{placeholder_named, placeholder_in, nth, in_place, made, filling, items_filling, fields_filling, within_limits, filled, Gives};
+ghost use Rattle.app_model.specs.Template.{placeholder_named, placeholder_in, nth, in_place, filling, items_filling, fields_filling, filled, Gives};
 
 use crate::fault::FillFault;
-use ejson_value::{Doc, Items, Mem, Names, Text, Value, copy, depth, size};
+use crate::measuring::{measure, past_limits};
+use ejson_value::{Doc, Items, Mem, Names, Text, Value, copy};
 use std::alloc::Global;
 use std::marker::Model;
-
-const MAX_DEPTH: u64 = 32;
-
-const MAX_SIZE: u64 = 1_048_576;
 
 /// A value in which `{"$param":n}` stands for the n-th parameter of a call, from 0, and `{"$made":n}`
 /// for the n-th id that its run made. A contract sees its value.
@@ -36,7 +34,7 @@ impl Model for Template {
 
 // What an object stands for.
 #[derive(Clone, Copy)]
-enum Placeholder {
+pub(crate) enum Placeholder {
     Parameter(i64),
     MadeId(i64),
 }
@@ -51,7 +49,7 @@ fn placeholder_named(name: &Text, number: i64) -> Option<Placeholder>
     }
 }
 
-fn placeholder_in(fields: &Doc) -> Option<Placeholder>
+pub(crate) fn placeholder_in(fields: &Doc) -> Option<Placeholder>
     ensures { result ≡ placeholder_in (fields_of fields.now) }
 {
     let mut members = fields.iter();
@@ -103,12 +101,7 @@ fn fill_value(
     match template {
         Value::List(items) => Ok(Value::List(fill_items(alloc, items, params, ids)?)),
         Value::Object(fields) => fill_object(alloc, fields, params, ids),
-        Value::Null
-        | Value::Bool(_)
-        | Value::Int(_)
-        | Value::Text(_)
-        | Value::Date(_)
-        | Value::Bytes(_) => Ok(copy(template)?),
+        _ => Ok(copy(template)?),
     }
 }
 
@@ -147,26 +140,18 @@ fn fill_fields(alloc: Global, fields: &Doc, params: &Items, ids: &Names) -> Resu
     Ok(filled)
 }
 
-// The value, if it is within the limits.
-fn within_limits(value: Value) -> Result<Value, FillFault>
-    ensures { Gives view result (within_limits (view value)) }
-{
-    if depth(&value) > MAX_DEPTH {
-        return Err(FillFault::TooDeep);
-    }
-    if size(&value) > MAX_SIZE {
-        return Err(FillFault::TooLarge);
-    }
-    Ok(value)
-}
-
 impl Template {
     /// The value with each placeholder replaced: by a parameter, or by an id that was made. It has at
-    /// most 32 levels and 1,048,576 bytes as EJSON text.
+    /// most 32 levels and 1,048,576 bytes as EJSON text. What would be deeper or larger is refused
+    /// before anything is filled in.
     pub fn fill(&self, alloc: Global, params: &Items, made: &Names) -> Result<Value, FillFault>
         ensures { Gives view result (filled params.now made.now self.now) }
     {
-        within_limits(fill_value(alloc, &self.value, params, made)?)
+        let extent = measure(alloc, &self.value, params, made)?;
+        if let Some(fault) = past_limits(extent) {
+            return Err(fault);
+        }
+        fill_value(alloc, &self.value, params, made)
     }
 
     /// A template equal to this one.

@@ -15,16 +15,18 @@ use Rattle.std.proofs.lemmas.Slice.Eq.{bytes_eq-Decides}
 use Rattle.std.proofs.lemmas.Map.Keys.{sorted_head, sorted_tail}
 use Rattle.map_model.specs.Maps.{at, set, IsSorted}
 use Rattle.map_model.specs.MapLaws.{at-set, sorted-set, sorted-nil}
-use Rattle.value_model.specs.Val.{Entries}
+use Rattle.value_model.specs.Val.{Entries, fields_of, entries_of}
 use Rattle.value_model.specs.Size.{is_name}
 use Rattle.ejson_value.specs.declared.key.Key.{Key}
 use Rattle.ejson_value.specs.declared.change.Publish.{Publish}
 use Rattle.ejson_value.specs.Key.{key_cmp, key_total, key_exact, key_order}
-use Rattle.ejson_value.specs.Rows.{Rows}
+use Rattle.ejson_value.specs.Rows.{Rows, rows_of}
+use Rattle.selector_match.specs.Holds.{holds}
 use Rattle.publication.specs.declared.cursor.Cursor.{Cursor}
 use Rattle.publication.specs.Cursors.{ACursors}
 use Rattle.publication.specs.Published.{key_of, published_of, published_by, published, publish_of, IsQuery}
-use Rattle.publication.specs.Putting.{row_published, put_document, put_row, put_rows, put_all, listed_behind}
+use Rattle.publication.specs.Projected.{projected}
+use Rattle.publication.specs.Putting.{row_published, put_document, put_row, put_rows, put_own, published_at, put_all, listed_behind}
 
 tie : (o : Ordering) → is_eq o ≡ true → o ≡ Equal
 tie Less e = cc
@@ -168,3 +170,48 @@ IsQuery-put_all cursors rows answer t is = record {
   by_key = sorted-put_all cursors [] rows (sorted-nil key_cmp);
   each = λ key. at-put_all cursors [] rows key (sorted-nil key_cmp) t ∙ or_none (published cursors rows key);
 }
+
+-- the rows of the cursor's collection put what all rows put
+pub own_rows : (cursor : Cursor) (found rows : Rows) → put_own found cursor (rows_of cursor.collection rows) ≡ put_rows found cursor rows
+own_rows cursor found [] = refl
+own_rows cursor found (row ∷ rows) =
+    let key = key_of cursor.name row.0.id in
+    let rest = rows_of cursor.collection rows in
+    let here = published_of cursor row.0.id row.1 in
+    let with_it = own_rows cursor (put_document found key here) rows in
+    let without = own_rows cursor found rows in
+    elim (is_name row.0.collection cursor.collection) as (λ b. put_own found cursor (cond b (row ∷ rest) rest) ≡ put_rows (put_document found key (if b then here else None)) cursor rows) [ true ↦ with_it | false ↦ without ]
+
+-- a selector that holds of one id alone puts nothing of a row with another key
+nothing_held : (cursor : Cursor) (id : List ℕ) → ((i : List ℕ) (doc : Entries) → holds cursor.selector i doc ≡ true → i ≡ id) → (row : Key) (doc : Entries) → eq_by_cmp key_cmp (key_of cursor.collection id) row ≡ false → row_published cursor row doc ≡ None
+nothing_held cursor id only row doc apart =
+    let of = is_name row.collection cursor.collection in
+    let held = holds cursor.selector row.id doc in
+    let never : of ≡ true → held ≡ true → ⊥ = λ e f.
+    let ids : id ≡ row.id = sym (only row.id doc f) in
+    let collections : cursor.collection ≡ row.collection = sym (named row.collection cursor.collection e) in
+    let is : eq_by_cmp key_cmp (key_of cursor.collection id) row ≡ true = ap (λ i. eq_by_cmp key_cmp (key_of cursor.collection i) row) ids ∙ (ap (λ n. eq_by_cmp key_cmp (key_of n row.id) row) collections ∙ itself row) in
+    cc in
+    neither of held (Some (entries_of (projected cursor.fields (fields_of doc)))) never
+
+-- where the selector names an id, the row with this id puts what all rows put
+pub named_rows : (cursor : Cursor) (id : List ℕ) → ((i : List ℕ) (doc : Entries) → holds cursor.selector i doc ≡ true → i ≡ id) → (found rows : Rows) → IsSorted key_cmp rows →
+    put_rows found cursor rows ≡ put_document found (key_of cursor.name id) (published_at cursor rows id)
+named_rows cursor id only found [] s = refl
+named_rows cursor id only found (row ∷ rows) s =
+    let wanted = key_of cursor.collection id in
+    let key = key_of cursor.name id in
+    let behind = at key_cmp rows wanted in
+    let more = sorted_tail key_cmp row.0 (keys_of rows) s in
+    elim (eq_by_cmp key_cmp wanted row.0)
+    as (λ b. eq_by_cmp key_cmp wanted row.0 ≡ b → put_rows (put_row found cursor row.0 row.1) cursor rows ≡ put_document found key (option_and_then (published_of cursor id) (cond b (Some row.1) behind))) [
+      | true ↦ λ e.
+          let is : wanted ≡ row.0 = same wanted row.0 e in
+          let found' = put_document found key (published_of cursor id row.1) in
+          let put : put_row found cursor row.0 row.1 ≡ found' = ap (λ (k : Key). put_row found cursor k row.1) (sym is) ∙ ap (λ b. put_document found key (if b then published_of cursor id row.1 else None)) (own_name cursor.collection) in
+          let none : behind ≡ None = ap (λ k. at key_cmp rows k) is ∙ none_behind row.0 rows (sorted_head key_cmp row.0 (keys_of rows) s) in
+          ap (λ f. put_rows f cursor rows) put ∙ (named_rows cursor id only found' rows more ∙ ap (λ o. put_document found' key (option_and_then (published_of cursor id) o)) none)
+      | false ↦ λ e.
+          let put : put_row found cursor row.0 row.1 ≡ found = ap (λ o. put_document found (key_of cursor.name row.0.id) o) (nothing_held cursor id only row.0 row.1 e) in
+          ap (λ f. put_rows f cursor rows) put ∙ named_rows cursor id only found rows more
+    ] refl

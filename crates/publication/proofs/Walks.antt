@@ -1,8 +1,7 @@
 -- Lemmas of the loops that project the parts of a value one after another.
 use Rattle.std.specs.Prelude.{option_to_list}
-use Rattle.std.specs.List.{cons_option}
 use Rattle.std.proofs.Common.{◌≡◌, ℕ, Bool, Option, None, Some, List, [], ◌∷◌, ◌++◌, refl, ap, sym, ◌∙◌}
-use Rattle.std.proofs.lemmas.List.{append_assoc, append-nil}
+use Rattle.std.proofs.lemmas.List.{append_assoc}
 use Rattle.std.proofs.lemmas.Cmp.{nat_list_cmp_total}
 use Rattle.map_model.specs.Maps.{IsSorted, keyed, filter_map_entries}
 use Rattle.map_model.specs.OrderLaws.{put_next, pass_next}
@@ -11,28 +10,7 @@ use Rattle.value_model.specs.Order.{text_cmp}
 use Rattle.ejson_value.specs.declared.value.Value.{Value}
 use Rattle.ejson_value.specs.View.{view, entries}
 use Rattle.publication.specs.Parts.{put_some}
-use Rattle.publication.specs.Projected.{APath, rest_below, rests_below, element_before, field_before, value_projected, elements_projected, fields_projected, at_field}
-
--- the rests of more paths, behind those so far
-abbrev pub rests_behind : List ℕ → List APath → List APath → List APath
-rests_behind name rests [] = rests
-rests_behind name rests (path ∷ paths) = rests_behind name (rests ++ option_to_list (rest_below name path)) paths
-
-one_more : {X : Type 0} (xs : List X) (o : Option X) (more : List X) → (xs ++ option_to_list o) ++ more ≡ xs ++ (option_to_list o ++ more)
-one_more xs o more = append_assoc xs (option_to_list o) more
-
-before : (name : List ℕ) (path : APath) (paths : List APath) → option_to_list (rest_below name path) ++ rests_below name paths ≡ rests_below name (path ∷ paths)
-before name path paths = elim (rest_below name path) as (λ o. option_to_list o ++ rests_below name paths ≡ cons_option o (rests_below name paths)) [ None ↦ refl | Some rest ↦ refl ]
-
-rests_behind-is : (name : List ℕ) (rests paths : List APath) → rests_behind name rests paths ≡ rests ++ rests_below name paths
-rests_behind-is name rests [] = sym (append-nil rests)
-rests_behind-is name rests (path ∷ paths) =
-    rests_behind-is name (rests ++ option_to_list (rest_below name path)) paths
-    ∙ (one_more rests (rest_below name path) (rests_below name paths)
-    ∙ ap (λ more. rests ++ more) (before name path paths))
-
-pub rests_behind-none : (name : List ℕ) (paths : List APath) → rests_behind name [] paths ≡ rests_below name paths
-rests_behind-none name paths = rests_behind-is name [] paths
+use Rattle.publication.specs.Projected.{APath, element_before, field_before, value_projected, elements_projected, fields_projected, at_field}
 
 -- what is left of more elements, behind those so far
 abbrev pub elements_behind : Bool → List APath → List Val → Vals → List Val

@@ -3,12 +3,13 @@ use Rattle.std.specs.Prelude.{◌≡◌, ℕ, Bool, false, List, [], ◌∷◌, 
 use Rattle.std.specs.List.{list_any}
 use Rattle.value_model.specs.Val.{Val}
 use Rattle.value_model.specs.Size.{is_name}
+use Rattle.ejson_value.specs.Results.{and_then}
 use Rattle.selector_match.specs.Query.{Query}
 use Rattle.selector_match.specs.Reading.{reading}
 use Rattle.app_model.specs.declared.publication.CursorRule.{CursorRule}
 use Rattle.app_model.specs.Template.{filled}
 use Rattle.publication.specs.declared.cursor.Cursor.{Cursor}
-use Rattle.publication.specs.Faults.{Making, and_then, lifted, fill_fault, selector_fault}
+use Rattle.publication.specs.Faults.{Making, lifted, fill_fault, selector_fault}
 
 abbrev pub ACursors : Type 0
 ACursors = List Cursor

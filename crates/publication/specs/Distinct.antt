@@ -4,11 +4,12 @@ use Rattle.std.proofs.Common.{ap, sym, ◌∙◌, subst, append-nil, append_asso
 use Rattle.std.specs.List.{list_any}
 use Rattle.value_model.specs.Val.{Val}
 use Rattle.value_model.specs.Size.{is_name}
+use Rattle.ejson_value.specs.Results.{and_then, and_then-ok}
 use Rattle.selector_match.specs.Query.{Query}
 use Rattle.app_model.specs.declared.publication.CursorRule.{CursorRule}
 use Rattle.app_model.specs.Rules.{Rules, publishes as rules_publish, HaveDistinctNames as RulesHaveDistinctNames}
 use Rattle.publication.specs.declared.cursor.Cursor.{Cursor}
-use Rattle.publication.specs.Faults.{Making, and_then}
+use Rattle.publication.specs.Faults.{Making}
 use Rattle.publication.specs.Cursors.{ACursors, publishes, HaveDistinctNames, selector_made, cursor_of, cursor_made, cursors_behind}
 
 abbrev has : List (List ℕ) → List ℕ → Bool
@@ -34,17 +35,13 @@ to_cursors : (cursors : ACursors) → AreDistinct (map (λ (c : Cursor). c.name)
 to_cursors [] d = tt
 to_cursors (c ∷ cursors) d = (cursors_has cursors c.name ∙ d.0, to_cursors cursors d.1)
 
-and_then-ok : {A B : Type 0} (r : Making A) (f : A → Making B) (b : B) → and_then r f ≡ Ok b → (a : A) × ((r ≡ Ok a) × (f a ≡ Ok b))
-and_then-ok (Ok a) f b e = (a, (refl, e))
-and_then-ok (Err x) f b e = cc
-
 ok_is : {A : Type 0} (a b : A) → let r : Making A = Ok a in r ≡ Ok b → a ≡ b
 ok_is a b e = cc
 
 named_alike : (params : List Val) (rule : CursorRule) (cursor : Cursor) → cursor_made params rule ≡ Ok cursor → cursor.name ≡ rule.name
 named_alike params rule cursor e =
     let two = and_then-ok (selector_made params rule.selector) (λ (q : Query). let r : Making Cursor = Ok (cursor_of rule q) in r) cursor e in
-    ap (λ (c : Cursor). c.name) (sym (ok_is (cursor_of rule two.0) cursor two.1.1))
+    ap (λ (c : Cursor). c.name) (sym (ok_is (cursor_of rule two.0) cursor two.2))
 
 map-snoc : (cursors : ACursors) (c : Cursor) → map (λ (x : Cursor). x.name) (cursors ++ c ∷ []) ≡ map (λ (x : Cursor). x.name) cursors ++ c.name ∷ []
 map-snoc [] c = refl
@@ -58,9 +55,9 @@ all_named params cursors (rule ∷ rules) made e =
     let two = and_then-ok (cursor_made params rule) (λ (c : Cursor). cursors_behind params (cursors ++ c ∷ []) rules) made e in
     let front = map (λ (c : Cursor). c.name) cursors in
     let rest = map (λ (r : CursorRule). r.name) rules in
-    all_named params (cursors ++ two.0 ∷ []) rules made two.1.1
+    all_named params (cursors ++ two.0 ∷ []) rules made two.2
     ∙ (ap (λ ns. ns ++ rest) (map-snoc cursors two.0)
-    ∙ (append_assoc front (two.0.name ∷ []) rest ∙ ap (λ n. front ++ n ∷ rest) (named_alike params rule two.0 two.1.0)))
+    ∙ (append_assoc front (two.0.name ∷ []) rest ∙ ap (λ n. front ++ n ∷ rest) (named_alike params rule two.0 two.1)))
 
 pub cursors_distinct : (params : List Val) (rules : Rules) (made : ACursors) → cursors_behind params [] rules ≡ Ok made → RulesHaveDistinctNames rules → HaveDistinctNames made
 cursors_distinct params rules made e d = to_cursors made (subst AreDistinct (sym (all_named params [] rules made e)) (from_rules rules d))

@@ -10,10 +10,6 @@ use Rattle.publication.specs.declared.fault.CursorFault.TheVariants as fault
 abbrev pub Making : Type 0 → Type 0
 Making X = Result X CursorFault
 
-abbrev pub and_then : {A B : Type 0} → Making A → (A → Making B) → Making B
-and_then (Ok a) f = f a
-and_then (Err e) f = Err e
-
 abbrev pub fill_fault : FillFault → CursorFault
 fill_fault fill.NoParam = fault.Fill 1
 fill_fault fill.TooDeep = fault.Fill 2

@@ -1,6 +1,6 @@
 -- Published documents put into contents, one after another.
-use Rattle.std.specs.Prelude.{◌≡◌, List, [], ◌∷◌, ◌++◌, Option, None, Some, if◌then◌else◌}
-use Rattle.map_model.specs.Maps.{set}
+use Rattle.std.specs.Prelude.{◌≡◌, ℕ, option_and_then, List, [], ◌∷◌, ◌++◌, Option, None, Some, if◌then◌else◌}
+use Rattle.map_model.specs.Maps.{at, set}
 use Rattle.value_model.specs.Val.{Entries}
 use Rattle.value_model.specs.Size.{is_name}
 use Rattle.ejson_value.specs.declared.key.Key.{Key}
@@ -25,6 +25,15 @@ put_row found cursor key doc = put_document found (key_of cursor.name key.id) (r
 abbrev pub put_rows : Rows → Cursor → Rows → Rows
 put_rows found cursor [] = found
 put_rows found cursor (row ∷ rows) = put_rows (put_row found cursor row.0 row.1) cursor rows
+
+-- of rows of the cursor's collection alone
+abbrev pub put_own : Rows → Cursor → Rows → Rows
+put_own found cursor [] = found
+put_own found cursor (row ∷ rows) = put_own (put_document found (key_of cursor.name row.0.id) (published_of cursor row.0.id row.1)) cursor rows
+
+-- what is published of the document of the cursor's collection with this id
+abbrev pub published_at : Cursor → Rows → List ℕ → Option Entries
+published_at cursor rows id = option_and_then (published_of cursor id) (at key_cmp rows (key_of cursor.collection id))
 
 abbrev pub put_all : Rows → ACursors → Rows → Rows
 put_all found [] rows = found

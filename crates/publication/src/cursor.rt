@@ -5,11 +5,10 @@ ghost use Rattle.std.specs.Option.{option_copied};
 use app_model::Projection;
 use ejson_value::{Mem, Text};
 use selector_match::Selector;
-use std::alloc::Global;
 use std::marker::Model;
 
 /// One cursor: the documents of a collection that a selector holds of.
-#[derive(Debug, Drop)]
+#[derive(Drop)]
 pub struct Cursor {
     pub collection: Text,
     /// The name under which a client gets the documents.
@@ -19,7 +18,7 @@ pub struct Cursor {
 }
 
 /// Cursors with different published names. A contract sees the list of them.
-#[derive(Debug, Drop)]
+#[derive(Drop)]
 pub struct Cursors {
     pub(crate) cursors: Vec<Cursor>,
 }
@@ -39,14 +38,14 @@ impl Model for Cursors {
 
 impl Cursor {
     /// A cursor equal to this one.
-    pub fn copy(&self, alloc: Global) -> Result<Cursor, Mem>
+    pub fn copy(&self) -> Result<Cursor, Mem>
         ensures { IfOk result (λ cursor. cursor ≡ self.now) }
     {
         Ok(Cursor {
             collection: self.collection.copy()?,
             name: self.name.copy()?,
             selector: self.selector.copy()?,
-            fields: self.fields.copy(alloc)?,
+            fields: self.fields.copy()?,
         })
     }
 }
@@ -77,10 +76,9 @@ impl Cursors {
     pub fn copy(&self) -> Result<Cursors, Mem>
         ensures { IfOk result (λ cursors. cursors ≡ self.now) }
     {
-        let alloc = *self.cursors.allocator();
-        let mut cursors = Vec::new(alloc);
+        let mut cursors = Vec::new(*self.cursors.allocator());
         for cursor in &self.cursors {
-            cursors.push(cursor.copy(alloc)?)?;
+            cursors.push(cursor.copy()?)?;
         }
         Ok(Cursors { cursors })
     }

@@ -4,6 +4,7 @@
 mod cursor;
 mod fault;
 mod make;
+mod paths;
 mod projections;
 mod queries;
 
@@ -13,6 +14,3 @@ pub use ejson_value::{Publish, Publishes};
 pub use fault::CursorFault;
 pub use projections::project;
 pub use queries::query;
-
-#[cfg(test)]
-mod tests;

@@ -56,7 +56,7 @@ fn make_cursor(alloc: Global, rule: &CursorRule, params: &Items) -> Result<Curso
         collection: rule.collection.copy()?,
         name: rule.name.copy()?,
         selector,
-        fields: rule.fields.copy(alloc)?,
+        fields: rule.fields.copy()?,
     })
 }
 

@@ -5,15 +5,19 @@ ghost use Rattle.value_model.specs.Val.{fields_of, entries_of};
 ghost use Rattle.ejson_value.specs.Key.{key_cmp};
 ghost use Rattle.selector_match.specs.Holds.{holds};
 ghost use Rattle.publication.specs.Projected.{projected};
-ghost use Rattle.publication.specs.Published.{key_of, IsQuery};
-ghost use Rattle.publication.specs.Putting.{put_row, put_rows, put_all, listed_behind};
+ghost use Rattle.ejson_value.specs.Rows.{rows_of};
+ghost use Rattle.publication.specs.Parts.{paths_in, paths_of, AreSorted};
+ghost use Rattle.publication.specs.Published.{key_of, published_of, IsQuery};
+ghost use Rattle.publication.specs.Putting.{put_document, put_own, published_at, put_rows, put_all, listed_behind};
 
 use crate::cursor::{Cursor, Cursors};
-use crate::projections::project;
+use crate::paths::sorted_paths;
+use crate::projections::project_by;
 use app_model::Projection;
-use ejson_value::{Contents, Doc, Key, Mem, Publish, Publishes, Text};
+use ejson_value::{Contents, Doc, Key, Mem, Part, Publish, Publishes, Text};
 use selector_match::{Selector, Steps, matches};
 use std::alloc::Global;
+use std::collections::BTreeMap;
 use std::marker::Brand;
 use std::sync::ledger::{Blank, Ledger};
 
@@ -33,71 +37,125 @@ fn selector_holds(selector: &Selector, id: &Text, doc: &Doc) -> bool
     counted::<Brand>(selector, id, doc, Blank::new(1))
 }
 
-fn projected(alloc: Global, projection: &Projection, doc: &Doc) -> Result<Doc, Mem>
+// Published documents by published name and id.
+type Found = BTreeMap<Key, Doc>;
+
+fn projected(
+    alloc: Global,
+    projection: &Projection,
+    paths: &[&[Part]],
+    doc: &Doc,
+) -> Result<Doc, Mem>
+    requires { AreSorted (paths_of projection.now) (paths_in paths.now) }
     ensures { IfOk result (λ es. es ≡ entries_of (projected projection.now (fields_of doc.now))) }
 {
-    project(alloc, projection, doc)
+    project_by(alloc, projection, paths, doc)
 }
 
 // Puts what the cursor publishes of a document.
 fn put_document(
     alloc: Global,
-    found: &mut Contents,
+    found: &mut Found,
     cursor: &Cursor,
+    paths: &[&[Part]],
     id: &Text,
     doc: &Doc,
 ) -> Result<(), Mem>
-    ensures { OnOk result (found.new ≡ set key_cmp found.old (key_of cursor.now.name id.now) (Some (entries_of (projected cursor.now.fields (fields_of doc.now))))) }
+    requires { AreSorted (paths_of cursor.now.fields) (paths_in paths.now) }
+    ensures { OnOk result (found.new.entries ≡ set key_cmp found.old.entries (key_of cursor.now.name id.now) (Some (entries_of (projected cursor.now.fields (fields_of doc.now))))) }
 {
-    let fields = projected(alloc, &cursor.fields, doc)?;
+    let fields = projected(alloc, &cursor.fields, paths, doc)?;
     let key = Key {
         collection: cursor.name.copy()?,
         id: id.copy()?,
     };
-    found.put(key, fields)
+    drop(found.insert(key, fields)?);
+    Ok(())
 }
 
-// Puts what the cursor publishes of a row, if it is of its collection and its selector holds.
-fn put_row(
+// Puts what the cursor publishes of a document of its collection, if its selector holds.
+fn put_if_held(
     alloc: Global,
-    found: &mut Contents,
+    found: &mut Found,
     cursor: &Cursor,
-    key: &Key,
+    paths: &[&[Part]],
+    id: &Text,
     doc: &Doc,
 ) -> Result<(), Mem>
-    ensures { OnOk result (found.new ≡ put_row found.old cursor.now key.now doc.now) }
+    requires { AreSorted (paths_of cursor.now.fields) (paths_in paths.now) }
+    ensures { OnOk result (found.new.entries ≡ put_document found.old.entries (key_of cursor.now.name id.now) (published_of cursor.now id.now doc.now)) }
 {
-    if key.collection.as_str() != cursor.collection.as_str() {
-        return Ok(());
-    }
-    if selector_holds(&cursor.selector, &key.id, doc) {
-        put_document(alloc, found, cursor, &key.id, doc)
+    if selector_holds(&cursor.selector, id, doc) {
+        put_document(alloc, found, cursor, paths, id, doc)
     } else {
         Ok(())
     }
 }
 
-fn put_rows(
+// Puts what the cursor publishes of its collection.
+fn put_collection(
     alloc: Global,
-    found: &mut Contents,
+    found: &mut Found,
     cursor: &Cursor,
+    paths: &[&[Part]],
     contents: &Contents,
 ) -> Result<(), Mem>
-    ensures { OnOk result (found.new ≡ put_rows found.old cursor.now contents.now) }
+    requires { AreSorted (paths_of cursor.now.fields) (paths_in paths.now) }
+    ensures { OnOk result (found.new.entries ≡ put_own found.old.entries cursor.now (rows_of cursor.now.collection contents.now)) }
 {
-    for (key, doc) in contents.iter() {
-        put_row(alloc, found, cursor, key, doc)?;
+    for (key, doc) in contents.of_collection(&cursor.collection)? {
+        put_if_held(alloc, found, cursor, paths, &key.id, doc)?;
     }
     Ok(())
 }
 
+// Puts what the cursor publishes of the document of its collection with this id, if there is one.
+fn put_named(
+    alloc: Global,
+    found: &mut Found,
+    cursor: &Cursor,
+    paths: &[&[Part]],
+    id: &Text,
+    contents: &Contents,
+) -> Result<(), Mem>
+    requires { AreSorted (paths_of cursor.now.fields) (paths_in paths.now) }
+    ensures { OnOk result (found.new.entries ≡ put_document found.old.entries (key_of cursor.now.name id.now) (published_at cursor.now contents.now id.now)) }
+{
+    let key = Key {
+        collection: cursor.collection.copy()?,
+        id: id.copy()?,
+    };
+    match contents.get(&key) {
+        None => Ok(()),
+        Some(doc) => put_if_held(alloc, found, cursor, paths, id, doc),
+    }
+}
+
+// Puts what the cursor publishes of the contents: where its selector names an id, it looks at the
+// document with this id alone.
+fn put_rows(
+    alloc: Global,
+    found: &mut Found,
+    cursor: &Cursor,
+    contents: &Contents,
+) -> Result<(), Mem>
+    ensures { OnOk result (found.new.entries ≡ put_rows found.old.entries cursor.now contents.now) }
+{
+    let paths = sorted_paths(alloc, &cursor.fields)?;
+    contents.known();
+    match cursor.selector.named_id() {
+        None => put_collection(alloc, found, cursor, &paths, contents),
+        Some(id) => put_named(alloc, found, cursor, &paths, id, contents),
+    }
+}
+
 fn put_all(
     alloc: Global,
-    found: &mut Contents,
+    found: &mut Found,
     cursors: &Cursors,
     contents: &Contents,
 ) -> Result<(), Mem>
-    ensures { OnOk result (found.new ≡ put_all found.old cursors.now contents.now) }
+    ensures { OnOk result (found.new.entries ≡ put_all found.old.entries cursors.now contents.now) }
 {
     for cursor in &cursors.cursors {
         put_rows(alloc, found, cursor, contents)?;
@@ -105,28 +163,28 @@ fn put_all(
     Ok(())
 }
 
-fn list(alloc: Global, found: &Contents) -> Result<Publishes, Mem>
-    ensures { IfOk result (λ answer. answer ≡ listed_behind [] found.now) }
+fn list(alloc: Global, found: Found) -> Result<Publishes, Mem>
+    ensures { IfOk result (λ answer. answer ≡ listed_behind [] found.entries) }
 {
     let mut answer = Publishes::new(alloc);
-    for (key, doc) in found.iter() {
-        let publish = Publish {
-            key: key.copy()?,
-            new: Some(doc.copy()?),
-        };
-        answer.push(publish)?;
+    for (key, doc) in found {
+        answer.push(Publish {
+            key,
+            new: Some(doc),
+        })?;
     }
     Ok(answer)
 }
 
-/// Every document that the cursors publish of the contents, by published name and id. It looks at
-/// each document once for each cursor.
+/// Every document that the cursors publish of the contents, by published name and id. For each
+/// cursor it looks once at each document of its collection, and where the selector names an id, at
+/// the document with this id alone.
 pub fn query(alloc: Global, cursors: &Cursors, contents: &Contents) -> Result<Publishes, Mem>
     ensures { IfOk result (λ answer. IsQuery cursors.now contents.now answer) }
 {
-    let mut found = Contents::new(alloc);
+    let mut found = BTreeMap::new(alloc);
     put_all(alloc, &mut found, cursors, contents)?;
-    let answer = list(alloc, &found)?;
+    let answer = list(alloc, found)?;
     contents.known();
     Ok(answer)
 }

@@ -9,8 +9,9 @@ use Rattle.value_model.specs.Doc.{put}
 use Rattle.ejson_value.specs.declared.value.Value.{Value}
 use Rattle.ejson_value.specs.View.{view, views, entries}
 use Rattle.ejson_value.proofs.Walks.{item_depth, field_depth}
-use Rattle.app_model.specs.Template.{made, filling, items_filling, fields_filling}
-use Rattle.app_model.proofs.Front.{after, made_none, made_more, after-vals, field_before, field_more, after-fields, put_behind}
+use Rattle.ejson_value.specs.Results.{made, after, made_none, made_more}
+use Rattle.app_model.specs.Template.{filling, items_filling, fields_filling}
+use Rattle.app_model.proofs.Front.{after-vals, field_before, field_more, after-fields, put_behind}
 use Rattle.app_model.proofs.template.+filling.Goals as goal
 
 pub fill_items-fill_value-requires : goal.fill_items-fill_value-requires
@@ -21,7 +22,7 @@ fill_items-fill_value-requires t c =
 pub fill_items-loop-item-init : goal.fill_items-loop-item-init
 fill_items-loop-item-init t c =
     let all = items_filling c.args.params.now c.args.ids.now (vals_of (views c.as_slice-item-items.result.now)) in
-    made_none all ∙ ap (λ (vs : List Val). made (λ q. after val vs q) all) (sym c.new-filled.ensures)
+    made_none val all ∙ ap (λ (vs : List Val). made (λ q. after val vs q) all) (sym c.new-filled.ensures)
 
 pub fill_items-loop-item-preserved : goal.fill_items-loop-item-preserved
 fill_items-loop-item-preserved t c =
@@ -34,7 +35,7 @@ fill_items-loop-item-preserved t c =
     let one_more : suc i ≡ i + 1 = omega arith in
     c.loop-item.invariant
     ∙ (ap (λ vs. made (λ q. after val so_far q) (items_filling ps ids (vals_of (views vs)))) (drop-cons items i c.item-item.result c.loop-item-test.true)
-    ∙ (made_more so_far (view c.in_ok-value.value) (filling ps ids (view (get_or items i c.item-item.result))) more (ap (λ v. filling ps ids (view v)) (sym c.item-item.is) ∙ c.in_ok-value.ensures)
+    ∙ (made_more val so_far (view c.in_ok-value.value) (filling ps ids (view (get_or items i c.item-item.result))) more (ap (λ v. filling ps ids (view v)) (sym c.item-item.is) ∙ c.in_ok-value.ensures)
     ∙ (ap (λ (vs : List Val). made (λ q. after val vs q) more) (sym c.in_ok-push.ensures.ok)
     ∙ ap (λ n. made (λ q. after val c.push.new.self q) (items_filling ps ids (vals_of (views (drop n items))))) one_more)))
 

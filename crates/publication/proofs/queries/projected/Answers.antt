@@ -10,4 +10,4 @@ as_entries (Ok es) fs h = sym (entries_of-fields_of es) ∙ ap entries_of h
 as_entries (Err e) fs h = h
 
 pub returns : goal.returns
-returns c = as_entries c.project.result (projected c.args.projection.now (fields_of c.args.doc.now)) c.project.ensures
+returns c = as_entries c.project_by.result (projected c.args.projection.now (fields_of c.args.doc.now)) c.project_by.ensures

@@ -1,8 +1,0 @@
-use Rattle.std.proofs.Common.{◌≡◌}
-use Rattle.publication.specs.Putting.{put_rows}
-use Rattle.publication.proofs.queries.put_rows.Given as goal
-
-abbrev pub invariant-loop-key : goal.invariant-loop-key
-invariant-loop-key l =
-    (goal.iterator-loop-key).can_next l.key-iterator × (goal.iterator-loop-key).is_finite l.key-iterator ×
-    (put_rows l.found l.cursor l.key-iterator ≡ put_rows l.initial.found l.cursor l.initial.key-iterator)
