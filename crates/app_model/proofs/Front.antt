@@ -10,7 +10,8 @@ use Rattle.value_model.specs.Val.{Val, Vals, no_vals, val, vals_of, Fields, no_f
 use Rattle.value_model.specs.Order.{text_cmp}
 use Rattle.value_model.specs.Doc.{put}
 use Rattle.ejson_value.specs.declared.value.Value.{Value}
-use Rattle.ejson_value.specs.Results.{made, with_both, after, after-append}
+use Rattle.ejson_value.specs.Results.{made, with_both, after}
+use Rattle.ejson_value.specs.ResultLaws.{after-append}
 use Rattle.app_model.specs.Template.{Filling}
 
 pub after-vals : (vs : List Val) → after val vs no_vals ≡ vals_of vs

@@ -9,7 +9,8 @@ use Rattle.std.proofs.lemmas.Bool.Decides.{same_from_decides}
 use Rattle.value_model.specs.Val.{Val, text, object, Vals, no_vals, val, Fields}
 use Rattle.value_model.specs.Size.{is_name}
 use Rattle.value_model.specs.Branches.{field_of}
-use Rattle.ejson_value.specs.Results.{made, and_then, made-ok, and_then-ok}
+use Rattle.ejson_value.specs.Results.{made, and_then}
+use Rattle.ejson_value.specs.ResultLaws.{made-ok, and_then-ok}
 use Rattle.app_model.specs.declared.publication.Projection.{Projection}
 use Rattle.app_model.specs.declared.fault.Flaw.{Flaw}
 use Rattle.app_model.specs.declared.fault.Flaw.TheVariants as flaw

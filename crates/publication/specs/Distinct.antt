@@ -4,7 +4,8 @@ use Rattle.std.proofs.Common.{ap, sym, ◌∙◌, subst, append-nil, append_asso
 use Rattle.std.specs.List.{list_any}
 use Rattle.value_model.specs.Val.{Val}
 use Rattle.value_model.specs.Size.{is_name}
-use Rattle.ejson_value.specs.Results.{and_then, and_then-ok}
+use Rattle.ejson_value.specs.Results.{and_then}
+use Rattle.ejson_value.specs.ResultLaws.{and_then-ok}
 use Rattle.selector_match.specs.Query.{Query}
 use Rattle.app_model.specs.declared.publication.CursorRule.{CursorRule}
 use Rattle.app_model.specs.Rules.{Rules, publishes as rules_publish, HaveDistinctNames as RulesHaveDistinctNames}

@@ -9,7 +9,8 @@ use Rattle.value_model.specs.Doc.{put}
 use Rattle.ejson_value.specs.declared.value.Value.{Value}
 use Rattle.ejson_value.specs.View.{view, views, entries}
 use Rattle.ejson_value.proofs.Walks.{item_depth, field_depth}
-use Rattle.ejson_value.specs.Results.{made, after, made_none, made_more}
+use Rattle.ejson_value.specs.Results.{made, after}
+use Rattle.ejson_value.specs.ResultLaws.{made_none, made_more}
 use Rattle.app_model.specs.Template.{filling, items_filling, fields_filling}
 use Rattle.app_model.proofs.Front.{after-vals, field_before, field_more, after-fields, put_behind}
 use Rattle.app_model.proofs.template.+filling.Goals as goal
