@@ -3,10 +3,10 @@ ghost use Rattle.std.specs.Prelude.{◌≡◌, All, IfOk, OnOk};
 ghost use Rattle.map_model.specs.Maps.{at};
 ghost use Rattle.ejson_value.specs.Key.{key_cmp};
 
-use crate::values::{doc, int, text};
+use crate::values::{doc, int, is_int, text};
 use ejson_value::{
     Change, Changes, Contents, DataList, DataMsg, Doc, Key, Keys, Mem, Names, Publish, Publishes,
-    Text, copy_option, same,
+    Text, copy_option,
 };
 use std::alloc::Global;
 use std::test::Fail;
@@ -31,7 +31,7 @@ fn has_task(alloc: Global, contents: &Contents, id: &str, number: i64) -> Result
     let Some(task) = contents.get(&key(alloc, id)?) else {
         return Ok(false);
     };
-    Ok(task.get(&name).is_some_and(|n| same(n, &int(number))))
+    Ok(task.get(&name).is_some_and(|n| is_int(n, number)))
 }
 
 // A document at each of these keys, collection and id.
@@ -78,18 +78,19 @@ fn collections_are_walked(rt: HostRuntime) -> Result<(), Fail> {
     Ok(())
 }
 
+fn take(alloc: Global, contents: &mut Contents, id: &str) -> Result<bool, Mem> {
+    let key = key(alloc, id)?;
+    Ok(contents.remove(&key).is_some() && contents.get(&key).is_none())
+}
+
 fn contents_are_edited(alloc: Global) -> Result<bool, Mem> {
-    let mut contents = Contents::new(alloc);
-    contents.put(key(alloc, "b")?, task(alloc, 1)?)?;
-    contents.put(key(alloc, "a")?, task(alloc, 2)?)?;
-    let copied = contents.copy()?;
-    let taken = contents.remove(&key(alloc, "a")?).is_some();
-    Ok(
-        taken
-            && !has_task(alloc, &contents, "a", 2)?
-            && has_task(alloc, &copied, "a", 2)?
-            && contents.len() == 1,
-    )
+    let mut contents = contents_at(alloc, "tasks/b tasks/a")?;
+    Ok(take(alloc, &mut contents, "b")? && ids_of(alloc, &contents, "tasks")?.as_str() == "a")
+}
+
+fn contents_are_copied(alloc: Global) -> Result<bool, Mem> {
+    let copied = contents_at(alloc, "tasks/b tasks/a")?.copy()?;
+    Ok(copied.len() == 2 && ids_of(alloc, &copied, "tasks")?.as_str() == "ab")
 }
 
 fn contents_are_walked(alloc: Global) -> Result<bool, Mem> {
@@ -103,6 +104,7 @@ fn contents_are_walked(alloc: Global) -> Result<bool, Mem> {
 #[test]
 fn contents_are_right(rt: HostRuntime) -> Result<(), Fail> {
     assert!(rt; contents_are_edited(rt.alloc())?);
+    assert!(rt; contents_are_copied(rt.alloc())?);
     assert!(rt; contents_are_walked(rt.alloc())?);
     Ok(())
 }
@@ -162,22 +164,47 @@ fn changes_are_put(alloc: Global) -> Result<bool, Mem> {
     )
 }
 
-fn changes_are_copied(alloc: Global) -> Result<bool, Mem> {
+fn one_change(alloc: Global) -> Result<Changes, Mem> {
     let mut changes = Changes::new(alloc);
-    changes.push(change(alloc, &Contents::new(alloc), "a", None)?)?;
+    changes.push(Change {
+        key: key(alloc, "a")?,
+        before: None,
+        after: None,
+    })?;
+    Ok(changes)
+}
+
+fn changes_are_copied(alloc: Global) -> Result<bool, Mem> {
+    Ok(one_change(alloc)?.copy()?.len() == 1)
+}
+
+fn one_publish(alloc: Global) -> Result<Publishes, Mem> {
     let mut publishes = Publishes::new(alloc);
     publishes.push(Publish {
         key: key(alloc, "a")?,
-        new: Some(task(alloc, 1)?),
+        new: Some(Doc::new(alloc)),
     })?;
-    Ok(changes.copy()?.len() == 1 && publishes.copy()?.len() == 1)
+    Ok(publishes)
+}
+
+fn publishes_are_copied(alloc: Global) -> Result<bool, Mem> {
+    Ok(one_publish(alloc)?.copy()?.len() == 1)
+}
+
+fn one_key(alloc: Global) -> Result<Keys, Mem> {
+    let mut keys = Keys::new(alloc);
+    keys.push(key(alloc, "a")?)?;
+    Ok(keys)
 }
 
 fn keys_are_copied(alloc: Global) -> Result<bool, Mem> {
-    let mut keys = Keys::new(alloc);
-    keys.push(key(alloc, "a")?)?;
-    let one = Some(key(alloc, "a")?);
-    Ok(keys.copy()?.as_slice() == keys.as_slice() && copy_option(&one)? == one)
+    let keys = one_key(alloc)?;
+    Ok(keys.copy()?.as_slice() == keys.as_slice())
+}
+
+fn options_are_copied(alloc: Global) -> Result<bool, Mem> {
+    let one = Some(text(alloc, "a")?);
+    Ok(copy_option(&one)? == one)
 }
 
 fn push_messages(alloc: Global, messages: &mut DataList) -> Result<(), Mem> {
@@ -201,12 +228,19 @@ fn messages_are_copied(alloc: Global) -> Result<bool, Mem> {
     Ok(messages.copy()?.len() == 3)
 }
 
+fn are_copied(alloc: Global) -> Result<bool, Mem> {
+    Ok(
+        changes_are_copied(alloc)?
+            && publishes_are_copied(alloc)?
+            && keys_are_copied(alloc)?
+            && options_are_copied(alloc)?
+            && messages_are_copied(alloc)?,
+    )
+}
+
 #[test]
 fn changes_and_copies_are_right(rt: HostRuntime) -> Result<(), Fail> {
-    let alloc = rt.alloc();
-    assert!(rt; changes_are_put(alloc)?);
-    assert!(rt; changes_are_copied(alloc)?);
-    assert!(rt; keys_are_copied(alloc)?);
-    assert!(rt; messages_are_copied(alloc)?);
+    assert!(rt; changes_are_put(rt.alloc())?);
+    assert!(rt; are_copied(rt.alloc())?);
     Ok(())
 }

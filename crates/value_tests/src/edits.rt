@@ -1,8 +1,8 @@
 //! Edits of texts, bytes, lists, documents and lists of things, and their copies.
-use crate::values::{int, push_numbers, text};
+use crate::values::{int, is_int, push_numbers, text};
 use ejson_value::{
     Bytes, Doc, Fault, Items, ListOf, Mem, Names, Path, PathFault, SortKey, SortKeys, Text, Whole,
-    copy_option, same,
+    copy_option,
 };
 use std::alloc::Global;
 use std::test::Fail;
@@ -31,14 +31,12 @@ fn texts_are_copied(alloc: Global) -> Result<bool, Mem> {
 }
 
 fn bytes_are_edited(alloc: Global) -> Result<bool, Mem> {
-    let mut data = Bytes::new(alloc);
-    data.push(7)?;
+    let mut data = Bytes::from_vec(Vec::from_slice(alloc, b"\x07")?);
     data.push(8)?;
     if data.is_empty() || data.len() != 2 || data.get(0) != Some(7) || data.get(2).is_some() {
         return Ok(false);
     }
-    let owned = Bytes::from_vec(Vec::from_slice(alloc, b"\x08")?);
-    Ok(data.remove(0) == 7 && data.copy()?.as_slice() == owned.as_slice())
+    Ok(data.remove(0) == 7 && data.copy()?.as_slice() == b"\x08".as_slice())
 }
 
 // Each row: a number, and whether it is a whole number of 53 bits.
@@ -67,14 +65,18 @@ fn numbers(alloc: Global) -> Result<Items, Mem> {
     Ok(items)
 }
 
+fn is_edited(items: &mut Items) -> bool {
+    if items.is_empty() || items.len() != 2 || items.get(2).is_some() {
+        return false;
+    }
+    let second = items.replace(1, int(3));
+    let first = items.remove(0);
+    is_int(&first, 1) && is_int(&second, 2) && items.get(0).is_some_and(|v| is_int(v, 3))
+}
+
 fn lists_are_edited(alloc: Global) -> Result<bool, Mem> {
     let mut items = numbers(alloc)?;
-    if items.is_empty() || items.len() != 2 || items.get(2).is_some() {
-        return Ok(false);
-    }
-    let replaced = same(&items.replace(1, int(3)), &int(2));
-    let first = same(&items.remove(0), &int(1));
-    Ok(replaced && first && items.get(0).is_some_and(|v| same(v, &int(3))))
+    Ok(is_edited(&mut items))
 }
 
 fn fields(alloc: Global) -> Result<Doc, Mem> {
@@ -93,13 +95,18 @@ fn names_of(fields: &Doc, alloc: Global) -> Result<Text, Mem> {
     Ok(names)
 }
 
+fn loses_field(fields: &mut Doc, name: &Text) -> bool {
+    let taken = fields.remove(name);
+    taken.is_some_and(|v| is_int(&v, 4))
+        && fields.get(name).is_none()
+        && fields.remove(name).is_none()
+}
+
 fn documents_are_edited(alloc: Global) -> Result<bool, Mem> {
+    let name = text(alloc, "m")?;
     let mut fields = fields(alloc)?;
     let copied = fields.copy()?;
-    let name = text(alloc, "m")?;
-    let taken = fields.remove(&name).is_some_and(|v| same(&v, &int(4)));
-    let gone = fields.get(&name).is_none() && fields.remove(&name).is_none();
-    Ok(taken && gone && copied.get(&name).is_some_and(|v| same(v, &int(4))))
+    Ok(loses_field(&mut fields, &name) && copied.get(&name).is_some_and(|v| is_int(v, 4)))
 }
 
 fn documents_are_sorted(alloc: Global) -> Result<bool, Mem> {
@@ -142,18 +149,23 @@ fn sort_keys_are_copied(alloc: Global) -> Result<bool, PathFault> {
     )
 }
 
+fn edits_are_right(alloc: Global) -> Result<bool, Mem> {
+    Ok(
+        texts_are_edited(alloc)?
+            && texts_are_copied(alloc)?
+            && bytes_are_edited(alloc)?
+            && lists_are_edited(alloc)?
+            && documents_are_edited(alloc)?
+            && documents_are_sorted(alloc)?,
+    )
+}
+
 #[test]
 fn edits_and_copies_are_right(rt: HostRuntime) -> Result<(), Fail> {
-    let alloc = rt.alloc();
-    assert!(rt; texts_are_edited(alloc)?);
-    assert!(rt; texts_are_copied(alloc)?);
-    assert!(rt; bytes_are_edited(alloc)?);
-    assert!(rt; lists_are_edited(alloc)?);
-    assert!(rt; documents_are_edited(alloc)?);
-    assert!(rt; documents_are_sorted(alloc)?);
-    assert!(rt; lists_of_names_are_copied(alloc)?);
-    assert!(rt; faults_are_copied(alloc)?);
-    assert!(rt; sort_keys_are_copied(alloc)?);
+    assert!(rt; edits_are_right(rt.alloc())?);
+    assert!(rt; lists_of_names_are_copied(rt.alloc())?);
+    assert!(rt; faults_are_copied(rt.alloc())?);
+    assert!(rt; sort_keys_are_copied(rt.alloc())?);
     Ok(())
 }
 

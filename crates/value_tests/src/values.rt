@@ -9,6 +9,13 @@ pub(crate) fn int(number: i64) -> Value {
     Whole::of(number).map_or(Value::Null, Value::Int)
 }
 
+pub(crate) fn is_int(value: &Value, number: i64) -> bool {
+    match value {
+        Value::Int(whole) => whole.get() == number,
+        _ => false,
+    }
+}
+
 fn date(moment: i64) -> Value {
     Whole::of(moment).map_or(Value::Null, Value::Date)
 }
