@@ -231,3 +231,7 @@ room_next done fields grown name claims before grows here f some = step (at text
 pub none_of : {X : Type 0} (xs : List X) → is_empty xs ≡ true → [] ≡ xs
 none_of [] e = refl
 none_of (x ∷ xs) e = absurd (true≢false (sym e))
+
+pub either_same : {X : Type 0} (b : Bool) (x : X) → x ≡ cond b x x
+either_same true x = refl
+either_same false x = refl

@@ -2,6 +2,7 @@
 ghost use Rattle.std.specs.Prelude.{◌≡◌, ◌∷◌, ◌++◌, ◌==◌, [], not, filter, option_map, IfOk, OnOk, OnErr};
 ghost use Rattle.ejson_value.specs.View.{view};
 ghost use Rattle.merge_model.specs.Kept.{claimed, give, placed, first_value, is_empty};
+ghost use Rattle.merge_box.specs.Claims.{pairs};
 ghost use Rattle.merge_box.specs.Held.{keeps, changed_claims};
 
 use ejson_value::{Mem, Value, compare, copy};
@@ -15,23 +16,81 @@ pub(crate) struct Claim {
     value: Value,
 }
 
-/// The claims on a field, that of the subscription which began first at the front. A contract sees
-/// them as pairs of a subscription and its value.
+/// The claims on a field, that of the subscription which began first at the front. A claim that is
+/// alone is kept plain: only those behind the first take a list. A contract sees them as pairs of a
+/// subscription and its value.
 #[derive(Drop)]
 pub(crate) struct Claims {
-    claims: Vec<Claim>,
+    first: Option<Claim>,
+    others: Vec<Claim>,
 }
 
 impl Model for Claims {
     ghost use Rattle.std.specs.Prelude.{ℕ, List};
     ghost use Rattle.value_model.specs.Val.{Val};
-    ghost use Rattle.merge_box.specs.Claims.{pairs, claims_code};
+    ghost use Rattle.merge_box.specs.Claims.{in_order, claims_code, HasFirst};
 
     ghost Value = { List (ℕ × Val) };
 
     ghost coded = { claims_code };
 
-    ghost view = { λ a. pairs a.claims.items };
+    ghost view = { λ a. in_order a.first a.others.items };
+
+    ghost invariant = { λ a. HasFirst a.first a.others.items };
+}
+
+// The subscription's value.
+fn claim_in(claims: &[Claim], sub: u64) -> Option<&Value>
+    ensures { option_map (λ v. view v.now) result ≡ claimed sub (pairs claims.now) }
+{
+    for claim in claims {
+        if claim.sub == sub {
+            return Some(&claim.value);
+        }
+    }
+    None
+}
+
+// Puts copies of the claims behind the others.
+fn push_all(copies: &mut Claims, claims: &[Claim]) -> Result<(), Mem>
+    ensures { OnOk result (copies.new ≡ copies.old ++ pairs claims.now) }
+{
+    for claim in claims {
+        copies.push(claim.sub, &claim.value)?;
+    }
+    Ok(())
+}
+
+// Puts copies of the claims behind the others, where the subscription has this value: in its place
+// where it has one, else behind all others.
+fn push_given(copies: &mut Claims, claims: &[Claim], sub: u64, value: &Value) -> Result<(), Mem>
+    ensures { OnOk result (copies.new ≡ copies.old ++ give (pairs claims.now) sub (view value.now)) }
+{
+    let mut is_given = false;
+    for claim in claims {
+        if !is_given && claim.sub == sub {
+            copies.push(sub, value)?;
+            is_given = true;
+        } else {
+            copies.push(claim.sub, &claim.value)?;
+        }
+    }
+    if !is_given {
+        copies.push(sub, value)?;
+    }
+    Ok(())
+}
+
+// Puts copies of the claims behind the others, but for those of the subscription.
+fn push_without(copies: &mut Claims, claims: &[Claim], sub: u64) -> Result<(), Mem>
+    ensures { OnOk result (copies.new ≡ copies.old ++ filter (λ e. not (sub == e.0)) (pairs claims.now)) }
+{
+    for claim in claims {
+        if claim.sub != sub {
+            copies.push(claim.sub, &claim.value)?;
+        }
+    }
+    Ok(())
 }
 
 impl Claims {
@@ -39,23 +98,24 @@ impl Claims {
         ensures { result ≡ [] }
     {
         Claims {
-            claims: Vec::new(alloc),
+            first: None,
+            others: Vec::new(alloc),
         }
     }
 
     pub(crate) fn is_empty(&self) -> bool
         ensures { result ≡ is_empty self.now }
     {
-        self.claims.is_empty()
+        self.first.is_none()
     }
 
     /// The value that the client sees.
     pub(crate) fn first(&self) -> Option<&Value>
         ensures { option_map (λ v. view v.now) result ≡ first_value self.now }
     {
-        match self.claims.as_slice() {
-            [] => None,
-            [claim, ..] => Some(&claim.value),
+        match &self.first {
+            None => None,
+            Some(claim) => Some(&claim.value),
         }
     }
 
@@ -63,12 +123,16 @@ impl Claims {
     fn claim_of(&self, sub: u64) -> Option<&Value>
         ensures { option_map (λ v. view v.now) result ≡ claimed sub self.now }
     {
-        for claim in self.claims.as_slice() {
-            if claim.sub == sub {
-                return Some(&claim.value);
+        match &self.first {
+            None => None,
+            Some(claim) => {
+                if claim.sub == sub {
+                    Some(&claim.value)
+                } else {
+                    claim_in(self.others.as_slice(), sub)
+                }
             }
         }
-        None
     }
 
     // Whether the subscription has this value already, where None is no value.
@@ -88,7 +152,11 @@ impl Claims {
         ensures err { OnErr result (self.new ≡ self.old) }
     {
         let value = copy(value)?;
-        self.claims.push(Claim { sub, value })?;
+        let claim = Claim { sub, value };
+        match &self.first {
+            None => self.first = Some(claim),
+            Some(_) => self.others.push(claim)?,
+        }
         Ok(())
     }
 
@@ -97,17 +165,17 @@ impl Claims {
         ensures { IfOk result (λ claims. claims ≡ give self.now sub (view value.now)) }
     {
         let mut copies = Claims::new(alloc);
-        let mut is_given = false;
-        for claim in self.claims.as_slice() {
-            if !is_given && claim.sub == sub {
-                copies.push(sub, value)?;
-                is_given = true;
-            } else {
-                copies.push(claim.sub, &claim.value)?;
+        match &self.first {
+            None => copies.push(sub, value)?,
+            Some(claim) => {
+                if claim.sub == sub {
+                    copies.push(sub, value)?;
+                    push_all(&mut copies, self.others.as_slice())?;
+                } else {
+                    copies.push(claim.sub, &claim.value)?;
+                    push_given(&mut copies, self.others.as_slice(), sub, value)?;
+                }
             }
-        }
-        if !is_given {
-            copies.push(sub, value)?;
         }
         Ok(copies)
     }
@@ -117,10 +185,11 @@ impl Claims {
         ensures { IfOk result (λ claims. claims ≡ filter (λ e. not (sub == e.0)) self.now) }
     {
         let mut copies = Claims::new(alloc);
-        for claim in self.claims.as_slice() {
+        if let Some(claim) = &self.first {
             if claim.sub != sub {
                 copies.push(claim.sub, &claim.value)?;
             }
+            push_without(&mut copies, self.others.as_slice(), sub)?;
         }
         Ok(copies)
     }

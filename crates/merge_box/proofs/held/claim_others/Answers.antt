@@ -1,4 +1,4 @@
-use Rattle.std.proofs.Common.{◌∷◌, [], ◌++◌, Some, ap, sym, subst, ◌∙◌}
+use Rattle.std.proofs.Common.{◌∷◌, [], ◌++◌, is_some, Some, refl, ap, sym, subst, ◌∙◌}
 use Rattle.std.specs.List.Sorted.{IsStrictlySortedBy}
 use Rattle.std.specs.BTreeMap.{insert_entry}
 use Rattle.std.specs.Map.{keys_of}
@@ -8,7 +8,7 @@ use Rattle.merge_model.specs.Kept.{placed}
 use Rattle.ejson_value.specs.View.{view, entries}
 use Rattle.ejson_value.specs.Entries.{keys_of-entries}
 use Rattle.merge_box.proofs.Walks.{walk_on}
-use Rattle.merge_box.proofs.KeptAfter.{claim_next, claim_passed}
+use Rattle.merge_box.proofs.KeptAfter.{claim_next, claim_passed, either_same}
 use Rattle.merge_box.proofs.held.claim_others.Goals as goal
 
 pub loop-name-preserved-then-not-contains_key : goal.loop-name-preserved-then-not-contains_key
@@ -46,3 +46,12 @@ loop-name-preserved c =
       made = claim_passed c.args.sub c.args.fields.now.entries c.args.made.now.entries c.loop-name.made.entries all walk.done name value rest
           (walk.whole ∙ ap (λ l. walk.done ++ l) (ap entries c.in-Some.ensures.steps)) sorted walk.made (sym c.if-not-contains_key.ensures);
     }
+
+pub loop-name-init : goal.loop-name-init
+loop-name-init c = record {
+  can_next = tt;
+  is_finite = tt;
+  done = [];
+  whole = refl;
+  made = λ f. either_same (is_some (at text_cmp c.args.fields.now.entries f)) (at text_cmp c.args.made.now.entries f);
+}
