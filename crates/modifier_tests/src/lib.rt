@@ -127,7 +127,8 @@ mod tests {
 {"$pull":{"a":{"$foo":1}}} on {} => fault 2
 {"$inc":{"a":null},"$what":{}} on {} => fault 3"#;
 
-    const USER_VALUES: &str = r#"{"$set":{"a.b":1}} on {"a":{"$type":"T","$value":{"b":2}}} => refused 3
+    const USER_VALUES: &str =
+        r#"{"$set":{"a.b":1}} on {"a":{"$type":"T","$value":{"b":2}}} => refused 3
 {"$unset":{"a.b":1}} on {"a":{"$type":"T","$value":{"b":2}}} => {"a":{"$type":"T","$value":{"b":2}}}
 {"$set":{"a.0":1}} on {"a":{"$type":"T","$value":[2]}} => refused 3
 {"$set":{"a":{"$type":"T","$value":1}}} on {} => {"a":{"$type":"T","$value":1}}

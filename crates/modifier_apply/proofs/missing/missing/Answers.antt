@@ -16,7 +16,7 @@ loop-value-preserved c =
     record {
       seen = λ q. seen_more vs lacked more w c.in_ok-push.ensures.items q (contains compare seen q) (contains compare c.insert.new.self q) (c.in_ok-insert.ensures.updates.0 q) (c.loop-value.invariant.seen q);
       left =
-        left_more vs lacked more w c.in_ok-push.ensures.items c.as_slice-value-items.result.now c.loop-value.value-index c.value-item.result c.loop-value-test.true c.value-item.is refl
-        (sym (c.loop-value.invariant.seen w) ∙ is_new c.in_ok-insert.field-0 (contains compare seen w) c.in_ok-insert.ensures.added c.if-not-branch.false)
-        ∙ c.loop-value.invariant.left
+          left_more vs lacked more w c.in_ok-push.ensures.items c.as_slice-value-items.result.now c.loop-value.value-index c.value-item.result c.loop-value-test.true c.value-item.is refl
+          (sym (c.loop-value.invariant.seen w) ∙ is_new c.in_ok-insert.field-0 (contains compare seen w) c.in_ok-insert.ensures.added c.if-not-branch.false)
+          ∙ c.loop-value.invariant.left;
     }
