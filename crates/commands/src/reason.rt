@@ -1,6 +1,6 @@
 //! What is wrong with a line that isn't of the grammar, in words.
 use crate::input::first_line;
-use app_model::{App, AppFault, Flaw};
+use app_model::{App, AppFault};
 use ejson_codec::{EjsonFault, ParseFault, parse, text};
 use ejson_value::{Mem, Text, Value};
 use std::alloc::Global;
@@ -40,22 +40,24 @@ fn wrong_value(alloc: Global, fault: EjsonFault) -> Result<Text, Mem> {
     Ok(Text::from_string(what))
 }
 
-fn wrong_part(alloc: Global, flaw: Flaw, place: &Text) -> Result<Text, Mem> {
+fn wrong_part(alloc: Global, fault: &AppFault) -> Result<Text, Mem> {
+    let AppFault::Bad { place, .. } = fault else {
+        return Err(Mem);
+    };
     if place.is_empty() {
-        let what = format!(in alloc; "{flaw}, at its top")?;
+        let what = format!(in alloc; "{fault}, at its top")?;
         return Ok(Text::from_string(what));
     }
     let place = quoted(alloc, place)?;
     let place = place.as_str();
-    let what = format!(in alloc; "{flaw}, at {place}")?;
+    let what = format!(in alloc; "{fault}, at {place}")?;
     Ok(Text::from_string(what))
 }
 
 fn wrong_application(alloc: Global, value: &Value) -> Result<Text, Mem> {
     match App::read(alloc, value) {
         Ok(_) => Ok(Text::new(alloc)),
-        Err(AppFault::Bad { flaw, place }) => wrong_part(alloc, flaw, &place),
-        Err(AppFault::Memory) => Err(Mem),
+        Err(fault) => wrong_part(alloc, &fault),
     }
 }
 
