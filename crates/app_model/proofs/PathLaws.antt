@@ -4,7 +4,6 @@ use Rattle.std.specs.Prelude.{bytes_eq, if◌then◌else◌, not, map}
 use Rattle.std.specs.Ordering.{is_eq, ordering_then, match_ordering}
 use Rattle.std.specs.declared.cmp.Ordering.{Ordering}
 use Rattle.std.specs.declared.cmp.Ordering.TheVariants.{Less, Equal, Greater}
-use Rattle.std.specs.Cmp.Lexicographic.{slice_cmp}
 use Rattle.std.specs.BTreeSet.{insert_key}
 use Rattle.std.proofs.Common.{◌≡◌, ℕ, zero, suc, ◌+◌, ◌≤◌, ◌<◌, Bool, true, false, ◌||◌, ◌&&◌, List, [], ◌∷◌, ◌++◌, length, take, Option, None, Some, refl, ap, sym, ◌∙◌, arith, subst}
 use Rattle.std.proofs.lemmas.Map.Lookups.{exact_bytes}
@@ -17,10 +16,7 @@ use Rattle.value_model.specs.OrderLaws.{then_ties}
 use Rattle.value_model.specs.Order.{text_cmp}
 use Rattle.value_model.specs.Size.{is_name}
 use Rattle.value_model.specs.Branches.{path_of}
-use Rattle.app_model.specs.Fields.{APath, says, begins_with_id, leads_to, can_follow, path_behind, next_path, Joins}
-
-abbrev pub path_cmp : APath → APath → Ordering
-path_cmp p q = slice_cmp text_cmp p q
+use Rattle.app_model.specs.Fields.{APath, path_cmp, SameTests, says, begins_with_id, leads_to, can_follow, path_behind, next_path, Joins}
 
 pub only_same : (p q : APath) → path_cmp p q ≡ Equal → p ≡ q
 only_same [] [] e = refl
@@ -109,10 +105,6 @@ again false b = refl
 pub any_behind : (test : APath → Bool) (ps : List APath) (q : APath) → list_any test (ps ++ q ∷ []) ≡ (test q || list_any test ps)
 any_behind test [] q = refl
 any_behind test (p ∷ ps) q = ap (λ b. test p || b) (any_behind test ps q) ∙ swapped (test p) (test q) (list_any test ps)
-
--- two lists of paths that pass the same tests
-abbrev pub SameTests : List APath → List APath → Type 0
-SameTests ps qs = (test : APath → Bool) → list_any test ps ≡ list_any test qs
 
 pub joined : (old new qs : List APath) (q : APath) → Joins old new q → SameTests old qs → SameTests new (qs ++ q ∷ [])
 joined old new qs q joins same test = joins test ∙ (ap (λ b. test q || b) (same test) ∙ sym (any_behind test qs q))

@@ -2,6 +2,9 @@
 use Rattle.std.specs.Prelude.{◌≡◌, ◌||◌, ℕ, ℤ, pos, Bool, true, false, not, List, [], ◌∷◌, ◌++◌, Option, None, Some, Ok, codes, if◌then◌else◌, ◌&&◌}
 use Rattle.std.proofs.Common.{int_eq}
 use Rattle.std.specs.List.{list_any}
+use Rattle.std.specs.declared.cmp.Ordering.{Ordering}
+use Rattle.std.specs.Cmp.Lexicographic.{slice_cmp}
+use Rattle.value_model.specs.Order.{text_cmp}
 use Rattle.value_model.specs.Val.{Val, int, object, Fields, no_fields, field}
 use Rattle.value_model.specs.Size.{is_name}
 use Rattle.value_model.specs.Branches.{path_of}
@@ -36,6 +39,14 @@ leads_to (a ∷ p) (b ∷ q) = is_name a b && leads_to p q
 -- A path may follow others where it isn't about the id, and no other is a prefix of it. A prefix comes first in the order of bytes.
 abbrev pub can_follow : List APath → APath → Bool
 can_follow paths path = not (begins_with_id path) && not (list_any (λ p. leads_to p path) paths)
+
+-- paths part by part, a beginning of a path before the path
+abbrev pub path_cmp : APath → APath → Ordering
+path_cmp p q = slice_cmp text_cmp p q
+
+-- two lists of paths that pass the same tests
+abbrev pub SameTests : List APath → List APath → Type 0
+SameTests ps qs = (test : APath → Bool) → list_any test ps ≡ list_any test qs
 
 -- other paths are those before and this one, in whatever order: they pass the same tests
 abbrev pub Joins : List APath → List APath → APath → Type 0

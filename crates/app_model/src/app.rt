@@ -1,7 +1,10 @@
 //! Applications.
-ghost use Rattle.std.specs.Prelude.{◌≡◌, [], Some, IfOk, option_map};
+ghost use Rattle.std.specs.Prelude.{◌≡◌, [], Some, IfOk, OnOk, codes, option_map};
 ghost use Rattle.std.specs.Option.{option_copied};
 ghost use Rattle.value_model.specs.Val.{object, fields_of, vals_of};
+ghost use Rattle.std.specs.BTreeMap.{insert_entry};
+ghost use Rattle.value_model.specs.Order.{text_cmp};
+ghost use Rattle.value_model.specs.Branches.{field_of};
 ghost use Rattle.ejson_value.specs.View.{view};
 ghost use Rattle.app_model.specs.Faults.{Gives};
 ghost use Rattle.app_model.specs.App.{has_collection, publication};
@@ -101,6 +104,18 @@ fn has_no_methods(member: Option<&Value>) -> bool
     }
 }
 
+// Puts the publication under the name.
+fn put(
+    publications: &mut BTreeMap<Text, Publication>,
+    name: &Text,
+    publication: Publication,
+) -> Result<(), Mem>
+    ensures { OnOk result (publications.new.entries ≡ insert_entry text_cmp publications.old.entries name.now publication) }
+{
+    drop(publications.insert(name.copy()?, publication)?);
+    Ok(())
+}
+
 fn put_publications(
     alloc: Global,
     collections: &Names,
@@ -111,7 +126,7 @@ fn put_publications(
     let mut publications = BTreeMap::new(alloc);
     for (name, value) in fields.iter() {
         let publication = read_publication(alloc, collections, name, value)?;
-        drop(publications.insert(name.copy()?, publication)?);
+        put(&mut publications, name, publication)?;
     }
     Ok(publications)
 }
@@ -135,18 +150,36 @@ fn read_publications(
     put_publications(alloc, collections, fields)
 }
 
+fn collections_in(alloc: Global, fields: &Doc) -> Result<Names, AppFault>
+    ensures { Gives (λ names. names) result (collections_reading (field_of (fields_of fields.now) (codes "collections"))) }
+{
+    read_collections(alloc, member(alloc, fields, "collections")?)
+}
+
+fn describes_no_methods(alloc: Global, fields: &Doc) -> Result<bool, Mem>
+    ensures { IfOk result (λ b. b ≡ has_no_methods (field_of (fields_of fields.now) (codes "methods"))) }
+{
+    Ok(has_no_methods(member(alloc, fields, "methods")?))
+}
+
+fn publications_in(
+    alloc: Global,
+    collections: &Names,
+    fields: &Doc,
+) -> Result<BTreeMap<Text, Publication>, AppFault>
+    ensures { Gives (λ m. m.entries) result (publications_reading collections.now (field_of (fields_of fields.now) (codes "publications"))) }
+{
+    read_publications(alloc, collections, member(alloc, fields, "publications")?)
+}
+
 fn read_members(alloc: Global, fields: &Doc) -> Result<App, AppFault>
     ensures { Gives (λ app. app) result (members_reading (fields_of fields.now)) }
 {
-    let collections = read_collections(alloc, member(alloc, fields, "collections")?)?;
-    if !has_no_methods(member(alloc, fields, "methods")?) {
+    let collections = collections_in(alloc, fields)?;
+    if !describes_no_methods(alloc, fields)? {
         return Err(bad(Flaw::BadShape, Text::from_str(alloc, "methods")?));
     }
-    let publications = read_publications(
-        alloc,
-        &collections,
-        member(alloc, fields, "publications")?,
-    )?;
+    let publications = publications_in(alloc, &collections, fields)?;
     Ok(App {
         collections,
         publications,
@@ -160,7 +193,7 @@ fn copy_publications(
 {
     let mut copies = BTreeMap::emptied(publications)?;
     for (name, publication) in publications.iter() {
-        drop(copies.insert(name.copy()?, publication.copy()?)?);
+        put(&mut copies, name, publication.copy()?)?;
     }
     Ok(copies)
 }

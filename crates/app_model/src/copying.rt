@@ -2,7 +2,7 @@
 ghost use Rattle.std.specs.Prelude.{◌≡◌, IfOk};
 
 use crate::publication::{CursorRule, Projection, Publication};
-use ejson_value::{Copied, Mem};
+use ejson_value::{Copied, Mem, Text};
 
 impl Projection {
     /// A projection equal to this one.
@@ -17,14 +17,21 @@ impl Projection {
     }
 }
 
+fn copy_both(one: &Text, other: &Text) -> Result<(Text, Text), Mem>
+    ensures { IfOk result (λ both. both ≡ (one.now, other.now)) }
+{
+    Ok((one.copy()?, other.copy()?))
+}
+
 impl CursorRule {
     /// A cursor equal to this one.
     pub fn copy(&self) -> Result<CursorRule, Mem>
         ensures { IfOk result (λ rule. rule ≡ self.now) }
     {
+        let (collection, name) = copy_both(&self.collection, &self.name)?;
         Ok(CursorRule {
-            collection: self.collection.copy()?,
-            name: self.name.copy()?,
+            collection,
+            name,
             selector: self.selector.copy()?,
             fields: self.fields.copy()?,
         })

@@ -48,7 +48,7 @@ pub enum AppFault {
     /// The first part that is wrong: 1 a part of another form, 2 a name that is not of 1 to 128
     /// bytes, 3 a collection that is not listed, 4 a name that stands twice, 5 too many parts. Its
     /// place is the keys and places that lead to it from the top, joined by `/`.
-    #[error("{} at \"{}\"", told(*.number), .place.as_str())]
+    #[error("{}", told(*.number))]
     Bad { number: u8, place: Text },
     #[error("out of memory")]
     Memory,
@@ -63,6 +63,7 @@ pub(crate) fn bad(flaw: Flaw, place: Text) -> AppFault
         place,
     }
 }
+
 impl From<Mem> for AppFault {
     ghost use Rattle.std.specs.Prelude.{◌≡◌};
     ghost use Rattle.app_model.specs.declared.fault.AppFault.TheVariants.{Memory};

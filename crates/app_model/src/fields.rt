@@ -93,10 +93,7 @@ fn read_path(
 {
     match next_path(alloc, including, seen, name, value)? {
         Some(path) => Ok(path),
-        None => Err(bad(
-            Flaw::BadShape,
-            below(alloc, place.as_str(), name.as_str())?,
-        )),
+        None => Err(bad(Flaw::BadShape, below(alloc, place.as_str(), name.as_str())?)),
     }
 }
 

@@ -118,11 +118,7 @@ fn with_field(so_far: Extent, name: Extent, value: Extent) -> Extent
 }
 
 #[cycle(measuring)]
-fn measure_value(
-    template: &Value,
-    params: &[Extent],
-    ids: &[Extent],
-) -> Result<Extent, FillFault>
+fn measure_value(template: &Value, params: &[Extent], ids: &[Extent]) -> Result<Extent, FillFault>
     ensures { Gives (λ e. e) result (measuring params.now ids.now (view template.now)) }
 {
     match template {

@@ -16,7 +16,8 @@ use Rattle.std.proofs.lemmas.Slice.Eq.{bytes_eq-Decides}
 use Rattle.value_model.specs.Val.{Val, list, object, Vals, no_vals, val, Fields, no_fields, field}
 use Rattle.value_model.specs.Order.{text_cmp}
 use Rattle.value_model.specs.Size.{is_name}
-use Rattle.publication.specs.Parts.{below, path_cmp, is_before, is_upto, IsRising, AreLonger, SameTests}
+use Rattle.app_model.specs.Fields.{path_cmp, SameTests}
+use Rattle.publication.specs.Parts.{below, is_before, is_upto, IsRising, AreLonger}
 use Rattle.publication.specs.Projected.{APath, rest_below, rests_below, is_end, ends_here, reaches_nothing, whole_if, field_projected, element_before, field_before, value_projected, elements_projected, fields_projected}
 
 -- the order of names

@@ -1,13 +1,12 @@
 -- Parts of paths by reference, as the paths that they are, and paths in order.
 use Rattle.std.specs.Prelude.{◌≡◌, ℕ, Bool, true, false, List, [], ◌∷◌, map, drop, length, ◌<◌, Option, None, Some}
 use Rattle.std.specs.Borrow.{Bor}
-use Rattle.std.specs.List.{list_any, AllByRecursion}
+use Rattle.std.specs.List.{AllByRecursion}
 use Rattle.std.specs.Ordering.{is_lt, is_le}
-use Rattle.std.specs.declared.cmp.Ordering.{Ordering}
-use Rattle.std.specs.Cmp.Lexicographic.{slice_cmp}
 use Rattle.value_model.specs.Val.{Val, Entries}
 use Rattle.value_model.specs.Doc.{put}
 use Rattle.value_model.specs.Order.{text_cmp}
+use Rattle.app_model.specs.Fields.{path_cmp, SameTests}
 use Rattle.app_model.specs.declared.publication.Projection.{Projection}
 use Rattle.app_model.specs.declared.publication.Projection.TheVariants as projection
 use Rattle.publication.specs.Projected.{APath}
@@ -18,10 +17,6 @@ paths_in ps = map (λ (p : Bor (List (List ℕ))). p.now) ps
 -- what the paths say below a level
 abbrev pub below : ℕ → List APath → List APath
 below level ps = map (λ (p : APath). drop level p) ps
-
--- paths part by part, a beginning of a path before the path
-abbrev pub path_cmp : APath → APath → Ordering
-path_cmp p q = slice_cmp text_cmp p q
 
 -- whether the path's first part comes before the name, or is no greater; that of the empty path does, and is
 abbrev pub is_before : List ℕ → APath → Bool
@@ -40,10 +35,6 @@ IsRising (p ∷ ps) = AllByRecursion (λ q. is_lt (path_cmp q p) ≡ false) ps �
 -- none of the paths is empty
 abbrev pub AreLonger : List APath → Type 0
 AreLonger ps = AllByRecursion (λ (p : APath). 0 < length p) ps
-
--- two lists of paths that pass the same tests
-abbrev pub SameTests : List APath → List APath → Type 0
-SameTests ps qs = (test : APath → Bool) → list_any test ps ≡ list_any test qs
 
 pub record AreSorted (paths sorted : List APath) : Type 0 where
   pub same : SameTests sorted paths

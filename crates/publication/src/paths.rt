@@ -2,7 +2,8 @@
 ghost use Rattle.std.specs.Prelude.{◌≡◌, ◌+◌, IfOk, OnOk, false, drop, length, ◌++◌, ◌∷◌, [], Some, None, if◌then◌else◌};
 ghost use Rattle.std.specs.List.{AllByRecursion};
 ghost use Rattle.value_model.specs.Order.{text_cmp};
-ghost use Rattle.publication.specs.Parts.{paths_in, below, path_cmp, is_before, is_upto, IsRising, AreLonger, AreSorted, paths_of};
+ghost use Rattle.app_model.specs.Fields.{path_cmp};
+ghost use Rattle.publication.specs.Parts.{paths_in, below, is_before, is_upto, IsRising, AreLonger, AreSorted, paths_of};
 ghost use Rattle.publication.specs.Projected.{rests_below, ends_here, reaches_nothing};
 
 use app_model::{Paths, Projection};
@@ -96,11 +97,7 @@ fn is_upto(name: &Text, level: usize, path: &[Part]) -> bool
 }
 
 // The paths without those whose part at this level comes before the name.
-fn from_name<'a, 'b>(
-    name: &Text,
-    level: usize,
-    paths: &'b [&'a [Part]],
-) -> &'b [&'a [Part]]
+fn from_name<'a, 'b>(name: &Text, level: usize, paths: &'b [&'a [Part]]) -> &'b [&'a [Part]]
     requires { IsRising (below level (paths_in paths.now)) }
     ensures same { rests_below name.now (below level (paths_in result.now)) ≡ rests_below name.now (below level (paths_in paths.now)) }
     ensures none_before { AllByRecursion (λ path. is_before name.now path ≡ false) (below level (paths_in result.now)) }
@@ -112,11 +109,7 @@ fn from_name<'a, 'b>(
 }
 
 // The first of the paths, whose part at this level is the name.
-fn upto_name<'a, 'b>(
-    name: &Text,
-    level: usize,
-    paths: &'b [&'a [Part]],
-) -> &'b [&'a [Part]]
+fn upto_name<'a, 'b>(name: &Text, level: usize, paths: &'b [&'a [Part]]) -> &'b [&'a [Part]]
     requires none_before { AllByRecursion (λ path. is_before name.now path ≡ false) (below level (paths_in paths.now)) }
     requires rising { IsRising (below level (paths_in paths.now)) }
     ensures rests { below (level + 1) (paths_in result.now) ≡ rests_below name.now (below level (paths_in paths.now)) }
@@ -128,11 +121,7 @@ fn upto_name<'a, 'b>(
 }
 
 // The paths whose part at this level is the name.
-pub(crate) fn named<'a, 'b>(
-    name: &Text,
-    level: usize,
-    paths: &'b [&'a [Part]],
-) -> &'b [&'a [Part]]
+pub(crate) fn named<'a, 'b>(name: &Text, level: usize, paths: &'b [&'a [Part]]) -> &'b [&'a [Part]]
     requires { IsRising (below level (paths_in paths.now)) }
     ensures rests { below (level + 1) (paths_in result.now) ≡ rests_below name.now (below level (paths_in paths.now)) }
     ensures longer { AreLonger (below level (paths_in result.now)) }

@@ -125,12 +125,7 @@ fn project_field(
     }
 }
 
-fn project_all(
-    alloc: Global,
-    including: bool,
-    paths: &[&[Part]],
-    doc: &Doc,
-) -> Result<Doc, Mem>
+fn project_all(alloc: Global, including: bool, paths: &[&[Part]], doc: &Doc) -> Result<Doc, Mem>
     requires { IsRising (paths_in paths.now) }
     ensures { IfOk result (λ es. fields_of es ≡ fields_projected including (paths_in paths.now) (fields_of doc.now)) }
 {

@@ -14,8 +14,7 @@ loop-name-preserved c =
     let more = c.next.new.self in
     let all = c.loop-name.invariant.2 ∙ ap (λ rest. copies ++ rest) c.in-Some.ensures.steps in
     let sorted = subst (λ es. IsSorted text_cmp es) (sym (c.into_iter-name-iterator.ensures.into_iter_gives ∙ c.iter-name-items.ensures.rest)) c.iter-name-items.ensures.ordered in
-    let put = c.in_ok-insert.ensures.entries
-    ∙ (ap (λ n. insert_entry text_cmp copies n c.in_ok-copy-2.field-0) c.in_ok-copy.ensures
-    ∙ (ap (λ p. insert_entry text_cmp copies name p) c.in_ok-copy-2.ensures
-    ∙ put_behind_all c.into_iter-name-iterator.result copies name publication more all sorted)) in
+    let put = c.in_ok-put.ensures
+    ∙ (ap (λ p. insert_entry text_cmp copies name p) c.in_ok-copy.ensures
+    ∙ put_behind_all c.into_iter-name-iterator.result copies name publication more all sorted) in
     (tt, tt, all ∙ (sym (append_assoc copies ((name, publication) ∷ []) more) ∙ ap (λ es. es ++ more) (sym put)))

@@ -1,8 +1,7 @@
 use Rattle.std.proofs.Common.{◌≡◌, []}
 use Rattle.value_model.specs.Val.{fields_of}
 use Rattle.ejson_value.specs.View.{entries}
-use Rattle.app_model.specs.Fields.{paths_behind}
-use Rattle.app_model.proofs.PathLaws.{SameTests}
+use Rattle.app_model.specs.Fields.{SameTests, paths_behind}
 use Rattle.app_model.proofs.fields.read_paths.Given as goal
 
 abbrev pub invariant-loop-name : goal.invariant-loop-name

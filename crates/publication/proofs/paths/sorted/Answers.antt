@@ -4,7 +4,7 @@ use Rattle.std.specs.Ordering.{is_lt}
 use Rattle.std.proofs.Common.{ℕ, List, rules, ap, ◌∙◌}
 use Rattle.std.proofs.lemmas.List.Sorted.{ranks_by, answers_always, sorted_far}
 use Rattle.std.proofs.lemmas.Cmp.{nat_list_cmp_total, lists_total}
-use Rattle.publication.specs.Parts.{path_cmp}
+use Rattle.app_model.specs.Fields.{path_cmp}
 use Rattle.publication.proofs.SortedPaths.{rising_from, same_moved}
 use Rattle.publication.proofs.paths.sorted.Goals as goal
 

@@ -1,7 +1,8 @@
 use Rattle.std.specs.Prelude.{IfOk}
 use Rattle.std.proofs.Common.{◌≡◌, true, false, ap, sym, subst, ◌∙◌}
 use Rattle.value_model.specs.Val.{Entries, fields_of}
-use Rattle.publication.specs.Parts.{paths_in, paths_of, SameTests}
+use Rattle.app_model.specs.Fields.{SameTests}
+use Rattle.publication.specs.Parts.{paths_in, paths_of}
 use Rattle.publication.specs.Projected.{projected}
 use Rattle.publication.proofs.SortedPaths.{same_left}
 use Rattle.publication.proofs.projections.project_by.Goals as goal
