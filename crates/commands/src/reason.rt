@@ -40,10 +40,19 @@ fn wrong_value(alloc: Global, fault: EjsonFault) -> Result<Text, Mem> {
     Ok(Text::from_string(what))
 }
 
-fn wrong_part(alloc: Global, fault: &AppFault) -> Result<Text, Mem> {
-    let AppFault::Bad { place, .. } = fault else {
-        return Err(Mem);
-    };
+// The fault of an application with this number.
+fn fault_of(number: u8) -> &'static str {
+    match number {
+        1 => "a part of another form",
+        2 => "a name that is not of 1 to 128 bytes",
+        3 => "a collection that is not listed",
+        4 => "a name that stands twice",
+        _ => "too many parts",
+    }
+}
+
+fn wrong_part(alloc: Global, number: u8, place: &Text) -> Result<Text, Mem> {
+    let fault = fault_of(number);
     if place.is_empty() {
         let what = format!(in alloc; "{fault}, at its top")?;
         return Ok(Text::from_string(what));
@@ -57,7 +66,8 @@ fn wrong_part(alloc: Global, fault: &AppFault) -> Result<Text, Mem> {
 fn wrong_application(alloc: Global, value: &Value) -> Result<Text, Mem> {
     match App::read(alloc, value) {
         Ok(_) => Ok(Text::new(alloc)),
-        Err(fault) => wrong_part(alloc, &fault),
+        Err(AppFault::Bad { number, place }) => wrong_part(alloc, number, &place),
+        Err(AppFault::Memory) => Err(Mem),
     }
 }
 

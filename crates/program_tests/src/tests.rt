@@ -32,6 +32,7 @@ const INPUTS: &str = r#"@ => 0; ;
 5 => 3; ["bad",1]|; line 1 is no application: a part of another form, at its top
 {"collections":["a","a"]} => 3; ["bad",1]|; line 1 is no application: a name that stands twice, at "collections/1"
 {"collections":[""]}|["show","zz"] => 3; ["bad",1]|; line 1 is no application: a name that is not of 1 to 128 bytes, at "collections/0"
+{"collections":[{"$type":1,"$value":2}]} => 3; ["bad",1]|; line 1 is no application: it is no EJSON value: a $type that isn't a text of 1 to 128 bytes
 {"collections":["a"],"publications":{"p":[{"collection":"b"}]}} => 3; ["bad",1]|; line 1 is no application: a collection that is not listed, at "publications/p/0/collection"
 "#;
 
