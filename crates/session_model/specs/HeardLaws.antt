@@ -12,7 +12,7 @@ use Rattle.value_model.specs.Depth.{fields_depth}
 use Rattle.value_model.specs.Order.{text_cmp, compare}
 use Rattle.value_model.specs.Valid.{IsDocument, HaveValues}
 use Rattle.ejson_value.specs.declared.key.Key.{Key}
-use Rattle.ejson_value.specs.Key.{key_cmp}
+use Rattle.ejson_value.specs.Key.{key_cmp, name_order}
 use Rattle.ddp_messages.specs.Answers.{server_answer}
 use Rattle.ddp_messages.specs.Limits.{IsShort, IsShallow, ServerHasValues, ServerKeepsLimits}
 use Rattle.text_model.specs.MessageLaws.{server_text_back}
@@ -26,7 +26,7 @@ use Rattle.session_model.specs.History.{Entry, IsStored, AreEntries}
 use Rattle.session_model.specs.Texts.{server_text, or_unknown, message_in, messages_in}
 use Rattle.session_model.specs.Journal.{Live, live_after, shown, connected_after, CanFollow, FitsFrom, Fits}
 use Rattle.session_model.specs.Out.{session_name, about, own_message, own_text, changes_of, messages_of, texts_of, out_from, out_texts_from, out, out_texts}
-use Rattle.session_model.specs.OutLaws.{name_order, stored_shown}
+use Rattle.session_model.specs.OutLaws.{stored_shown}
 
 -- ---- messages within the limits
 

@@ -5,8 +5,6 @@ use Rattle.std.proofs.Common.{ap, ap₂, sym, subst, ◌∙◌, arith}
 use Rattle.std.proofs.lemmas.List.{append_assoc}
 use Rattle.std.specs.Ordering.{eq_by_cmp}
 use Rattle.std.specs.Map.{keys_of}
-use Rattle.std.proofs.lemmas.Cmp.{nat_list_cmp_total}
-use Rattle.std.proofs.lemmas.Map.Lookups.{exact_bytes}
 use Rattle.map_model.specs.Maps.{at, set, IsSorted, IsKeyOrder}
 use Rattle.map_model.specs.MapLaws.{sorted-nil}
 use Rattle.map_model.specs.Differences.{Step, added, changed, removed, AreDocs, cleared, taken, all_taken}
@@ -15,7 +13,7 @@ use Rattle.value_model.specs.Val.{Val}
 use Rattle.value_model.specs.Order.{text_cmp, compare}
 use Rattle.value_model.specs.OrderLaws.{compare_is_eq}
 use Rattle.ejson_value.specs.declared.key.Key.{Key}
-use Rattle.ejson_value.specs.Key.{key_cmp, key_order}
+use Rattle.ejson_value.specs.Key.{key_cmp, key_order, name_order}
 use Rattle.ejson_value.specs.Rows.{Rows}
 use Rattle.ejson_value.specs.Messages.{said}
 use Rattle.text_model.specs.MessageLaws.{server_text_back}
@@ -134,9 +132,6 @@ stored_shown h (Some live) all = by live.cursor
 
 pub docs_shown : (h : List Entry) (live : Option Live) → AreEntries h → AreDocs text_cmp key_cmp (shown h live)
 docs_shown h live all = docs_stored (shown h live) (stored_shown h live all)
-
-pub name_order : IsKeyOrder text_cmp
-name_order = record { total = nat_list_cmp_total; exact = exact_bytes }
 
 pub all_taken-append : (rows : Rows) (ms ns : List (Key × Step (List ℕ) Val)) →
     all_taken text_cmp key_cmp rows (ms ++ ns) ≡ all_taken text_cmp key_cmp (all_taken text_cmp key_cmp rows ms) ns

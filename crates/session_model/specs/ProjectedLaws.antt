@@ -3,7 +3,7 @@ use Rattle.std.specs.Prelude.{◌≡◌, ℕ, ◌≤◌, List, ◌∷◌, Bool, 
 use Rattle.std.proofs.Common.{ap, sym, subst, arith}
 use Rattle.map_model.specs.Maps.{IsSorted, keyed, filter_map_entries}
 use Rattle.map_model.specs.MapLaws.{sorted-filter_map_entries}
-use Rattle.value_model.specs.Val.{Val, null, boolean, int, text, date, bytes, list, object, Vals, no_vals, val, Fields, no_fields, field, Entries, fields_of, entries_of}
+use Rattle.value_model.specs.Val.{Val, list, object, Vals, no_vals, val, Fields, no_fields, field, Entries, fields_of, entries_of}
 use Rattle.value_model.specs.ValLaws.{fields_of-entries_of, entries_of-fields_of}
 use Rattle.value_model.specs.Depth.{depth, vals_depth, fields_depth}
 use Rattle.value_model.specs.Order.{text_cmp}
@@ -55,12 +55,7 @@ mutual
   value_left : (including : Bool) (paths : List APath) (v : Val) → IsValue v → Left v (value_projected including paths v)
   value_left including paths (object fs) h = let r = fields_left including paths fs h.1 in ((rising_left including paths fs h.0, r.0), omega (arith, r.1))
   value_left including paths (list vs) h = let r = elements_left including paths vs h in (r.0, omega (arith, r.1))
-  value_left including paths null h = whole_left (not including) null h
-  value_left including paths (boolean b) h = whole_left (not including) (boolean b) h
-  value_left including paths (int z) h = whole_left (not including) (int z) h
-  value_left including paths (text s) h = whole_left (not including) (text s) h
-  value_left including paths (date z) h = whole_left (not including) (date z) h
-  value_left including paths (bytes s) h = whole_left (not including) (bytes s) h
+  value_left including paths v h = whole_left (not including) v h
 
   elements_left : (including : Bool) (paths : List APath) (vs : Vals) → AreValues vs →
       AreValues (elements_projected including paths vs) × (vals_depth (elements_projected including paths vs) ≤ vals_depth vs)

@@ -8,12 +8,14 @@ use Rattle.std.specs.Ordering.{eq_by_cmp, is_eq}
 use Rattle.map_model.specs.Maps.{at, set, IsSorted}
 use Rattle.map_model.specs.MapLaws.{sorted-nil, sorted-set, at-set, key_is}
 use Rattle.value_model.specs.Order.{text_cmp}
+use Rattle.value_model.specs.TruthLaws.{both_true}
 use Rattle.ejson_value.specs.declared.fault.Fault.{Fault}
+use Rattle.ejson_value.specs.Key.{name_order}
 use Rattle.ddp_messages.specs.ServerMessage.{ServerMessage}
 use Rattle.ddp_messages.specs.ServerMessage as server
 use Rattle.session_model.specs.Journal.{Live, opened_ids, loaded_by, loaded_ids}
 use Rattle.session_model.specs.Out.{ready_in, ready_ids, nosubs_in, nosubs_of}
-use Rattle.session_model.specs.OutLaws.{name_order, ready_ids-append, nosubs_of-append}
+use Rattle.session_model.specs.OutLaws.{ready_ids-append, nosubs_of-append}
 use Rattle.world_model.specs.declared.subs.SubState.{SubState}
 use Rattle.world_model.specs.declared.subs.SubState.TheVariants as state
 use Rattle.world_model.specs.Client.{Subs}
@@ -68,14 +70,10 @@ none_loaded (Some l) e = cc e
 
 -- ---- states
 
-both : (a b : Bool) → (a && b) ≡ true → (a ≡ true) × (b ≡ true)
-both true b e = (refl, e)
-both false b e = cc
-
 over_none : (subs : Subs) → are_over subs ≡ true → (q : List ℕ) → over_at (at text_cmp subs q) ≡ true
 over_none [] e q = refl
 over_none (s ∷ subs) e q =
-    let p = both (is_over s.1) (are_over subs) e in
+    let p = both_true (is_over s.1) (are_over subs) e in
     elim (eq_by_cmp text_cmp q s.0) as (λ b. over_at (cond b (Some s.1) (at text_cmp subs q)) ≡ true) [ true ↦ p.0 | false ↦ over_none subs p.1 q ]
 
 none_current : (ids : List (List ℕ)) (subs : Subs) → ((q : List ℕ) → over_at (at text_cmp subs q) ≡ true) → AreCurrent ids subs → ids ≡ []

@@ -5,6 +5,7 @@ use Rattle.std.proofs.lemmas.List.{append_assoc, map-append}
 use Rattle.std.proofs.lemmas.Bool.{ltb-true, leb-true}
 use Rattle.std.specs.Map.{keys_of}
 use Rattle.value_model.specs.Size.{is_name}
+use Rattle.value_model.specs.TruthLaws.{both_true}
 use Rattle.ejson_value.specs.declared.fault.Fault.{Fault}
 use Rattle.ejson_value.specs.Rows.{Rows}
 use Rattle.ddp_messages.specs.Answers.{client_answer, server_answer}
@@ -408,10 +409,6 @@ module _ (app : App) (h : List Entry) where
   loads_keeps : (c : Client) (live : Option Live) → live_of app c.journal ≡ live → IsKept app h c → IfSome (loads app h c live) (IsKept app h)
   loads_keeps c None is k = tt
   loads_keeps c (Some live) is k = load_keeps c live live.cursor is refl k
-
-  both_true : (a b : Bool) → (a && b) ≡ true → (a ≡ true) × (b ≡ true)
-  both_true true b e = (refl, e)
-  both_true false b e = cc
 
   -- a loaded subscription goes on within the history
   advanced_keeps : (c : Client) (live : Live) (n count : ℕ) → live_of app c.journal ≡ Some live → live.cursor ≡ Some n → 0 < count → n + count ≤ length h → IsKept app h c →

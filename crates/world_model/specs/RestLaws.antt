@@ -3,6 +3,7 @@ use Rattle.std.specs.Prelude.{◌≡◌, ℕ, ◌+◌, ◌<◌, ◌≤◌, List,
 use Rattle.std.proofs.Common.{ap, ap₂, sym, subst, ◌∙◌, arith, append-nil, inl, inr}
 use Rattle.std.specs.List.{list_all, list_any}
 use Rattle.std.proofs.lemmas.Bool.{ltb-false, lt-ltb}
+use Rattle.value_model.specs.TruthLaws.{both_true}
 use Rattle.ddp_messages.specs.ServerMessage.{ServerMessage}
 use Rattle.ddp_messages.specs.ServerMessage as server
 use Rattle.session_model.specs.declared.requests.Request.{Request}
@@ -196,20 +197,16 @@ not_true : (b : Bool) → not b ≡ true → b ≡ false
 not_true true e = cc
 not_true false e = refl
 
-both : (a b : Bool) → (a && b) ≡ true → (a ≡ true) × (b ≡ true)
-both true b e = (refl, e)
-both false b e = cc
-
 client_stuck : (app : App) (h : List Entry) (o : Option Client) → list_all (λ a. not (can_by app h a o)) order ≡ true → HoldsOf o (IsStuckClient app h)
 client_stuck app h None e = tt
 client_stuck app h (Some c) e =
-    let p1 = both (not (is_some (acts app h c act.Up))) _ e in
-    let p2 = both (not (is_some (acts app h c act.Recv))) _ p1.1 in
-    let p3 = both (not (is_some (acts app h c act.Handle))) _ p2.1 in
-    let p4 = both (not (is_some (acts app h c act.Load))) _ p3.1 in
-    let p5 = both (not (is_some (acts app h c act.Advance))) _ p4.1 in
-    let p6 = both (not (is_some (acts app h c act.Send))) _ p5.1 in
-    let p7 = both (not (is_some (acts app h c act.Take))) _ p6.1 in
+    let p1 = both_true (not (is_some (acts app h c act.Up))) _ e in
+    let p2 = both_true (not (is_some (acts app h c act.Recv))) _ p1.1 in
+    let p3 = both_true (not (is_some (acts app h c act.Handle))) _ p2.1 in
+    let p4 = both_true (not (is_some (acts app h c act.Load))) _ p3.1 in
+    let p5 = both_true (not (is_some (acts app h c act.Advance))) _ p4.1 in
+    let p6 = both_true (not (is_some (acts app h c act.Send))) _ p5.1 in
+    let p7 = both_true (not (is_some (acts app h c act.Take))) _ p6.1 in
     record {
       up = not_true _ p1.0;
       recv = not_true _ p2.0;
