@@ -40,19 +40,10 @@ fn wrong_value(alloc: Global, fault: EjsonFault) -> Result<Text, Mem> {
     Ok(Text::from_string(what))
 }
 
-// The fault of an application with this number.
-fn fault_of(number: u8) -> &'static str {
-    match number {
-        1 => "a part of another form",
-        2 => "a name that is not of 1 to 128 bytes",
-        3 => "a collection that is not listed",
-        4 => "a name that stands twice",
-        _ => "too many parts",
-    }
-}
-
-fn wrong_part(alloc: Global, number: u8, place: &Text) -> Result<Text, Mem> {
-    let fault = fault_of(number);
+fn wrong_part(alloc: Global, fault: &AppFault) -> Result<Text, Mem> {
+    let AppFault::Bad { place, .. } = fault else {
+        return Err(Mem);
+    };
     if place.is_empty() {
         let what = format!(in alloc; "{fault}, at its top")?;
         return Ok(Text::from_string(what));
@@ -66,8 +57,7 @@ fn wrong_part(alloc: Global, number: u8, place: &Text) -> Result<Text, Mem> {
 fn wrong_application(alloc: Global, value: &Value) -> Result<Text, Mem> {
     match App::read(alloc, value) {
         Ok(_) => Ok(Text::new(alloc)),
-        Err(AppFault::Bad { number, place }) => wrong_part(alloc, number, &place),
-        Err(AppFault::Memory) => Err(Mem),
+        Err(fault) => wrong_part(alloc, &fault),
     }
 }
 
