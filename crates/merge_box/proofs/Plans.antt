@@ -21,7 +21,8 @@ use Rattle.value_model.specs.Val.{Entries}
 use Rattle.ejson_value.specs.declared.key.Key.{Key}
 use Rattle.ejson_value.specs.Key.{key_cmp, key_order}
 use Rattle.merge_box.specs.Held.{KeptDoc, with_change, IsHeld, IsChange, SameDoc, IsDocGrown, HasPlaces}
-use Rattle.merge_box.specs.State.{KeptDocs, news_of}
+use Rattle.ejson_value.specs.Changes.{news_of}
+use Rattle.merge_box.specs.State.{KeptDocs}
 use Rattle.merge_box.specs.Inside.{with_change_if, after_at, IsGrown, IsReady, IsPlannedAt, IsPublished}
 use Rattle.merge_box.proofs.Places.{same_itself, change_grown}
 use Rattle.merge_box.proofs.Puts.{left_from, left_cases}

@@ -1,5 +1,5 @@
 -- What contracts see of a merge box and of a plan, and what a call does to a box.
-use Rattle.std.specs.Prelude.{◌≡◌, ℕ, Bool, false, not, ◌==◌, List, [], ◌∷◌, map, filter, length, Option}
+use Rattle.std.specs.Prelude.{◌≡◌, ℕ, Bool, false, not, ◌==◌, List, [], ◌∷◌, filter, length}
 use Rattle.std.specs.List.{list_any}
 use Rattle.map_model.specs.Maps.{IsSorted}
 use Rattle.map_model.specs.Differences.{Step, IsDiff, diff}
@@ -9,7 +9,6 @@ use Rattle.merge_model.specs.Merge.{IsMerge}
 use Rattle.merge_model.specs.Publishing.{Call, shown, shown_since}
 use Rattle.merge_model.specs.Kept.{merged, kept_at, Stands, IsAfter}
 use Rattle.ejson_value.specs.declared.key.Key.{Key}
-use Rattle.ejson_value.specs.declared.change.Publish.{Publish}
 use Rattle.ejson_value.specs.Key.{key_cmp}
 use Rattle.merge_box.specs.Held.{KeptDoc, same_value, IsHeld}
 
@@ -29,10 +28,6 @@ Calls = List (Call Key Entries)
 pub record BoxState : Type 0 where
   pub kept : KeptDocs
   pub planned : KeptDocs
-
--- what is published, as pairs of a key and a document or none
-abbrev pub news_of : List Publish → List (Key × Option Entries)
-news_of news = map (λ p. (p.key, p.new)) news
 
 -- two or more subscriptions publish the document
 abbrev pub is_shared : List ℕ → Bool

@@ -5,7 +5,8 @@ ghost use Rattle.merge_model.specs.Publishing.{apply as applied, drop_sub as dro
 ghost use Rattle.merge_model.specs.Kept.{merged as merged_docs, merged_doc, kept_at};
 ghost use Rattle.ejson_value.specs.Key.{key_cmp};
 ghost use Rattle.ejson_value.specs.Messages.{said};
-ghost use Rattle.merge_box.specs.State.{news_of, shared_count, IsBoxAfter, Tells, Answers, IsPlan, IsBox};
+ghost use Rattle.ejson_value.specs.Changes.{news_of};
+ghost use Rattle.merge_box.specs.State.{shared_count, IsBoxAfter, Tells, Answers, IsPlan, IsBox};
 
 use crate::index::{Index, forget_unlisted};
 use crate::plan::{KeptMap, messages_of, plan_news, removals, take_all};

@@ -11,7 +11,7 @@ ghost use Rattle.ejson_value.specs.Key.{key_cmp};
 ghost use Rattle.merge_box.specs.Held.{KeptDoc, same_value, with_change, IsHeld, IsChange, SameDoc, HasPlaces};
 ghost use Rattle.merge_box.specs.Index.{lists_of, is_listed};
 ghost use Rattle.ejson_value.specs.Messages.{said};
-ghost use Rattle.merge_box.specs.State.{news_of};
+ghost use Rattle.ejson_value.specs.Changes.{news_of};
 ghost use Rattle.merge_box.specs.Inside.{after_at, IsGrown, IsReady, IsInside, IsPlannedAt, IsPublished};
 
 use crate::held::Held;

@@ -1,24 +1,21 @@
 -- One more letter, from the next word.
-use Rattle.std.proofs.Common.{◌≡◌, ℕ, ◌+◌, ◌*◌, ◌%◌, ◌^◌, ◌<◌, List, [], ◌∷◌, ◌++◌, ◌/◌, ◌&&◌, suc, zero, Bool, true, false, nat_lt, slice_index, map, encode_utf8, refl, sym, ap, ◌∙◌, arith}
+use Rattle.std.proofs.Common.{◌≡◌, ℕ, ◌+◌, ◌*◌, ◌%◌, ◌^◌, ◌<◌, List, [], ◌∷◌, ◌++◌, ◌/◌, suc, zero, true, nat_lt, slice_index, map, encode_utf8, refl, sym, ap, ◌∙◌, arith}
 use Rattle.std.proofs.lemmas.Bool.Decides.{nat_tests}
 use Rattle.std.proofs.lemmas.List.FromFn.{map-range_with_len_more}
 use Rattle.std.specs.List.{list_all, range_with_len}
 use Rattle.rand_chacha.specs.ChaCha.{ChaCha, word_at, next_word, key_of}
+use Rattle.value_model.specs.TruthLaws.{both_true}
 use Rattle.seed_ids.specs.DrawnId.{alphabet, drawing_key, letter_of, letter_at}
 use Rattle.seed_ids.proofs.draw.Goals as goal
 
 -- ---- each letter is ASCII
-both : (a b : Bool) → (a && b) ≡ true → (a ≡ true) × (b ≡ true)
-both true b e = (refl, e)
-both false b e = cc
-
 below : (x : ℕ) → nat_lt x 128 ≡ true → x < 128
 below x e = grind (arith, nat_tests)
 
 each_below : (xs : List ℕ) → list_all (λ x. nat_lt x 128) xs ≡ true → (i : ℕ) → slice_index xs i < 128
 each_below [] all i = omega arith
-each_below (x ∷ xs) all zero = below x (both _ _ all).0
-each_below (x ∷ xs) all (suc i) = each_below xs (both _ _ all).1 i
+each_below (x ∷ xs) all zero = below x (both_true _ _ all).0
+each_below (x ∷ xs) all (suc i) = each_below xs (both_true _ _ all).1 i
 
 letter_below : (word : ℕ) → letter_of word < 128
 letter_below word = each_below alphabet refl (word * 55 / 2 ^ 32)

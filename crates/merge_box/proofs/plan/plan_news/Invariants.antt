@@ -5,7 +5,7 @@ use Rattle.merge_model.specs.Kept.{kept_at}
 use Rattle.ejson_value.specs.declared.key.Key.{Key}
 use Rattle.ejson_value.specs.Key.{key_cmp}
 use Rattle.merge_box.specs.Index.{lists_of, is_listed}
-use Rattle.merge_box.specs.State.{news_of}
+use Rattle.ejson_value.specs.Changes.{news_of}
 use Rattle.merge_box.specs.Inside.{IsGrown, IsPlannedAt, IsPublished}
 use Rattle.merge_box.proofs.plan.plan_news.Given as goal
 

@@ -1,7 +1,7 @@
 use Rattle.std.proofs.Common.{None, cond, ap, sym, ◌∙◌}
 use Rattle.merge_model.specs.Publishing.{last_news}
 use Rattle.ejson_value.specs.Key.{key_cmp}
-use Rattle.merge_box.specs.State.{news_of}
+use Rattle.ejson_value.specs.Changes.{news_of}
 use Rattle.merge_box.proofs.Listing.{found_listed, nothing_listed}
 use Rattle.merge_box.proofs.Plans.{gone, last_removed, unlisted_news}
 use Rattle.merge_box.proofs.plan.removals.Goals as goal

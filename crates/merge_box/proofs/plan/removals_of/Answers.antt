@@ -1,5 +1,5 @@
 use Rattle.std.proofs.Common.{◌∷◌, [], ◌++◌, None, ap, ap₂, ◌∙◌}
-use Rattle.merge_box.specs.State.{news_of}
+use Rattle.ejson_value.specs.Changes.{news_of}
 use Rattle.merge_box.proofs.Walks.{walk_on, walk_end}
 use Rattle.merge_box.proofs.Plans.{news_push, gone_push, removed}
 use Rattle.merge_box.proofs.plan.removals_of.Goals as goal

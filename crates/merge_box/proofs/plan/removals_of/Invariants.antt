@@ -1,6 +1,6 @@
 use Rattle.std.proofs.Common.{◌≡◌, ◌++◌, None, List, map}
 use Rattle.ejson_value.specs.declared.key.Key.{Key}
-use Rattle.merge_box.specs.State.{news_of}
+use Rattle.ejson_value.specs.Changes.{news_of}
 use Rattle.merge_box.proofs.plan.removals_of.Given as goal
 
 abbrev pub invariant-loop-key : goal.invariant-loop-key

@@ -1,7 +1,7 @@
 use Rattle.std.proofs.Common.{ap, ap₂, ◌∙◌, map}
 use Rattle.ejson_value.specs.Messages.{said}
 use Rattle.merge_box.specs.Index.{lists_of}
-use Rattle.merge_box.specs.State.{news_of}
+use Rattle.ejson_value.specs.Changes.{news_of}
 use Rattle.merge_box.proofs.MakePlan.{inside_grown, kept_grown, planned_grown, inside_planned, plan_is, on_err}
 use Rattle.merge_box.proofs.boxes.MergeBox.plan_call.Goals as goal
 

@@ -3,7 +3,7 @@ use Rattle.merge_model.specs.Publishing.{last_news}
 use Rattle.merge_model.specs.Kept.{has, kept_at}
 use Rattle.ejson_value.specs.Key.{key_cmp}
 use Rattle.merge_box.specs.Index.{lists_of, is_listed}
-use Rattle.merge_box.specs.State.{news_of}
+use Rattle.ejson_value.specs.Changes.{news_of}
 use Rattle.merge_box.proofs.MakePlan.{drop_is}
 use Rattle.merge_box.proofs.Places.{kept_same}
 use Rattle.merge_box.proofs.boxes.MergeBox.plan_drop.Goals as goal
