@@ -10,7 +10,7 @@ use Rattle.map_model.specs.DifferenceLaws.{diff_itself}
 use Rattle.value_model.specs.Order.{text_cmp, compare}
 use Rattle.value_model.specs.OrderLaws.{compare_is_eq}
 use Rattle.ejson_value.specs.declared.key.Key.{Key}
-use Rattle.ejson_value.specs.Key.{key_cmp, key_order}
+use Rattle.ejson_value.specs.Key.{key_cmp, key_order, name_order}
 use Rattle.ejson_value.specs.Rows.{Rows, AreDocuments, AreRows}
 use Rattle.session_model.specs.declared.items.Item.{Item}
 use Rattle.session_model.specs.declared.items.Item.TheVariants as item
@@ -19,13 +19,13 @@ use Rattle.session_model.specs.History.{Entry}
 use Rattle.session_model.specs.Texts.{server_text}
 use Rattle.session_model.specs.Journal.{Live as ALive, live_of, live_after, keeps_live, is_connected, connected_after, shown}
 use Rattle.session_model.specs.Out.{about, difference, own_text, texts_of}
-use Rattle.session_model.specs.OutLaws.{name_order, live_from-append, connected_from-append}
+use Rattle.session_model.specs.OutLaws.{live_from-append, connected_from-append}
 use Rattle.world_model.specs.Client.{Client}
 use Rattle.world_model.specs.Acts.{guarded, has_room, is_fail, has_failed, with_item, loads, loads_at, loads_to, loads_placed, loads_named, advances, advances_from, advances_by, advances_placed, advances_named}
 use Rattle.session_core.specs.Store.{Stored}
 use Rattle.value_model.specs.Size.{is_name}
+use Rattle.value_model.specs.TruthLaws.{and_false}
 use Rattle.session_core.specs.Sessions.{as_live, IsTrueTo, left_from, left_of, is_of_id, loads_live, advances_live, natural_or}
-use Rattle.session_core.specs.Laws.{and_false}
 use Rattle.session_core.specs.declared.session.Live.{Live}
 use Rattle.session_core.specs.declared.session.Session.{Session}
 

@@ -6,9 +6,9 @@ use Rattle.map_model.specs.Orders.{IsAbove}
 use Rattle.map_model.specs.OrderLaws.{IsAbove-from_sorted}
 use Rattle.ejson_value.specs.declared.value.Value.{Value}
 use Rattle.ejson_value.specs.View.{view, entries}
-use Rattle.std.proofs.Common.{◌≡◌, Bool, true, false, ℕ, ◌+◌, ◌-◌, List, [], ◌∷◌, ◌++◌, Option, Some, None, refl, ap, subst, ◌∙◌}
+use Rattle.std.proofs.Common.{◌≡◌, ℕ, ◌+◌, ◌-◌, List, [], ◌∷◌, ◌++◌, Option, Some, None, refl, ap, subst, ◌∙◌}
 use Rattle.std.specs.Borrow.{Bor}
-use Rattle.std.specs.Prelude.{◌&&◌, option_map, option_copied}
+use Rattle.std.specs.Prelude.{option_map, option_copied}
 use Rattle.value_model.specs.Order.{text_cmp}
 use Rattle.session_core.specs.Queue.{first_of, rest_of, front_of}
 use Rattle.session_model.specs.declared.items.Item.{Item}
@@ -46,10 +46,6 @@ live_ref (Some l) live e = ap (option_map as_live) e
 pub first_is : {A : Type 0} (xs : List A) (x : A) → first_of xs ≡ Some x → xs ≡ x ∷ rest_of xs
 first_is [] x e = cc
 first_is (y ∷ ys) x e = let same : y ≡ x = cc in ap (λ z. z ∷ ys) same
-
-pub and_false : (b : Bool) → (b && false) ≡ false
-and_false true = refl
-and_false false = refl
 
 -- an item's own text, unfolded
 pub item_text_is : (n : ℕ) (live : Option ALive) (i : Item) (ts : List (List ℕ)) → ts ≡ text_of_item n live i → ts ≡ own_text n live i

@@ -9,5 +9,5 @@ mod taking;
 mod texts;
 
 pub use queue::Queue;
-pub use session::{Live, Session, copy_id, item_texts, making, session_name};
+pub use session::{Live, Session, item_texts, making, session_name};
 pub use store::Store;

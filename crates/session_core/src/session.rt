@@ -19,7 +19,7 @@ use crate::taking::{Taken, taken_from};
 use crate::texts::text_of;
 use app_model::App;
 use ddp_messages::FromServer;
-use ejson_value::{Contents, Fault, Items, Mem, Names, Text, Whole};
+use ejson_value::{Contents, Fault, Items, Mem, Names, Text, Whole, copy_option};
 use publication::{CursorFault, Cursors};
 use session_model::items::{Item, SubFault};
 use session_model::requests::Request;
@@ -77,16 +77,6 @@ pub fn session_name(alloc: Global, number: u64) -> Result<Text, Mem>
     Ok(Text::from_string(format!(in alloc; "S{number}")?))
 }
 
-/// A copy of the id, if there is one.
-pub fn copy_id(id: &Option<Text>) -> Result<Option<Text>, Mem>
-    ensures { IfOk result (λ copy. copy ≡ id.now) }
-{
-    match id {
-        Some(id) => Ok(Some(id.copy()?)),
-        None => Ok(None),
-    }
-}
-
 // The names of the one id.
 fn only(alloc: Global, id: &Text) -> Result<Names, Mem>
     ensures { IfOk result (λ ids. ids ≡ id.now ∷ []) }
@@ -113,7 +103,7 @@ fn failed_text(alloc: Global, version: Text) -> Result<Text, Mem>
 fn pong_text(alloc: Global, id: &Option<Text>) -> Result<Text, Mem>
     ensures { IfOk result (λ text. text ≡ server_text (server.pong id.now)) }
 {
-    let id = copy_id(id)?;
+    let id = copy_option(id)?;
     text_of(alloc, FromServer::Pong { id })
 }
 
@@ -224,6 +214,39 @@ fn push_own(texts: &mut Queue<Text>, own: Option<Text>) -> Result<(), Mem>
         Some(own) => texts.push(own),
         None => Ok(()),
     }
+}
+
+// The item's own text, if it has one, alone.
+fn own_texts(
+    alloc: Global,
+    number: u64,
+    live: Option<&Live>,
+    item: &Item,
+) -> Result<Queue<Text>, Mem>
+    ensures { IfOk result (λ texts. texts ≡ text_of_item number (option_map (λ l. as_live l.now) live.entry) item.now) }
+{
+    let own = own_text(alloc, number, live, item)?;
+    let mut texts = Queue::new(alloc);
+    push_own(&mut texts, own)?;
+    Ok(texts)
+}
+
+// Puts the item behind the journal and its texts behind the outbox, or leaves both.
+fn push_item(
+    journal: &mut Vec<Item>,
+    outbox: &mut Queue<Text>,
+    item: Item,
+    texts: Queue<Text>,
+) -> Result<(), Mem>
+    ensures journal { OnOk result (journal.new.items ≡ journal.old.items ++ item ∷ []) }
+    ensures outbox { OnOk result (outbox.new ≡ outbox.old ++ texts) }
+    ensures journal_left { OnErr result (journal.new.items ≡ journal.old.items) }
+    ensures outbox_left { OnErr result (outbox.new ≡ outbox.old) }
+{
+    journal.reserve(1)?;
+    outbox.append(texts)?;
+    journal.push(item).unwrap();
+    Ok(())
 }
 
 // Whether the session is connected after the item.
@@ -354,9 +377,7 @@ impl Session {
         let texts = item_texts(alloc, self.number, live_before, &item, &self.shown, &rows)?;
         let is_connected = connected_after(self.is_connected, &item);
         let has_failed = failed_after(self.has_failed, &item);
-        self.journal.reserve(1)?;
-        self.outbox.append(texts)?;
-        self.journal.push(item).unwrap();
+        push_item(&mut self.journal, &mut self.outbox, item, texts)?;
         self.is_connected = is_connected;
         self.has_failed = has_failed;
         self.live = live;
@@ -374,12 +395,10 @@ impl Session {
         ensures stands { IsTrueTo store.now self.new }
     {
         self.shown.known();
-        let own = own_text(store.allocator(), self.number, self.live.as_ref(), &item)?;
+        let own = own_texts(store.allocator(), self.number, self.live.as_ref(), &item)?;
         let is_connected = connected_after(self.is_connected, &item);
         let has_failed = failed_after(self.has_failed, &item);
-        self.journal.reserve(1)?;
-        push_own(&mut self.outbox, own)?;
-        self.journal.push(item).unwrap();
+        push_item(&mut self.journal, &mut self.outbox, item, own)?;
         self.is_connected = is_connected;
         self.has_failed = has_failed;
         Ok(())

@@ -42,13 +42,30 @@ impl Model for Store {
     ghost invariant = { IsTrueStore };
 }
 
+fn insert_of(key: &Key, doc: &Doc) -> Result<Insert, Mem>
+    ensures { IfOk result (λ insert. entry_of insert ≡ record { key = key.now; doc = doc.now }) }
+{
+    Ok(Insert {
+        key: key.copy()?,
+        doc: doc.copy()?,
+    })
+}
+
+// Puts a copy of the document at a copy of the key.
+fn put_copy(rows: &mut Contents, key: &Key, doc: &Doc) -> Result<(), Mem>
+    ensures ok { OnOk result (rows.new ≡ set key_cmp rows.old key.now (Some doc.now)) }
+    ensures err { OnErr result (rows.new ≡ rows.old) }
+{
+    rows.put(key.copy()?, doc.copy()?)
+}
+
 // The documents after these inserts.
 fn contents_of(alloc: Global, history: &[Insert]) -> Result<Contents, Mem>
     ensures { IfOk result (λ rows. rows ≡ contents (map entry_of history.now)) }
 {
     let mut rows = Contents::new(alloc);
     for entry in history {
-        rows.put(entry.key.copy()?, entry.doc.copy()?)?;
+        put_copy(&mut rows, &entry.key, &entry.doc)?;
     }
     Ok(rows)
 }
@@ -58,7 +75,7 @@ fn put_publish(rows: &mut Contents, publish: &Publish) -> Result<(), Mem>
     ensures { OnOk result (rows.new ≡ set key_cmp rows.old publish.now.key publish.now.new) }
 {
     match &publish.new {
-        Some(doc) => rows.put(publish.key.copy()?, doc.copy()?),
+        Some(doc) => put_copy(rows, &publish.key, doc),
         None => {
             drop(rows.remove(&publish.key));
             Ok(())
@@ -141,12 +158,9 @@ impl Store {
         ensures ok { OnOk result (self.new ≡ record { app = self.old.app; history = self.old.history ++ record { key = key.now; doc = doc.now } ∷ [] }) }
         ensures err { OnErr result (self.new ≡ self.old) }
     {
-        let entry = Insert {
-            key: key.copy()?,
-            doc: doc.copy()?,
-        };
+        let entry = insert_of(key, doc)?;
         self.history.reserve(1)?;
-        self.contents.put(key.copy()?, doc.copy()?)?;
+        put_copy(&mut self.contents, key, doc)?;
         self.history.push(entry).unwrap();
         Ok(())
     }

@@ -121,6 +121,14 @@ fn once_connected(alloc: Global, connected: bool, text: &Text, taken: Taken) -> 
     refused_shown(alloc, "Must connect first", text)
 }
 
+// What comes of a message that a session knows nothing of.
+fn refused_once_connected(alloc: Global, connected: bool, text: &Text) -> Result<Taken, Mem>
+    ensures { IfOk result (λ t. as_taken t ≡ once_connected connected (offending_in text.now) (refused_for (codes "Bad request") (offending_in text.now))) }
+{
+    let refused = refused_shown(alloc, "Bad request", text)?;
+    once_connected(alloc, connected, text, refused)
+}
+
 // What comes of a message of its form.
 fn taken_message(
     alloc: Global,
@@ -143,8 +151,7 @@ fn taken_message(
             once_connected(alloc, connected, text, Taken::ToQueue(request))
         }
         FromClient::Unsub { .. } | FromClient::Method { .. } => {
-            let refused = refused_shown(alloc, "Bad request", text)?;
-            once_connected(alloc, connected, text, refused)
+            refused_once_connected(alloc, connected, text)
         }
     }
 }

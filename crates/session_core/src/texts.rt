@@ -11,5 +11,7 @@ use std::alloc::Global;
 pub(crate) fn text_of(alloc: Global, message: FromServer) -> Result<Text, Mem>
     ensures { IfOk result (λ text. text ≡ server_text (server_view message)) }
 {
-    message.text(alloc)
+    let text = message.text(alloc);
+    drop(message);
+    text
 }
