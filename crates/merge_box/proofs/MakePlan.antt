@@ -68,7 +68,7 @@ planned_grown kept changes lists inside grown more grows now =
     docs_same (carried_out changes kept) (carried_out changes grown) (sorted-carried_out changes kept inside.by_key) (sorted-carried_out changes grown now.by_key)
     (carried_held kept changes lists inside) (carried_held grown changes more now)
     (λ k. subst₂ SameDoc (sym (kept_at-carried_out changes kept k inside.changes_by_key)) (sym (kept_at-carried_out changes grown k inside.changes_by_key))
-        (after_same (at key_cmp changes k) (kept_at key_cmp kept k) (kept_at key_cmp grown k) (grows.docs k).same))
+    (after_same (at key_cmp changes k) (kept_at key_cmp kept k) (kept_at key_cmp grown k) (grows.docs k).same))
 
 -- a new plan
 module _ (sub : ℕ) (news : List (Key × Option Entries)) (kept before changes : KeptDocs) (lists : Lists) (inside : IsInside kept before lists) (sorted : IsSorted key_cmp changes)
@@ -144,7 +144,7 @@ module _ (kept changes : KeptDocs) (lists : Lists) (inside : IsInside kept chang
         ∙ at-filter_map_entries key_order (λ q change. between text_cmp same_value (merged_doc (kept_at key_cmp kept q)) (merged_doc (with_change (kept_at key_cmp kept q) change))) changes k inside.changes_by_key
         ∙ told_at k (at key_cmp changes k)
         ∙ sym (ap₂ (between text_cmp same_value) (at-merged key_order name_order kept k inside.by_key)
-          (at-merged key_order name_order (carried_out changes kept) k (sorted-carried_out changes kept inside.by_key) ∙ ap merged_doc (kept_at-carried_out changes kept k inside.changes_by_key)));
+        (at-merged key_order name_order (carried_out changes kept) k (sorted-carried_out changes kept inside.by_key) ∙ ap merged_doc (kept_at-carried_out changes kept k inside.changes_by_key)));
   }
 
   tells : (messages : Told) → messages ≡ told_of kept changes → Tells (docs_of kept) (docs_of (carried_out changes kept)) messages

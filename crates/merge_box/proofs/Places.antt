@@ -59,7 +59,7 @@ pub merged_same : (a b : KeptDoc) → SameDoc a b → IsSorted text_cmp a.fields
 merged_same a b same sorted_a sorted_b =
     ap₂ (λ ps fields. cond (is_empty ps) None (Some fields)) same.publishers
     (same_maps name_order (merged_fields b.fields) (merged_fields a.fields) (sorted-filter_map_entries text_cmp (λ f claims. first_value claims) b.fields sorted_b) (sorted-filter_map_entries text_cmp (λ f claims. first_value claims) a.fields sorted_a)
-      (λ f. at-merged_fields key_order name_order b f sorted_b ∙ ap first_value (same.claims f) ∙ sym (at-merged_fields key_order name_order a f sorted_a)))
+    (λ f. at-merged_fields key_order name_order b f sorted_b ∙ ap first_value (same.claims f) ∙ sym (at-merged_fields key_order name_order a f sorted_a)))
 
 -- ---- without places
 unless_of : (x : Option (List (ℕ × Val))) → option_and_then (λ claims. unless_empty claims) x ≡ unless_empty (unwrap_or x [])
@@ -86,7 +86,7 @@ pub published_same : (a b : KeptDoc) → SameDoc a b → IsSorted text_cmp a.fie
 published_same a b same sorted_a sorted_b =
     ap₂ (λ ps fields. cond (is_empty ps) None (Some (record { publishers = ps; fields = fields }))) same.publishers
     (same_maps name_order (claimed_fields b.fields) (claimed_fields a.fields) (sorted-claimed b sorted_b) (sorted-claimed a sorted_a)
-      (λ f. at-claimed b f sorted_b ∙ ap unless_empty (same.claims f) ∙ sym (at-claimed a f sorted_a)))
+    (λ f. at-claimed b f sorted_b ∙ ap unless_empty (same.claims f) ∙ sym (at-claimed a f sorted_a)))
 
 -- ---- all documents
 published_of : (x : Option KeptDoc) → option_and_then (λ e. published_doc e) x ≡ published_doc (unwrap_or x nothing_kept)
@@ -133,8 +133,8 @@ pub merged_docs : (kept : KeptDocs) → IsSorted key_cmp kept → ((k : Key) →
 merged_docs kept sorted held =
     same_maps key_order (merged (docs_of kept)) (merged kept) (sorted-filter_map_entries key_cmp (λ k e. merged_doc e) (docs_of kept) (sorted-docs_of kept sorted)) (sorted-filter_map_entries key_cmp (λ k e. merged_doc e) kept sorted)
     (λ k. at-merged key_order name_order (docs_of kept) k (sorted-docs_of kept sorted)
-      ∙ merged_same (kept_at key_cmp kept k) (kept_at key_cmp (docs_of kept) k) (kept_same kept k sorted (held k)) (held k).by_name (held_docs kept k sorted (held k)).by_name
-      ∙ sym (at-merged key_order name_order kept k sorted))
+    ∙ merged_same (kept_at key_cmp kept k) (kept_at key_cmp (docs_of kept) k) (kept_same kept k sorted (held k)) (held k).by_name (held_docs kept k sorted (held k)).by_name
+    ∙ sym (at-merged key_order name_order kept k sorted))
 
 -- ---- once the changes are carried out
 or_kept : (x : Option KeptDoc) (y : Option KeptDoc) (e : KeptDoc) → e ≡ unwrap_or y nothing_kept → unwrap_or (option_or (option_and_then (λ change. Some (with_change e change)) x) y) nothing_kept ≡ with_change_if x e
@@ -144,8 +144,8 @@ or_kept (Some change) y e is = refl
 pub kept_at-carried_out : (changes kept : KeptDocs) (k : Key) → IsSorted key_cmp changes → kept_at key_cmp (carried_out changes kept) k ≡ after_at changes kept k
 kept_at-carried_out changes kept k sorted =
     ap (λ x. unwrap_or x nothing_kept) (
-      at-union key_order (filter_map_entries (λ q change. Some (with_change (kept_at key_cmp kept q) change)) changes) kept k
-      ∙ ap (λ x. option_or x (at key_cmp kept k)) (at-filter_map_entries key_order (λ q change. Some (with_change (kept_at key_cmp kept q) change)) changes k sorted))
+    at-union key_order (filter_map_entries (λ q change. Some (with_change (kept_at key_cmp kept q) change)) changes) kept k
+    ∙ ap (λ x. option_or x (at key_cmp kept k)) (at-filter_map_entries key_order (λ q change. Some (with_change (kept_at key_cmp kept q) change)) changes k sorted))
     ∙ or_kept (at key_cmp changes k) (at key_cmp kept k) (kept_at key_cmp kept k) refl
 
 pub sorted-carried_out : (changes kept : KeptDocs) → IsSorted key_cmp kept → IsSorted key_cmp (carried_out changes kept)

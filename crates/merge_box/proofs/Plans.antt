@@ -149,9 +149,9 @@ module _ (plan rest old new : KeptDocs) (key : Key) (change : KeptDoc) (value : 
   pub same_step : (k : Key) → SameDoc (after_at plan old k) (after_at rest new k)
   same_step k = ⊎_elim
       (λ here.
-        let at_key = key_is key_order k key here.0 in
-        subst (λ q. SameDoc (after_at plan old q) (after_at rest new q)) (sym at_key)
-        (subst₂ (λ x y. SameDoc (with_change_if x (kept_at key_cmp old key)) (with_change_if y (kept_at key_cmp new key))) (sym value) (sym (ap (at key_cmp rest) (sym at_key) ∙ here.1)) same))
+      let at_key = key_is key_order k key here.0 in
+      subst (λ q. SameDoc (after_at plan old q) (after_at rest new q)) (sym at_key)
+      (subst₂ (λ x y. SameDoc (with_change_if x (kept_at key_cmp old key)) (with_change_if y (kept_at key_cmp new key))) (sym value) (sym (ap (at key_cmp rest) (sym at_key) ∙ here.1)) same))
       (λ there. subst₂ (λ x e. SameDoc (after_at plan old k) (with_change_if x e)) (sym there.1) (sym (kept_others k there.0)) (same_itself (after_at plan old k)))
       (left_cases key_order plan rest key updates k)
 

@@ -78,11 +78,11 @@ module _ (old change : KeptDoc) (was : IsSorted text_cmp old.fields) (sorted : I
       (sorted-filter_map_entries text_cmp (λ f claims. unseen (merged_fields old.fields) f (first_value claims)) change.fields sorted)
       (sorted-filter name_order (λ e. not (is_there text_cmp same_value e.1 (at text_cmp (merged_fields old.fields) e.0))) (merged_fields (with_change old change).fields) sorted_seen_now)
       (λ q.
-        at-filter_map_entries name_order (λ f claims. unseen (merged_fields old.fields) f (first_value claims)) change.fields q sorted
-        ∙ ap (λ x. option_and_then (λ claims. new_of x (first_value claims)) (at text_cmp change.fields q)) (seen_at q)
-        ∙ new_at (at text_cmp change.fields q) (at text_cmp old.fields q)
-        ∙ sym (at-filter name_order (λ e. not (is_there text_cmp same_value e.1 (at text_cmp (merged_fields old.fields) e.0))) (merged_fields (with_change old change).fields) q sorted_seen_now
-          ∙ ap₂ new_of (seen_at q) (now_at q)))
+      at-filter_map_entries name_order (λ f claims. unseen (merged_fields old.fields) f (first_value claims)) change.fields q sorted
+      ∙ ap (λ x. option_and_then (λ claims. new_of x (first_value claims)) (at text_cmp change.fields q)) (seen_at q)
+      ∙ new_at (at text_cmp change.fields q) (at text_cmp old.fields q)
+      ∙ sym (at-filter name_order (λ e. not (is_there text_cmp same_value e.1 (at text_cmp (merged_fields old.fields) e.0))) (merged_fields (with_change old change).fields) q sorted_seen_now
+      ∙ ap₂ new_of (seen_at q) (now_at q)))
 
   -- the names that are gone
   pub told_names : keys_of (filter_map_entries (λ f claims. lost (merged_fields old.fields) f (first_value claims)) change.fields) ≡ cleared text_cmp same_value (merged_fields old.fields) (merged_fields (with_change old change).fields)
@@ -90,10 +90,10 @@ module _ (old change : KeptDoc) (was : IsSorted text_cmp old.fields) (sorted : I
       (sorted-filter_map_entries text_cmp (λ f claims. lost (merged_fields old.fields) f (first_value claims)) change.fields sorted)
       (sorted-filter name_order (λ e. not (is_some (at text_cmp (merged_fields (with_change old change).fields) e.0))) (merged_fields old.fields) sorted_seen)
       (λ q.
-        at-filter_map_entries name_order (λ f claims. lost (merged_fields old.fields) f (first_value claims)) change.fields q sorted
-        ∙ lost_at q (merged_fields old.fields) (at text_cmp change.fields q) (at text_cmp old.fields q) (seen_at q)
-        ∙ sym (at-filter name_order (λ e. not (is_some (at text_cmp (merged_fields (with_change old change).fields) e.0))) (merged_fields old.fields) q sorted_seen
-          ∙ ap (lost_of (at text_cmp (merged_fields old.fields) q)) (now_at q))))
+      at-filter_map_entries name_order (λ f claims. lost (merged_fields old.fields) f (first_value claims)) change.fields q sorted
+      ∙ lost_at q (merged_fields old.fields) (at text_cmp change.fields q) (at text_cmp old.fields q) (seen_at q)
+      ∙ sym (at-filter name_order (λ e. not (is_some (at text_cmp (merged_fields (with_change old change).fields) e.0))) (merged_fields old.fields) q sorted_seen
+      ∙ ap (lost_of (at text_cmp (merged_fields old.fields) q)) (now_at q))))
 
 -- ---- a document that nobody publishes has no claims
 no_publisher : (ps : List ℕ) (s : ℕ) → is_empty ps ≡ true → has s ps ≡ false

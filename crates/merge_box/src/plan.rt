@@ -131,12 +131,7 @@ pub(crate) fn plan_news(
 }
 
 // The message about a document of the plan, if the client sees it otherwise afterwards.
-fn told_at(
-    kept: &KeptMap,
-    alloc: Global,
-    key: &Key,
-    change: &Held,
-) -> Result<Option<DataMsg>, Mem>
+fn told_at(kept: &KeptMap, alloc: Global, key: &Key, change: &Held) -> Result<Option<DataMsg>, Mem>
     ensures { IfOk result (λ message. option_map said message ≡ option_map (λ step. (key.now, step))
         (between text_cmp same_value (merged_doc (kept_at key_cmp kept.now.entries key.now))
         (merged_doc (with_change (kept_at key_cmp kept.now.entries key.now) change.now)))) }

@@ -214,7 +214,11 @@ fn tables_of_calls(rt: HostRuntime) -> Result<(), Fail> {
         STAYS_WHILE_ONE_PUBLISHES,
         FIRST_ENDS,
     ] {
-        assert_eq!(rt; right_in(rt.alloc(), rows)?, rows.lines().count() as u64, "in {rows}");
+        assert_eq!(rt;
+            right_in(rt.alloc(), rows)?,
+            rows.lines().count() as u64,
+            "in {rows}"
+        );
     }
     Ok(())
 }
@@ -236,8 +240,14 @@ fn shown_after(alloc: Global, rows: &str, id: &str) -> Result<String, Fail> {
 
 #[test]
 fn what_the_client_sees(rt: HostRuntime) -> Result<(), Fail> {
-    assert_eq!(rt; shown_after(rt.alloc(), FIRST_ENDS, "t1")?.as_str(), " a=2 b=3");
-    assert_eq!(rt; shown_after(rt.alloc(), WINNER_LEAVES, "x")?.as_str(), "none");
+    assert_eq!(rt;
+        shown_after(rt.alloc(), FIRST_ENDS, "t1")?.as_str(),
+        " a=2 b=3"
+    );
+    assert_eq!(rt;
+        shown_after(rt.alloc(), WINNER_LEAVES, "x")?.as_str(),
+        "none"
+    );
     Ok(())
 }
 
@@ -259,6 +269,9 @@ fn planned_text(alloc: Global) -> Result<String, Fail> {
 
 #[test]
 fn a_plan_changes_nothing_by_itself(rt: HostRuntime) -> Result<(), Fail> {
-    assert_eq!(rt; planned_text(rt.alloc())?.as_str(), "removed c/x;removed c/x;none");
+    assert_eq!(rt;
+        planned_text(rt.alloc())?.as_str(),
+        "removed c/x;removed c/x;none"
+    );
     Ok(())
 }

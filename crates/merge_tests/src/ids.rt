@@ -37,7 +37,13 @@ fn is_right(alloc: Global, row: &str) -> Result<bool, Fail> {
     };
     match rest.split_once("|") {
         None => Ok(false),
-        Some((n, id)) => draws(alloc, seed, collection, n.parse::<u32>().unwrap_or(4096), id),
+        Some((n, id)) => draws(
+            alloc,
+            seed,
+            collection,
+            n.parse::<u32>().unwrap_or(4096),
+            id,
+        ),
     }
 }
 

@@ -86,4 +86,3 @@ returns-clause-planned c =
     let planned = c.in_ok-changes.ensures.planned in
     let now = inside_planned c.args.sub (news_of c.args.news.now) grown changes c.in_ok-changes.changes.entries more (inside_grown kept changes lists c.self.invariant grown more grows c.len-len.ensures.ordered c.plan_news-made.ensures.listed) c.len-changed.ensures.ordered planned c.in_ok-changes.ensures.room c.in_ok-changes.ensures.listed_here in
     plan_is grown c.in_ok-changes.changes.entries more now c.args.sub (news_of c.args.news.now) (map said c.in_ok-messages.messages) planned c.in_ok-messages.ensures
-
