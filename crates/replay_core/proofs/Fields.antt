@@ -13,7 +13,7 @@ use Rattle.map_model.specs.DifferenceLaws.{at-with_fields, sorted-with_fields}
 use Rattle.value_model.specs.Val.{Val, Entries}
 use Rattle.value_model.specs.Order.{text_cmp}
 use Rattle.value_model.specs.Doc.{put, remove}
-use Rattle.session_model.specs.OutLaws.{name_order}
+use Rattle.ejson_value.specs.Key.{name_order}
 use Rattle.ejson_value.specs.declared.value.Value.{Value}
 use Rattle.ejson_value.specs.View.{view, entries}
 use Rattle.ejson_value.specs.Entries.{keys_of-entries}

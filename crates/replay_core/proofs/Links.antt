@@ -1,6 +1,7 @@
 -- The steps that take or move one text or request.
 use Rattle.std.proofs.Common.{◌≡◌, ℕ, ◌+◌, ◌-◌, Bool, true, false, List, [], ◌∷◌, ◌++◌, length, Some, None, refl, ap, ap₂, sym, subst, ◌∙◌, append-nil}
 use Rattle.std.specs.Prelude.{is_some, is_none, not, option_to_list, nat_lt, ◌&&◌}
+use Rattle.value_model.specs.TruthLaws.{and_false}
 use Rattle.session_model.specs.declared.requests.Request.{Request}
 use Rattle.app_model.specs.App.{App}
 use Rattle.session_model.specs.History.{Entry}
@@ -12,7 +13,7 @@ use Rattle.world_model.specs.Acts.{guarded, has_room, has_failed, with_item, mov
 use Rattle.world_model.specs.Taking.{told_text}
 use Rattle.session_core.specs.Queue.{first_of, rest_of}
 use Rattle.session_core.specs.Sessions.{Does}
-use Rattle.session_core.specs.Laws.{and_false, first_is}
+use Rattle.session_core.specs.Laws.{first_is}
 
 -- no step is enabled without room
 pub receives_full : (app : App) (h : List Entry) (c : Client) (ts : List (List ℕ)) → has_room c ≡ false → receives app h c ts ≡ None

@@ -7,7 +7,7 @@ use Rattle.std.proofs.lemmas.Cmp.{nat_list_cmp_total, eq_by_cmp_equiv}
 use Rattle.map_model.specs.Maps.{at, set, IsSorted}
 use Rattle.map_model.specs.MapLaws.{same_maps, sorted-put, at-put}
 use Rattle.value_model.specs.Order.{text_cmp}
-use Rattle.session_model.specs.OutLaws.{name_order}
+use Rattle.ejson_value.specs.Key.{name_order}
 use Rattle.world_model.specs.declared.subs.SubState.{SubState}
 use Rattle.world_model.specs.Client.{Subs}
 use Rattle.world_model.specs.Taking.{turned_from, turned}

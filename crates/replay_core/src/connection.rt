@@ -17,8 +17,8 @@ use crate::hearing::{MALFORMED, NO_OBJECT, refusal};
 use crate::subs::Subs;
 use crate::texts::text_of;
 use ddp_messages::{FromClient, FromServer, MsgFault};
-use ejson_value::{Contents, DataMsg, Doc, Fault, Key, Mem, Names, Text, Whole, copy};
-use session_core::{Queue, Session, Store, copy_id};
+use ejson_value::{Contents, DataMsg, Doc, Fault, Key, Mem, Names, Text, Whole, copy, copy_option};
+use session_core::{Queue, Session, Store};
 use session_model::requests::Request;
 use std::alloc::Global;
 use world_model::subs::SubState;
@@ -147,7 +147,7 @@ fn ended_by(error: &Option<Fault>) -> Result<SubState, Mem>
 fn pong(alloc: Global, id: &Option<Text>) -> Result<Text, Mem>
     ensures { IfOk result (λ text. text ≡ pong_text id.now) }
 {
-    let id = copy_id(id)?;
+    let id = copy_option(id)?;
     text_of(alloc, FromClient::Pong { id })
 }
 
@@ -240,6 +240,15 @@ impl Client {
         }
     }
 
+    fn hear_message(&mut self, alloc: Global, message: FromServer) -> Result<(), Mem>
+        ensures ok { OnOk result ((c : AClient) → with_client c self.new ≡ told_unless (with_client c self.old) (server_view message) (message_refusal self.old.session self.old.rows (server_view message))) }
+        ensures err { OnErr result ((c : AClient) → with_client c self.new ≡ with_client c self.old) }
+    {
+        let answer = self.tell_unless(alloc, &message);
+        drop(message);
+        answer
+    }
+
     /// Takes a text in, or refuses it and is broken.
     pub fn hear(&mut self, alloc: Global, text: &Text) -> Result<(), Mem>
         ensures ok { OnOk result ((c : AClient) → with_client c self.new ≡ told_text (with_client c self.old) text.now) }
@@ -250,7 +259,7 @@ impl Client {
             return Ok(());
         }
         match FromServer::read(alloc, text) {
-            Ok(message) => self.tell_unless(alloc, &message),
+            Ok(message) => self.hear_message(alloc, message),
             Err(MsgFault::Parse) => {
                 self.broken = Some(NO_OBJECT);
                 Ok(())

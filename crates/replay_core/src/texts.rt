@@ -11,5 +11,7 @@ use std::alloc::Global;
 pub(crate) fn text_of(alloc: Global, message: FromClient) -> Result<Text, Mem>
     ensures { IfOk result (λ text. text ≡ client_text (client_view message)) }
 {
-    message.text(alloc)
+    let text = message.text(alloc);
+    drop(message);
+    text
 }

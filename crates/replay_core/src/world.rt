@@ -1,5 +1,5 @@
 //! A world: one store, one server and its client.
-ghost use Rattle.std.specs.Prelude.{◌≡◌, ◌+◌, ◌<◌, false, true, map, IfOk, OnOk, OnErr, is_none, option_map};
+ghost use Rattle.std.specs.Prelude.{◌≡◌, ◌+◌, ◌<◌, [], false, true, map, IfOk, OnOk, OnErr, is_none, option_map};
 ghost use Rattle.std.specs.Bool.{OnFalse};
 ghost use Rattle.ddp_messages.specs.Answers.{client_answer};
 ghost use Rattle.ddp_messages.specs.Limits.{IsShort, AreShallow};
@@ -443,6 +443,16 @@ impl World {
         Err(Mem)
     }
 
+    // The world settles, and nothing is printed.
+    fn settle_unprinted(&mut self) -> Result<Lines, Mem>
+        ensures settled { OnOk result (self.new ≡ settled self.old) }
+        ensures lines { IfOk result (λ lines. lines ≡ []) }
+        ensures steps { StepsLead self.old self.new }
+    {
+        self.settle_all()?;
+        Ok(Lines::new(self.store.allocator()))
+    }
+
     /// Steps are made until none is enabled. Where memory runs out, those made so far stay made.
     pub fn settle(&mut self) -> Result<(), Mem>
         ensures settled { OnOk result (self.new ≡ settled self.old) }
@@ -521,10 +531,7 @@ impl World {
                 let done = self.advance(client, id, *count)?;
                 idle_unless(alloc, done)
             }
-            Happening::Settle => {
-                self.settle_all()?;
-                Ok(Lines::new(alloc))
-            }
+            Happening::Settle => self.settle_unprinted(),
             Happening::Show { client } => self.show(client),
             Happening::Journal { client } => self.journal(client),
         }

@@ -235,12 +235,21 @@ fn asks(message: &FromClient) -> bool
     }
 }
 
+// The same of a message that isn't used any more.
+fn is_asking(message: FromClient) -> bool
+    ensures { result ≡ asks (client_view message) }
+{
+    let answer = asks(&message);
+    drop(message);
+    answer
+}
+
 // Whether the text asks for something.
 fn asks_in(alloc: Global, text: &Text) -> Result<bool, Mem>
     ensures { IfOk result (λ b. b ≡ asks_in (client_answer text.now)) }
 {
     match FromClient::read(alloc, text) {
-        Ok(message) => Ok(asks(&message)),
+        Ok(message) => Ok(is_asking(message)),
         Err(MsgFault::Memory) => Err(Mem),
         Err(MsgFault::Parse) => Ok(false),
         Err(MsgFault::BadRequest { .. }) => Ok(false),
@@ -293,13 +302,7 @@ fn object_in(value: Value) -> Option<Doc>
 {
     match value {
         Value::Object(doc) => Some(doc),
-        Value::Null
-        | Value::Bool(_)
-        | Value::Int(_)
-        | Value::Text(_)
-        | Value::Date(_)
-        | Value::Bytes(_)
-        | Value::List(_) => None,
+        _ => None,
     }
 }
 

@@ -402,6 +402,20 @@ const PLACES: &str = r#"["admin",["insert","tasks",{"_id":"t1","n":1}]]
 > ["sub","1","ready"]
 "#;
 
+// A value of a user type is inserted, selected by and shown like any other.
+const USER_VALUES: &str =
+    r#"["admin",["insert","tasks",{"_id":"t1","n":{"$type":"point","$value":[1,2]},"a":{"$type":"tag","$value":null}}]]
+["admin",["insert","tasks",{"_id":"t2","n":{"$type":"pair","$value":[1,2]}}]]
+["client","a"]
+["settle"]
+["sub","a","1","some",[{"$type":"point","$value":[1,2]}]]
+["settle"]
+["show","a"]
+> ["show","a"]
+> ["doc","tasks","t1",{"a":{"$type":"tag","$value":null}}]
+> ["sub","1","ready"]
+"#;
+
 #[test]
 fn transcripts(rt: HostRuntime) -> Result<(), Fail> {
     for script in [
@@ -415,6 +429,7 @@ fn transcripts(rt: HostRuntime) -> Result<(), Fail> {
         REFUSED_SUBS,
         SELECTED,
         PLACES,
+        USER_VALUES,
     ] {
         assert_eq!(rt; transcript(rt.alloc(), script)?.as_str(), script);
     }
