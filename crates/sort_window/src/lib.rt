@@ -1,0 +1,8 @@
+//! Windows: the first documents by sort keys, kept sorted as documents come, change and go.
+#![tactic(auto)]
+
+mod rows;
+mod sorting;
+
+pub use rows::{Row, RowNews, Rows, Shown, ShownList};
+pub use sorting::{before, before_is_a_strict_total_order};

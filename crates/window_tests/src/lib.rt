@@ -1,0 +1,85 @@
+//! Tables of documents and sort keys, with which of two documents stands first by the rules of Meteor's and MongoDB's sorts.
+#![tactic(auto)]
+
+#[cfg(test)]
+mod tests {
+    use ejson_codec::parse;
+    use ejson_value::{Doc, ListOf, Path, SortKey, SortKeys, Text, Value};
+    use sort_window::before;
+    use std::alloc::Global;
+    use std::test::Fail;
+
+    // Each row: sort keys, two documents with their ids, and whether the first one stands before the
+    // second.
+    const ROWS: &str = r#"n:1 | a {"n":1} | b {"n":2} => true
+n:-1 | a {"n":1} | b {"n":2} => false
+n:1 | a {"n":1} | b {"n":1} => true
+n:-1 | b {"n":1} | a {"n":1} => false
+ | a {"n":2} | b {"n":1} => true
+n:1,t:-1 | a {"n":1,"t":"x"} | b {"n":1,"t":"y"} => false
+n:1,t:-1 | a {"n":1,"t":"x"} | b {"n":2,"t":"y"} => true
+n:1 | b {} | a {"n":1} => true
+n:1 | b {} | a {"n":null} => false
+n:1 | b {"n":5} | a {"n":"5"} => true
+n:-1 | b {"n":5} | a {"n":"5"} => false
+a.b:1 | b {"a":{"b":1}} | a {"a":{"b":2}} => true
+a.b:1 | b {"a":[{"b":1}]} | a {"a":{"b":0}} => true
+a.0:1 | b {"a":[1]} | a {"a":{"0":0}} => true
+a.b:1 | b {"a":5} | a {} => false
+"#;
+
+    fn text(alloc: Global, text: &str) -> Result<Text, Fail> {
+        Ok(Text::from_str(alloc, text)?)
+    }
+
+    fn document(alloc: Global, written: &str) -> Result<Doc, Fail> {
+        match parse(alloc, &text(alloc, written)?)? {
+            Value::Object(doc) => Ok(doc),
+            _ => Ok(Doc::new(alloc)),
+        }
+    }
+
+    fn sort_key(alloc: Global, written: &str) -> Result<SortKey, Fail> {
+        let (path, way) = written.split_once(":").ok_or("a key without a colon")?;
+        Ok(SortKey {
+            path: Path::read(alloc, &text(alloc, path)?)?,
+            descending: way == "-1",
+        })
+    }
+
+    fn sort_keys(alloc: Global, written: &str) -> Result<SortKeys, Fail> {
+        let mut keys = ListOf::new(alloc);
+        if !written.is_empty() {
+            for key in written.split(',') {
+                keys.push(sort_key(alloc, key)?)?;
+            }
+        }
+        Ok(keys)
+    }
+
+    fn is_before(alloc: Global, sort: &SortKeys, a: &str, b: &str) -> Result<bool, Fail> {
+        let (a_id, a) = a.split_once(" ").ok_or("no id")?;
+        let (b_id, b) = b.split_once(" ").ok_or("no id")?;
+        let a_id = text(alloc, a_id)?;
+        let b_id = text(alloc, b_id)?;
+        let a = document(alloc, a)?;
+        let b = document(alloc, b)?;
+        Ok(before(sort, &a_id, &a, &b_id, &b))
+    }
+
+    fn is_right(alloc: Global, row: &str) -> Result<bool, Fail> {
+        let (question, wanted) = row.split_once(" => ").ok_or("no answer")?;
+        let (keys, docs) = question.split_once(" | ").ok_or("no documents")?;
+        let (a, b) = docs.split_once(" | ").ok_or("one document")?;
+        let sort = sort_keys(alloc, keys)?;
+        Ok(is_before(alloc, &sort, a, b)? == (wanted == "true"))
+    }
+
+    #[test]
+    fn rows(rt: HostRuntime) -> Result<(), Fail> {
+        for row in ROWS.lines() {
+            assert!(rt; is_right(rt.alloc(), row)?, "at {row}");
+        }
+        Ok(())
+    }
+}
