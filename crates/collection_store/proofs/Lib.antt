@@ -1,0 +1,4 @@
+pub mod Sums
+pub mod Picked
+pub mod Named
+pub mod Passing

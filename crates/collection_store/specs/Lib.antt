@@ -1,0 +1,6 @@
+pub mod Outcome
+pub mod Limits
+pub mod Applied
+pub mod State
+pub mod Finding
+pub mod Answered

@@ -1,0 +1,274 @@
+//! The store.
+ghost use Rattle.std.specs.Prelude.{◌≡◌, ◌+◌, length, is_some, OnOk, OnErr, IfOk, Ok, Err, [], if◌then◌else◌};
+ghost use Rattle.map_model.specs.Maps.{at};
+ghost use Rattle.ejson_value.specs.Key.{key_cmp};
+ghost use Rattle.ejson_value.specs.Measure.{capped};
+ghost use Rattle.collection_store.specs.Outcome.{Gives};
+ghost use Rattle.collection_store.specs.Limits.{bytes_of, is_full, new_bytes};
+ghost use Rattle.collection_store.specs.Applied.{is_listed, key_of, after, done, chosen, matching, insertion, insert_plan, update_plan, remove_plan, if_listed, if_room, applied};
+ghost use Rattle.collection_store.specs.Answered.{plan_of, applied_as, AreFor};
+ghost use Rattle.collection_store.specs.declared.fault.OpFault.TheVariants.{Full};
+
+use crate::changes::{new_bytes, old_bytes};
+use crate::documents::{document_size, is_too_large};
+use crate::fault::OpFault;
+use crate::finding::{key_of, matching};
+use crate::operation::{Op, Reply};
+use crate::updates::{all_removed, all_updated, reply};
+use ejson_value::{Change, Changes, Contents, Doc, Key, Keys, Mem, Names, Text, Value};
+use modifier_apply::Modifier;
+use selector_match::Selector;
+use std::alloc::Global;
+use std::marker::Model;
+
+const MAX_DOCUMENTS: usize = 262_144;
+
+const MAX_BYTES: u64 = 67_108_864;
+
+/// Documents by collection and id, and the names of the collections. A contract sees the names and
+/// the documents.
+#[derive(Drop)]
+pub struct Store {
+    alloc: Global,
+    names: Names,
+    contents: Contents,
+    // Of all documents.
+    bytes: u64,
+}
+
+impl Model for Store {
+    ghost use Rattle.std.specs.Prelude.{◌≡◌};
+    ghost use Rattle.collection_store.specs.State.{StoreState, state_code};
+    ghost use Rattle.collection_store.specs.Limits.{bytes_of};
+
+    ghost Value = { StoreState };
+
+    ghost coded = { state_code };
+
+    ghost view = { λ a. record { names = a.names; rows = a.contents } };
+
+    ghost invariant = { λ a. a.bytes ≡ bytes_of a.contents };
+}
+
+fn is_listed(names: &Names, collection: &Text) -> bool
+    ensures { result ≡ is_listed names.now collection.now }
+{
+    names
+        .as_slice()
+        .iter()
+        .any(|name| name.as_str() == collection.as_str())
+}
+
+fn is_there(contents: &Contents, key: &Key) -> bool
+    ensures { result ≡ is_some (at key_cmp contents.now key.now) }
+{
+    contents.get(key).is_some()
+}
+
+// The bytes of all documents. Those of documents that fit in memory are below 2^64.
+fn bytes_in(contents: &Contents) -> Result<u64, Mem>
+    ensures { IfOk result (λ bytes. bytes ≡ bytes_of contents.now) }
+{
+    let mut total = 0u64;
+    for (_, doc) in contents.iter() {
+        total = total.saturating_add(document_size(doc));
+    }
+    if total == u64::MAX {
+        Err(Mem)
+    } else {
+        Ok(total)
+    }
+}
+
+fn insertion(alloc: Global, key: Key, doc: &Doc) -> Result<Reply, Mem>
+    ensures { IfOk result (λ reply. plan_of reply ≡ insertion key doc.now) }
+{
+    let mut touched = Keys::new(alloc);
+    touched.push(key.copy()?)?;
+    let answer = Value::Text(key.id.copy()?);
+    let mut changes = Changes::new(alloc);
+    changes.push(Change {
+        key,
+        before: None,
+        after: Some(doc.copy()?),
+    })?;
+    Ok(Reply {
+        changes,
+        touched,
+        answer,
+    })
+}
+
+impl Store {
+    /// A store of collections of these names, with no documents.
+    pub fn new(alloc: Global, names: &Names) -> Result<Store, Mem>
+        ensures { IfOk result (λ store. store ≡ record { names = names.now; rows = [] }) }
+    {
+        Ok(Store {
+            alloc,
+            names: names.copy()?,
+            contents: Contents::new(alloc),
+            bytes: 0,
+        })
+    }
+
+    /// A store of collections of these names, with these documents. It looks once at each.
+    pub fn over(alloc: Global, names: &Names, contents: Contents) -> Result<Store, Mem>
+        ensures { IfOk result (λ store. store ≡ record { names = names.now; rows = contents }) }
+    {
+        let bytes = bytes_in(&contents)?;
+        Ok(Store {
+            alloc,
+            names: names.copy()?,
+            contents,
+            bytes,
+        })
+    }
+
+    /// The documents.
+    pub fn contents(&self) -> &Contents
+        ensures { result.now ≡ self.now.rows }
+    {
+        &self.contents
+    }
+
+    fn planned_insert(&self, collection: &Text, id: &Text, doc: &Doc) -> Result<Reply, OpFault>
+        ensures gives { Gives plan_of result (if_listed self.now.names collection.now (insert_plan self.now.rows (key_of collection.now id.now) doc.now)) }
+        ensures fit { IfOk result (λ reply. AreFor self.now.rows reply.changes) }
+        ensures grows { IfOk result (λ reply. length (after self.now.rows reply.changes) ≡ length self.now.rows + 1) }
+    {
+        if !is_listed(&self.names, collection) {
+            return Err(OpFault::NoCollection);
+        }
+        let key = key_of(collection, id)?;
+        if is_there(&self.contents, &key) {
+            return Err(OpFault::Duplicate);
+        }
+        if is_too_large(doc) {
+            return Err(OpFault::TooLarge);
+        }
+        self.contents.known();
+        Ok(insertion(self.alloc, key, doc)?)
+    }
+
+    fn planned_update(
+        &self,
+        collection: &Text,
+        selector: &Selector,
+        modifier: &Modifier,
+        all: bool,
+    ) -> Result<Reply, OpFault>
+        ensures gives { Gives plan_of result (if_listed self.now.names collection.now (update_plan modifier.now (chosen all (matching collection.now selector.now self.now.rows)))) }
+        ensures fit { IfOk result (λ reply. AreFor self.now.rows reply.changes) }
+        ensures stays { IfOk result (λ reply. length (after self.now.rows reply.changes) ≡ length self.now.rows) }
+    {
+        if !is_listed(&self.names, collection) {
+            return Err(OpFault::NoCollection);
+        }
+        self.contents.known();
+        let found = matching(self.alloc, &self.contents, collection, selector, all)?;
+        let changes = all_updated(self.alloc, modifier, &found)?;
+        Ok(reply(self.alloc, changes, &found)?)
+    }
+
+    fn planned_removal(&self, collection: &Text, selector: &Selector) -> Result<Reply, OpFault>
+        ensures gives { Gives plan_of result (if_listed self.now.names collection.now (Ok (remove_plan (matching collection.now selector.now self.now.rows)))) }
+        ensures fit { IfOk result (λ reply. AreFor self.now.rows reply.changes) }
+        ensures none { IfOk result (λ reply. new_bytes reply.changes ≡ 0) }
+    {
+        if !is_listed(&self.names, collection) {
+            return Err(OpFault::NoCollection);
+        }
+        self.contents.known();
+        let found = matching(self.alloc, &self.contents, collection, selector, true)?;
+        let changes = all_removed(self.alloc, &found)?;
+        Ok(reply(self.alloc, changes, &found)?)
+    }
+
+    // The bytes of all documents once the changes are made, 2^64 - 1 where there are more.
+    fn bytes_after(&self, changes: &Changes) -> u64
+        requires { AreFor self.now.rows changes.now }
+        ensures value { result ≡ capped (bytes_of (after self.now.rows changes.now)) }
+        ensures exact { new_bytes changes.now ≡ 0 → result ≡ bytes_of (after self.now.rows changes.now) }
+    {
+        self.contents.known();
+        let bytes = self.bytes;
+        let old = old_bytes(changes);
+        (bytes - old).saturating_add(new_bytes(changes))
+    }
+
+    // Makes the changes, which leave this many bytes.
+    fn make(&mut self, changes: &Changes, bytes: u64) -> Result<(), Mem>
+        requires fit { AreFor self.old.rows changes.now }
+        requires bytes { bytes ≡ bytes_of (after self.old.rows changes.now) }
+        ensures ok { OnOk result (self.new ≡ record { names = self.old.names; rows = after self.old.rows changes.now }) }
+        ensures err { OnErr result (self.new ≡ self.old) }
+    {
+        self.contents.put_all(changes)?;
+        self.bytes = bytes;
+        Ok(())
+    }
+
+    // Makes the changes, which make this many more documents, if there is room.
+    fn make_if_room(&mut self, changes: &Changes, more: usize, room: u64) -> Result<(), OpFault>
+        requires fit { AreFor self.old.rows changes.now }
+        requires grows { length (after self.old.rows changes.now) ≡ length self.old.rows + more }
+        ensures gives { Gives (λ u. self.new.rows) result (if is_full (after self.old.rows changes.now) changes.now room then Err Full else Ok (after self.old.rows changes.now)) }
+        ensures names { self.new.names ≡ self.old.names }
+        ensures err { OnErr result (self.new ≡ self.old) }
+    {
+        self.contents.known();
+        let documents = self.contents.len().saturating_add(more);
+        let bytes = self.bytes_after(changes);
+        if documents > MAX_DOCUMENTS || bytes > MAX_BYTES || new_bytes(changes) > room {
+            return Err(OpFault::Full);
+        }
+        Ok(self.make(changes, bytes)?)
+    }
+
+    fn remove(&mut self, collection: &Text, selector: &Selector) -> Result<Reply, OpFault>
+        ensures gives { Gives (λ reply. applied_as self.new.rows reply) result (if_listed self.old.names collection.now (Ok (done self.old.rows (remove_plan (matching collection.now selector.now self.old.rows))))) }
+        ensures names { self.new.names ≡ self.old.names }
+        ensures refused { OnErr result (self.new ≡ self.old) }
+    {
+        let reply = self.planned_removal(collection, selector)?;
+        let bytes = self.bytes_after(&reply.changes);
+        self.make(&reply.changes, bytes)?;
+        Ok(reply)
+    }
+
+    /// Carries the operation out, if it isn't refused: its new documents may have as many bytes as
+    /// `room` says. Where the selector names an id it looks at the document with this id alone, and
+    /// else at those of the collection.
+    pub fn apply(&mut self, op: &Op, room: u64) -> Result<Reply, OpFault>
+        ensures gives { Gives (λ reply. applied_as self.new.rows reply) result (applied self.old.names self.old.rows op.now room) }
+        ensures names { self.new.names ≡ self.old.names }
+        ensures refused { OnErr result (self.new ≡ self.old) }
+    {
+        match op {
+            Op::Insert {
+                collection,
+                id,
+                doc,
+            } => {
+                let reply = self.planned_insert(collection, id, doc)?;
+                self.make_if_room(&reply.changes, 1, room)?;
+                Ok(reply)
+            }
+            Op::Update {
+                collection,
+                selector,
+                modifier,
+                all,
+            } => {
+                let reply = self.planned_update(collection, selector, modifier, *all)?;
+                self.make_if_room(&reply.changes, 0, room)?;
+                Ok(reply)
+            }
+            Op::Remove {
+                collection,
+                selector,
+            } => self.remove(collection, selector),
+        }
+    }
+}
