@@ -133,6 +133,8 @@ mod tests {
 {"u.x":{"$all":[1]}} => false
 {"u.x":{"$all":[null]}} => true
 {"w":{"$type":"point","$value":{"x":1}}} => true
+{"w.$value":{"x":1}} => false
+{"u.$value":{"x":1}} => false
 {"w":{"$all":[2,{"$type":"point","$value":{"x":1}}]}} => true
 {"w":{"$elemMatch":{"x":1}}} => false
 {"w":{"$elemMatch":{"$eq":{"$type":"point","$value":{"x":1}}}}} => true
