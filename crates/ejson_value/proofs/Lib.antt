@@ -3,3 +3,4 @@ pub mod PutAll
 pub mod Branching
 pub mod Ranges
 pub mod Places
+pub mod Moves

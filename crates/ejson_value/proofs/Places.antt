@@ -22,7 +22,7 @@ use Rattle.value_model.specs.Doc.{get, put, remove}
 use Rattle.value_model.specs.Valid.{IsValue, IsDocument}
 use Rattle.value_model.specs.ValidLaws.{HaveValues-put, HaveValues-remove}
 use Rattle.ejson_value.specs.Key.{name_order}
-use Rattle.ejson_value.specs.declared.value.Member.{Member}
+use Rattle.ejson_value.specs.declared.row.Member.{Member}
 use Rattle.ejson_value.specs.View.{view, pairs, entries}
 use Rattle.ejson_value.specs.Places.{name_at, IsBelow, IsGapFor}
 

@@ -1,16 +1,20 @@
 -- The parts of a value lie less deep than the value.
-use Rattle.std.specs.Prelude.{suc, ◌≤◌, List, [], ◌∷◌}
+use Rattle.std.specs.Prelude.{ℕ, ◌+◌, ◌*◌, ◌≤◌, List, [], ◌∷◌}
 use Rattle.std.proofs.Common.{arith}
+use Rattle.std.specs.BTreeMap.{BTreeMap, values}
+use Rattle.std.specs.Map.{values_of}
 use denote.Param.Weighed.{most}
 use Rattle.value_model.specs.Val.{vals_of, fields_of}
 use Rattle.value_model.specs.Depth.{depth, vals_depth, fields_depth}
 use Rattle.ejson_value.specs.declared.value.Value.{Value}
 use Rattle.ejson_value.specs.declared.value.Value.TheVariants as shape
-use Rattle.ejson_value.specs.declared.value.Member.{Member}
-use Rattle.ejson_value.specs.declared.value.Boxed.TheDeep.{deep-Value, deep-Member}
-use Rattle.ejson_value.specs.View.{view, views, pairs, entries}
+use Rattle.ejson_value.specs.declared.row.Member.{Member}
+use Rattle.ejson_value.specs.declared.value.Members.{Members}
+use Rattle.ejson_value.specs.declared.value.Members.TheVariants as members
+use Rattle.ejson_value.specs.declared.row.Row.TheDeep.{deep-Value, deep-Member, deep-Members}
+use Rattle.ejson_value.specs.View.{view, views, pairs, entries, held_fields}
 
-pub deep_le : (v : Value) → deep-Value v ≤ suc (depth (view v))
+pub deep_le : (v : Value) → deep-Value v ≤ 2 * depth (view v) + 1
 deep_le shape.Null = omega arith
 deep_le (shape.Bool b) = omega arith
 deep_le (shape.Int z) = omega arith
@@ -21,10 +25,24 @@ deep_le (shape.List vs) = omega arith
 deep_le (shape.Object es) = omega arith
 deep_le (shape.User name v) = omega arith
 
-pub most_le-depth : (vs : List Value) → most (λ v. deep-Value v) vs ≤ suc (vals_depth (vals_of (views vs)))
+pub most_le-depth : (vs : List Value) → most (λ v. deep-Value v) vs ≤ 2 * vals_depth (vals_of (views vs)) + 1
 most_le-depth [] = omega arith
 most_le-depth (v ∷ vs) = omega (arith, deep_le v, most_le-depth vs)
 
-pub most_le-fields_depth : (ms : List Member) → most (λ m. deep-Member m) ms ≤ suc (fields_depth (fields_of (entries (pairs ms))))
-most_le-fields_depth [] = omega arith
-most_le-fields_depth (m ∷ ms) = omega (arith, deep_le m.value, most_le-fields_depth ms)
+-- the fields of a row
+pub most_le-row : (ms : List Member) → most (λ m. deep-Member m) ms ≤ 2 * fields_depth (fields_of (entries (pairs ms))) + 1
+most_le-row [] = omega arith
+most_le-row (m ∷ ms) = omega (arith, deep_le m.value, most_le-row ms)
+
+most_le_entries : (es : List (List ℕ × Value)) → most deep-Value (values_of es) ≤ 2 * fields_depth (fields_of (entries es)) + 1
+most_le_entries [] = omega arith
+most_le_entries (e ∷ es) = omega (arith, deep_le e.1, most_le_entries es)
+
+-- the fields of a table
+pub most_le-table : (m : BTreeMap (List ℕ) Value) → most deep-Value (values m) ≤ 2 * fields_depth (fields_of (entries m.entries)) + 1
+most_le-table m = most_le_entries m.entries
+
+-- the row or the table of a document
+pub members_le : (ms : Members) → deep-Members ms ≤ 2 * fields_depth (fields_of (held_fields ms)) + 2
+members_le (members.Few es) = omega arith
+members_le (members.Many es) = omega arith

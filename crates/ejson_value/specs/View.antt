@@ -3,7 +3,12 @@ use Rattle.std.specs.Prelude.{ℕ, List, map}
 use Rattle.value_model.specs.Val.{Val, Entries, null, boolean, int, text, date, bytes, list, object, user, vals_of, fields_of}
 use Rattle.ejson_value.specs.declared.value.Value.{Value}
 use Rattle.ejson_value.specs.declared.value.Value.TheVariants as shape
-use Rattle.ejson_value.specs.declared.value.Member.{Member}
+use Rattle.std.specs.Slice.Iter.{iter_rest}
+use Rattle.ejson_value.specs.declared.row.Member.{Member}
+use Rattle.ejson_value.specs.declared.value.Members.{Members}
+use Rattle.ejson_value.specs.declared.value.Members.TheVariants as members
+use Rattle.ejson_value.specs.declared.value.Walk.{Walk}
+use Rattle.ejson_value.specs.declared.value.Walk.TheVariants as walk
 
 abbrev pub view : Value → Val
 view shape.Null = null
@@ -19,9 +24,19 @@ view (shape.User name v) = user name v
 abbrev pub views : List Value → List Val
 views vs = map view vs
 
--- the fields of a document as the program holds them
+-- the fields of a document, whichever way they are held
+abbrev pub held_fields : Members → Entries
+held_fields (members.Few es) = es
+held_fields (members.Many es) = es
+
+-- the fields of a row as the program holds them
 abbrev pub pairs : List Member → List (List ℕ × Value)
 pairs ms = map (λ m. (m.name, m.value)) ms
 
 abbrev pub entries : List (List ℕ × Value) → Entries
 entries es = map (λ e. (e.0, view e.1)) es
+
+-- the fields that a walk has yet to pass
+abbrev pub left : Walk → List (List ℕ × Value)
+left (walk.Few it) = pairs (iter_rest it)
+left (walk.Many es) = es

@@ -1,9 +1,7 @@
 //! Values, lists of values and documents.
-ghost use Rattle.std.specs.Prelude.{◌≡◌, ◌∷◌, ◌++◌, ◌==◌, ◌<◌, [], length, map, Some, option_map, slice_get, slice_set, IfOk, IfErr, OnOk, OnErr, IsTrue};
+ghost use Rattle.std.specs.Prelude.{◌≡◌, ◌∷◌, ◌++◌, ◌==◌, ◌<◌, [], length, map, Some, option_map, slice_get, slice_set, IfOk, OnOk, OnErr};
 ghost use Rattle.std.specs.List.{remove as remove_item};
-ghost use Rattle.std.specs.List.Sorted.{IsStrictlySortedBy, IsSearchInRange};
-ghost use Rattle.map_model.specs.Orders.{IsAbove};
-ghost use Rattle.ejson_value.specs.Places.{name_at, IsGapFor};
+ghost use Rattle.std.specs.List.Sorted.{IsStrictlySortedBy};
 ghost use Rattle.std.specs.Map.{keys_of};
 ghost use Rattle.value_model.specs.Val.{vals_of, fields_of};
 ghost use Rattle.value_model.specs.Valid.{IsValue, AreValues, IsDocument};
@@ -13,14 +11,16 @@ ghost use Rattle.ejson_value.specs.View.{view, views, entries};
 
 use crate::bytes::Bytes;
 use crate::memory::Mem;
+use crate::row::{Member, Row};
+use crate::table::Table;
 use crate::text::Text;
 use crate::user::UserName;
 use crate::whole::Whole;
 use std::alloc::Global;
+use std::collections::btree_map;
 use std::iter::Iterator;
 use std::marker::Model;
-use std::mem;
-use std::slice::Iter;
+use std::{mem, slice};
 
 /// A value of EJSON (the appendix on EJSON of Meteor's DDP.md). A contract sees it by `view`.
 #[derive(Debug, Drop)]
@@ -54,29 +54,37 @@ pub struct Items {
 }
 
 /// A document: a finite map from names to values. A contract sees its pairs by rising name.
-#[derive(Debug, Drop)]
+#[derive(Debug)]
 #[cycle(value)]
 pub struct Doc {
-    // By rising name.
-    fields: Vec<Member>,
+    fields: Members,
 }
 
-// One field of a document.
+// The most fields that stand in a row.
+const MAX_ROW: usize = 64;
+
+// The fields of a document: a row while they are few, for good a table once there were more.
 #[derive(Debug, Drop)]
 #[cycle(value)]
-struct Member {
-    name: Text,
-    value: Value,
+enum Members {
+    Few(Row),
+    Many(Table),
 }
 
 /// The fields of a document by rising name, one after another. A contract sees those that are left.
 #[derive(Drop)]
 pub struct Fields<'a> {
-    members: Iter<'a, Member>,
+    walk: Walk<'a>,
+}
+
+#[derive(Drop)]
+enum Walk<'a> {
+    Few(slice::Iter<'a, Member>),
+    Many(btree_map::Iter<'a, Text, Value>),
 }
 
 impl Model for Boxed {
-    ghost use Rattle.std.specs.Prelude.{suc};
+    ghost use Rattle.std.specs.Prelude.{◌+◌, ◌*◌};
     ghost use Rattle.std.proofs.Common.{arith};
     ghost use Rattle.value_model.specs.Val.{Val};
     ghost use Rattle.value_model.specs.Coding.{val_code};
@@ -93,7 +101,7 @@ impl Model for Boxed {
 
     ghost invariant = { λ a. IsValue (seen_as a.inner.value) };
 
-    ghost size = { λ v. suc (depth v) };
+    ghost size = { λ v. 2 * depth v + 1 };
 
     ghost use Rattle.ejson_value.specs.Falls.{deep_le};
 
@@ -101,7 +109,7 @@ impl Model for Boxed {
 }
 
 impl Model for Items {
-    ghost use Rattle.std.specs.Prelude.{List, suc};
+    ghost use Rattle.std.specs.Prelude.{◌+◌, ◌*◌, List};
     ghost use Rattle.std.specs.Coded.{coded_list};
     ghost use Rattle.std.proofs.Common.{arith};
     ghost use Rattle.value_model.specs.Val.{Val, vals_of};
@@ -119,7 +127,7 @@ impl Model for Items {
 
     ghost invariant = { λ a. AreValues (vals_of (views a.items.items)) };
 
-    ghost size = { λ vs. suc (vals_depth (vals_of vs)) };
+    ghost size = { λ vs. 2 * vals_depth (vals_of vs) + 1 };
 
     ghost use Rattle.ejson_value.specs.Falls.{most_le-depth};
 
@@ -127,7 +135,7 @@ impl Model for Items {
 }
 
 impl Model for Doc {
-    ghost use Rattle.std.specs.Prelude.{suc};
+    ghost use Rattle.std.specs.Prelude.{◌+◌, ◌*◌};
     ghost use Rattle.std.proofs.Common.{arith};
     ghost use Rattle.value_model.specs.Val.{Entries, fields_of};
     ghost use Rattle.value_model.specs.Coding.{entries_code};
@@ -138,17 +146,17 @@ impl Model for Doc {
 
     ghost use Rattle.value_model.specs.Depth.{fields_depth};
     ghost use Rattle.value_model.specs.Valid.{IsDocument};
-    ghost use Rattle.ejson_value.specs.View.{entries, pairs};
+    ghost use Rattle.ejson_value.specs.View.{held_fields};
 
-    ghost view = { λ a. entries (pairs a.fields.items) };
+    ghost view = { λ a. held_fields a.fields };
 
-    ghost invariant = { λ a. IsDocument (entries (pairs a.fields.items)) };
+    ghost invariant = { λ a. IsDocument (held_fields a.fields) };
 
-    ghost size = { λ es. suc (fields_depth (fields_of es)) };
+    ghost size = { λ es. 2 * fields_depth (fields_of es) + 2 };
 
-    ghost use Rattle.ejson_value.specs.Falls.{most_le-fields_depth};
+    ghost use Rattle.ejson_value.specs.Falls.{members_le};
 
-    ghost size_decreases = { λ a h. Prim.omega (arith, most_le-fields_depth a.fields.items) };
+    ghost size_decreases = { λ a h. Prim.omega (arith, members_le a.fields) };
 }
 
 impl<'a> Model for Fields<'a> {
@@ -158,10 +166,9 @@ impl<'a> Model for Fields<'a> {
 
     ghost coded = { pairs_code };
 
-    ghost use Rattle.std.specs.Slice.Iter.{iter_rest};
-    ghost use Rattle.ejson_value.specs.View.{pairs};
+    ghost use Rattle.ejson_value.specs.View.{left};
 
-    ghost view = { λ a. pairs (iter_rest a.members) };
+    ghost view = { λ a. left a.walk };
 }
 
 impl<'a> Iterator for Fields<'a> {
@@ -176,10 +183,22 @@ impl<'a> Iterator for Fields<'a> {
     ghost remaining = { λ s. at_most (length s) };
 
     fn next(&mut self) -> Option<(&'a Text, &'a Value)> {
-        match self.members.next() {
-            None => None,
-            Some(member) => Some((&member.name, &member.value)),
+        match &mut self.walk {
+            Walk::Few(members) => {
+                let member = members.next()?;
+                Some((&member.name, &member.value))
+            }
+            Walk::Many(fields) => fields.next(),
         }
+    }
+}
+
+// By a call, so that no walk of the borrow checker splits where a document is dropped.
+impl Drop for Doc {
+    #[cycle(value)]
+    fn drop(self) {
+        let Doc { fields } = self;
+        drop(fields);
     }
 }
 
@@ -321,16 +340,19 @@ impl Doc {
         ensures { result ≡ [] }
     {
         Doc {
-            fields: Vec::new(alloc),
+            fields: Members::Few(Row::new(alloc)),
         }
     }
 
-    // An empty document of the same allocator, with room for as many fields as this one has.
+    // An empty document of the same allocator, of the same kind, and with room for as many fields as a row has.
     pub(crate) fn emptied(&self) -> Result<Doc, Mem>
         ensures { IfOk result (λ doc. doc ≡ []) }
     {
         Ok(Doc {
-            fields: Vec::with_capacity(*self.fields.allocator(), self.fields.len())?,
+            fields: match &self.fields {
+                Members::Few(row) => Members::Few(row.emptied()?),
+                Members::Many(table) => Members::Many(table.emptied()?),
+            },
         })
     }
 
@@ -338,55 +360,44 @@ impl Doc {
     pub fn len(&self) -> usize
         ensures { result ≡ length self.now }
     {
-        self.fields.len()
+        match &self.fields {
+            Members::Few(row) => row.len(),
+            Members::Many(table) => table.len(),
+        }
     }
 
     /// Whether it has none.
     pub fn is_empty(&self) -> bool
         ensures { result ≡ (length self.now == 0) }
     {
-        self.fields.is_empty()
+        self.len() == 0
     }
 
     /// The value of the field of this name.
     pub fn get(&self, name: &Text) -> Option<&Value>
         ensures { option_map (λ v. view v.now) result ≡ get self.now name.now }
     {
-        match self.place(name) {
-            Ok(place) => Some(&self.fields[place].value),
-            Err(_) => None,
+        match &self.fields {
+            Members::Few(row) => row.get(name),
+            Members::Many(table) => table.get(name),
         }
     }
 
-    // Whether the name is behind all names of the document.
-    fn is_behind(&self, name: &Text) -> bool
-        ensures { IsTrue result → IsAbove text_cmp name.now (keys_of self.now) }
-    {
-        match self.fields.last() {
-            None => true,
-            Some(last) => last.name < *name,
+    // Whether the fields stand in a row that is full and lacks this one.
+    fn has_full_row(&self, name: &Text) -> bool {
+        match &self.fields {
+            Members::Few(row) => row.len() >= MAX_ROW && row.place(name).is_err(),
+            Members::Many(_) => false,
         }
     }
 
-    // Where the field of this name stands, or else where it would.
-    fn place(&self, name: &Text) -> Result<usize, usize>
-        ensures bound { IsSearchInRange result (length self.now) }
-        ensures found { IfOk result (λ place. name_at self.now place ≡ Some name.now) }
-        ensures gap { IfErr result (IsGapFor self.now name.now) }
-    {
-        if self.is_behind(name) {
-            return Err(self.fields.len());
-        }
-        self.fields.binary_search_by(|member| member.name.cmp(name))
-    }
-
-    // Makes room for one more field, where there is none for twice as many.
-    fn make_room(&mut self) -> Result<(), Mem>
+    // Moves the fields from a row into a table.
+    fn make_table(&mut self) -> Result<(), Mem>
         ensures { self.new ≡ self.old }
     {
-        let len = self.fields.len();
-        if len == self.fields.capacity() {
-            self.fields.reserve_exact(len.max(1))?;
+        if let Members::Few(row) = &mut self.fields {
+            let table = Table::of(row)?;
+            self.fields = Members::Many(table);
         }
         Ok(())
     }
@@ -396,45 +407,21 @@ impl Doc {
         ensures ok { OnOk result (self.new ≡ put self.old name (view value)) }
         ensures err { OnErr result (self.new ≡ self.old) }
     {
-        let place = self.place(&name);
-        self.put_at(place, Member { name, value })
-    }
-
-    // Puts the field where its name stands, or at the gap for it.
-    fn put_at(&mut self, place: Result<usize, usize>, member: Member) -> Result<(), Mem>
-        requires found { IfOk place (λ place. name_at self.old place ≡ Some member.name) }
-        requires gap { IfErr place (IsGapFor self.old member.name) }
-        ensures ok { OnOk result (self.new ≡ put self.old member.name (view member.value)) }
-        ensures err { OnErr result (self.new ≡ self.old) }
-    {
-        match place {
-            Ok(place) => {
-                self.write_at(place, member);
-                Ok(())
-            }
-            Err(place) => self.insert_at(place, member),
+        if self.has_full_row(&name) {
+            self.make_table()?;
         }
-    }
-
-    // Puts the field in place of that of the same name, which stands at this place.
-    fn write_at(&mut self, place: usize, member: Member)
-        requires { name_at self.old place ≡ Some member.name }
-        ensures { self.new ≡ put self.old member.name (view member.value) }
-    {
-        member.value.known();
-        drop(mem::replace(&mut self.fields[place], member));
-    }
-
-    // Puts a new field at the gap for it.
-    fn insert_at(&mut self, place: usize, member: Member) -> Result<(), Mem>
-        requires { IsGapFor self.old member.name place }
-        ensures ok { OnOk result (self.new ≡ put self.old member.name (view member.value)) }
-        ensures err { OnErr result (self.new ≡ self.old) }
-    {
-        member.value.known();
-        self.make_room()?;
-        self.fields.insert(place, member)?;
-        Ok(())
+        match &mut self.fields {
+            Members::Few(row) => {
+                let put = row.put(name, value);
+                row.known();
+                put
+            }
+            Members::Many(table) => {
+                let put = table.put(name, value);
+                table.known();
+                put
+            }
+        }
     }
 
     /// Takes the field of this name out.
@@ -442,13 +429,9 @@ impl Doc {
         ensures value { option_map view result ≡ get self.old name.now }
         ensures removed { self.new ≡ remove self.old name.now }
     {
-        match self.place(name) {
-            Ok(place) => {
-                let Member { name, value } = self.fields.remove(place);
-                drop(name);
-                Some(value)
-            }
-            Err(_) => None,
+        match &mut self.fields {
+            Members::Few(row) => row.remove(name),
+            Members::Many(table) => table.remove(name),
         }
     }
 
@@ -458,7 +441,10 @@ impl Doc {
         ensures ordered { IsStrictlySortedBy text_cmp (keys_of result) }
     {
         Fields {
-            members: self.fields.iter(),
+            walk: match &self.fields {
+                Members::Few(row) => Walk::Few(row.iter()),
+                Members::Many(table) => Walk::Many(table.iter()),
+            },
         }
     }
 
@@ -466,6 +452,9 @@ impl Doc {
     pub fn known(&self)
         ensures { IsDocument self.now }
     {
-        let _ = &self.fields;
+        match &self.fields {
+            Members::Few(row) => row.known(),
+            Members::Many(table) => table.known(),
+        }
     }
 }

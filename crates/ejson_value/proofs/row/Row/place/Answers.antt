@@ -1,9 +1,9 @@
-use Rattle.ejson_value.specs.declared.value.Member.{Member}
+use Rattle.ejson_value.specs.declared.row.Member.{Member}
 use Rattle.std.proofs.Common.{rules}
 use Rattle.std.proofs.lemmas.Fn.{always_returns_same}
 use Rattle.value_model.specs.Order.{text_cmp}
 use Rattle.ejson_value.proofs.Places.{searched}
-use Rattle.ejson_value.proofs.value.Doc.place.Goals as goal
+use Rattle.ejson_value.proofs.row.Row.place.Goals as goal
 
 pub returns-clause-found : goal.returns-clause-found
 returns-clause-found c =
