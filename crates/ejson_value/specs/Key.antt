@@ -16,6 +16,10 @@ use Rattle.ejson_value.specs.declared.key.Key.{Key}
 pub name_order : IsKeyOrder text_cmp
 name_order = record { total = nat_list_cmp_total; exact = exact_bytes }
 
+-- the key of the document of this collection with this id
+abbrev pub key_of : List ℕ → List ℕ → Key
+key_of collection id = record { collection = collection; id = id }
+
 abbrev pub key_cmp : Key → Key → Ordering
 key_cmp a b = ordering_then (text_cmp a.collection b.collection) (text_cmp a.id b.id)
 

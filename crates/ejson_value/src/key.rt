@@ -1,5 +1,6 @@
 //! Keys of documents.
 ghost use Rattle.std.specs.Prelude.{◌≡◌, IfOk};
+ghost use Rattle.ejson_value.specs.Key.{key_of};
 
 use crate::list::Copied;
 use crate::memory::Mem;
@@ -15,6 +16,16 @@ pub struct Key {
 }
 
 impl Key {
+    /// The key of the document of this collection with this id.
+    pub fn of(collection: &Text, id: &Text) -> Result<Key, Mem>
+        ensures { IfOk result (λ key. key ≡ key_of collection.now id.now) }
+    {
+        Ok(Key {
+            collection: collection.copy()?,
+            id: id.copy()?,
+        })
+    }
+
     /// A key equal to this one.
     pub fn copy(&self) -> Result<Key, Mem>
         ensures { IfOk result (λ k. k ≡ self.now) }

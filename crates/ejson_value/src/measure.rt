@@ -1,7 +1,7 @@
 //! How large and how deep values are.
 ghost use Rattle.std.specs.Prelude.{◌≡◌, ◌∷◌, [], ◌+◌, ◌≤◌, length, decimal};
 ghost use Rattle.std.specs.Fmt.{signed_decimal};
-ghost use Rattle.value_model.specs.Val.{vals_of, fields_of};
+ghost use Rattle.value_model.specs.Val.{object, vals_of, fields_of};
 ghost use Rattle.value_model.specs.Depth.{depth, vals_depth, fields_depth};
 ghost use Rattle.value_model.specs.Size.{has_short_escape, escape_size, text_size, binary_wrapper, user_wrapper, base64_size, is_special, names_of, size, vals_size, fields_size};
 ghost use Rattle.ejson_value.specs.View.{view};
@@ -61,7 +61,8 @@ fn escape_size(byte: u8) -> u64
     }
 }
 
-fn text_size(text: &Text) -> u64
+/// How many bytes the text has as JSON, with its quotes and escapes, 2^64 - 1 where it has more.
+pub fn text_size(text: &Text) -> u64
     ensures { result ≡ capped (text_size text.now) }
 {
     let mut total = 2u64;
@@ -124,14 +125,7 @@ pub fn size(value: &Value) -> u64
         Value::Date(moment) => 10 + whole_size(moment),
         Value::Bytes(bytes) => binary_size(bytes.as_slice()),
         Value::List(items) => items_size(items).saturating_add(1).max(2),
-        Value::Object(doc) => {
-            let inside = fields_size(doc).saturating_add(1).max(2);
-            if doc.has_special_names() {
-                inside.saturating_add(12)
-            } else {
-                inside
-            }
-        }
+        Value::Object(doc) => document_size(doc),
         Value::User { name, value } => user_size(name, value),
     }
 }
@@ -156,6 +150,19 @@ fn items_size(items: &Items) -> u64
     total
 }
 
+/// How many bytes the document's EJSON text has, 2^64 - 1 where it has more.
+#[cycle(measuring)]
+pub fn document_size(doc: &Doc) -> u64
+    ensures { result ≡ capped (size (object (fields_of doc.now))) }
+{
+    let inside = fields_size(doc).saturating_add(1).max(2);
+    if doc.has_special_names() {
+        inside.saturating_add(12)
+    } else {
+        inside
+    }
+}
+
 #[cycle(measuring)]
 fn fields_size(doc: &Doc) -> u64
     ensures { result ≡ capped (fields_size (fields_of doc.now)) }
@@ -178,7 +185,7 @@ pub fn depth(value: &Value) -> u64
 {
     match value {
         Value::List(items) => items_depth(items).saturating_add(1),
-        Value::Object(doc) => fields_depth(doc).saturating_add(1),
+        Value::Object(doc) => document_depth(doc),
         Value::User { value, .. } => depth(value.get()).saturating_add(1),
         _ => 0,
     }
@@ -193,6 +200,14 @@ fn items_depth(items: &Items) -> u64
         deepest = depth(item).max(deepest);
     }
     deepest
+}
+
+/// How deep lists, objects and values of user types stand in the document, itself included, 2^64 - 1 where it is more.
+#[cycle(depth)]
+pub fn document_depth(doc: &Doc) -> u64
+    ensures { result ≡ capped (depth (object (fields_of doc.now))) }
+{
+    fields_depth(doc).saturating_add(1)
 }
 
 #[cycle(depth)]

@@ -1,8 +1,8 @@
 //! The order of values.
 ghost use Rattle.std.specs.Prelude.{◌≡◌, ◌↔◌, length, IsTrue};
-ghost use Rattle.std.specs.Ordering.{nat_cmp, ordering_then};
+ghost use Rattle.std.specs.Ordering.{nat_cmp, ordering_then, is_eq};
 ghost use Rattle.std.specs.Cmp.Lexicographic.{slice_cmp};
-ghost use Rattle.value_model.specs.Val.{vals_of, fields_of};
+ghost use Rattle.value_model.specs.Val.{object, vals_of, fields_of};
 ghost use Rattle.value_model.specs.Order.{kind, compare, vals_cmp, fields_cmp};
 ghost use Rattle.ejson_value.specs.View.{view};
 
@@ -115,4 +115,12 @@ pub fn same(a: &Value, b: &Value) -> bool
     ensures { IsTrue result ↔ (view a.now ≡ view b.now) }
 {
     compare(a, b).is_eq()
+}
+
+/// Whether the two documents are equal.
+pub fn same_documents(a: &Doc, b: &Doc) -> bool
+    ensures order { result ≡ is_eq (compare (object (fields_of a.now)) (object (fields_of b.now))) }
+    ensures equal { IsTrue result ↔ (a.now ≡ b.now) }
+{
+    compare_docs(a, b).is_eq()
 }

@@ -7,13 +7,16 @@ use Rattle.ejson_value.specs.Measure.{capped}
 use Rattle.ejson_value.proofs.measure.+depth.Given as goal
 
 abbrev pub decreases-depth : goal.decreases-depth
-decreases-depth l = 2 * depth (view l.value.now)
+decreases-depth l = 3 * depth (view l.value.now)
+
+abbrev pub decreases-document_depth : goal.decreases-document_depth
+decreases-document_depth l = 3 * fields_depth (fields_of l.doc.now) + 2
 
 abbrev pub decreases-fields_depth : goal.decreases-fields_depth
-decreases-fields_depth l = 2 * fields_depth (fields_of l.doc.now) + 1
+decreases-fields_depth l = 3 * fields_depth (fields_of l.doc.now) + 1
 
 abbrev pub decreases-items_depth : goal.decreases-items_depth
-decreases-items_depth l = 2 * vals_depth (vals_of l.items.now) + 1
+decreases-items_depth l = 3 * vals_depth (vals_of l.items.now) + 1
 
 abbrev pub invariant-fields_depth-loop-value : goal.invariant-fields_depth-loop-value
 invariant-fields_depth-loop-value l =

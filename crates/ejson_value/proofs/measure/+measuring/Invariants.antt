@@ -8,16 +8,19 @@ use Rattle.ejson_value.specs.Measure.{capped}
 use Rattle.ejson_value.proofs.measure.+measuring.Given as goal
 
 abbrev pub decreases-size : goal.decreases-size
-decreases-size l = 2 * depth (view l.value.now)
+decreases-size l = 3 * depth (view l.value.now)
+
+abbrev pub decreases-document_size : goal.decreases-document_size
+decreases-document_size l = 3 * fields_depth (fields_of l.doc.now) + 2
 
 abbrev pub decreases-fields_size : goal.decreases-fields_size
-decreases-fields_size l = 2 * fields_depth (fields_of l.doc.now) + 1
+decreases-fields_size l = 3 * fields_depth (fields_of l.doc.now) + 1
 
 abbrev pub decreases-items_size : goal.decreases-items_size
-decreases-items_size l = 2 * vals_depth (vals_of l.items.now) + 1
+decreases-items_size l = 3 * vals_depth (vals_of l.items.now) + 1
 
 abbrev pub decreases-user_size : goal.decreases-user_size
-decreases-user_size l = 2 * depth l.value.now + 1
+decreases-user_size l = 3 * depth l.value.now + 1
 
 abbrev pub invariant-fields_size-loop-name : goal.invariant-fields_size-loop-name
 invariant-fields_size-loop-name l =
