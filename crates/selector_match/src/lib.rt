@@ -4,6 +4,7 @@
 mod asking;
 mod copying;
 mod fault;
+mod holding;
 mod marking;
 mod matching;
 mod named;
@@ -15,6 +16,7 @@ mod selector;
 mod steps;
 
 pub use fault::SelectorFault;
+pub use holding::holds;
 pub use matching::{fits, matches};
 pub use names::{begins_with_dollar, has_operator, has_plain_name};
 pub use selector::{Selector, Test};
