@@ -3,8 +3,7 @@ ghost use Rattle.std.specs.Prelude.{◌≡◌};
 ghost use Rattle.ejson_value.specs.Measure.{capped};
 ghost use Rattle.collection_store.specs.Limits.{size_if, old_bytes, new_bytes};
 
-use crate::documents::document_size;
-use ejson_value::{Changes, Doc};
+use ejson_value::{Changes, Doc, document_size};
 
 fn size_if(doc: &Option<Doc>) -> u64
     ensures { result ≡ capped (size_if doc.now) }

@@ -7,42 +7,14 @@ ghost use Rattle.collection_store.specs.Applied.{key_of, matching, chosen};
 ghost use Rattle.collection_store.specs.Finding.{rows_in, if_held};
 
 use ejson_value::{Contents, Doc, Key, Mem, Text};
-use selector_match::{Selector, Steps, matches};
+use selector_match::{Selector, holds};
 use std::alloc::Global;
-use std::marker::Brand;
-use std::sync::ledger::{Blank, Ledger};
 
 /// A document that a selector holds of, where it stands in the contents, and its key.
 #[derive(Drop)]
 pub(crate) struct Match<'a> {
     pub(crate) key: Key,
     pub(crate) doc: &'a Doc,
-}
-
-fn counted<L: Ledger>(selector: &Selector, id: &Text, doc: &Doc, blank: Blank) -> bool
-    requires name { blank.name ≡ L.name }
-    requires parts { blank.parts ≡ L.parts }
-    requires whole { blank.parts ≡ 1 }
-    ensures { result ≡ holds selector.now id.now doc.now }
-{
-    let mut steps = Steps::<L>::new(blank);
-    matches(selector, id, doc, &mut steps)
-}
-
-fn selector_holds(selector: &Selector, id: &Text, doc: &Doc) -> bool
-    ensures { result ≡ holds selector.now id.now doc.now }
-{
-    counted::<Brand>(selector, id, doc, Blank::new(1))
-}
-
-/// The key of the document with this id.
-pub(crate) fn key_of(collection: &Text, id: &Text) -> Result<Key, Mem>
-    ensures { IfOk result (λ key. key ≡ key_of collection.now id.now) }
-{
-    Ok(Key {
-        collection: collection.copy()?,
-        id: id.copy()?,
-    })
 }
 
 // Puts the document behind the others that were found.
@@ -66,7 +38,7 @@ fn matching_in<'a>(
 {
     let mut found = Vec::new(alloc);
     for (key, doc) in contents.of_collection(collection)? {
-        if selector_holds(selector, &key.id, doc) {
+        if holds(selector, &key.id, doc) {
             push_match(&mut found, key, doc)?;
             if !all {
                 return Ok(found);
@@ -86,10 +58,10 @@ fn matching_named<'a>(
 ) -> Result<Vec<Match<'a>>, Mem>
     ensures { IfOk result (λ found. rows_in found.items ≡ if_held selector.now (key_of collection.now id.now) (at key_cmp contents.now (key_of collection.now id.now))) }
 {
-    let key = key_of(collection, id)?;
+    let key = Key::of(collection, id)?;
     let mut found = Vec::new(alloc);
     if let Some(doc) = contents.get(&key) {
-        if selector_holds(selector, id, doc) {
+        if holds(selector, id, doc) {
             push_match(&mut found, &key, doc)?;
         }
     }

@@ -10,12 +10,14 @@ ghost use Rattle.collection_store.specs.Answered.{plan_of, applied_as, AreFor};
 ghost use Rattle.collection_store.specs.declared.fault.OpFault.TheVariants.{Full};
 
 use crate::changes::{new_bytes, old_bytes};
-use crate::documents::{document_size, is_too_large};
+use crate::documents::is_too_large;
 use crate::fault::OpFault;
-use crate::finding::{key_of, matching};
+use crate::finding::matching;
 use crate::operation::{Op, Reply};
 use crate::updates::{all_removed, all_updated, reply};
-use ejson_value::{Change, Changes, Contents, Doc, Key, Keys, Mem, Names, Text, Value};
+use ejson_value::{
+    Change, Changes, Contents, Doc, Key, Keys, Mem, Names, Text, Value, document_size,
+};
 use modifier_apply::Modifier;
 use selector_match::Selector;
 use std::alloc::Global;
@@ -140,7 +142,7 @@ impl Store {
         if !is_listed(&self.names, collection) {
             return Err(OpFault::NoCollection);
         }
-        let key = key_of(collection, id)?;
+        let key = Key::of(collection, id)?;
         if is_there(&self.contents, &key) {
             return Err(OpFault::Duplicate);
         }

@@ -8,11 +8,11 @@ ghost use Rattle.collection_store.specs.Applied.{by_number, or_refused, updated,
 ghost use Rattle.collection_store.specs.Answered.{plan_of};
 ghost use Rattle.collection_store.specs.Finding.{row_of, rows_in};
 
-use crate::documents::{is_too_large, same_documents};
+use crate::documents::is_too_large;
 use crate::fault::OpFault;
 use crate::finding::Match;
 use crate::operation::Reply;
-use ejson_value::{Change, Changes, Doc, Keys, Mem, Value, Whole};
+use ejson_value::{Change, Changes, Doc, Keys, Mem, Value, Whole, same_documents};
 use modifier_apply::{ApplyFault, Modifier, apply};
 use std::alloc::Global;
 

@@ -1,4 +1,0 @@
-use Rattle.collection_store.proofs.finding.selector_holds.Given as goal
-
-abbrev pub ghosts-counted : goal.ghosts-counted
-ghosts-counted a = record { name = a.blank.name; parts = a.blank.parts }
