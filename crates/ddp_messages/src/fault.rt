@@ -1,20 +1,37 @@
 //! Why a text is no message.
 use ejson_codec::ReadFault;
 use ejson_value::{Mem, Text};
-use thiserror::Error;
+use std::error::Error;
+use std::fmt;
 
 /// Why a text wasn't read as a message.
-#[derive(Debug, PartialEq, Eq, Drop, Error)]
+#[derive(Debug, PartialEq, Eq, Drop)]
 pub enum MsgFault {
     /// The text is no JSON; of a server's text, it is no JSON object.
-    #[error("not JSON")]
     Parse,
     /// The JSON is no message. Its text `msg`, where it has one.
-    #[error("not a message")]
     BadRequest { msg: Option<Text> },
-    #[error("out of memory")]
     Memory,
 }
+
+impl MsgFault {
+    // The fault in words.
+    fn words(&self) -> &'static str {
+        match self {
+            MsgFault::Parse => "not JSON",
+            MsgFault::BadRequest { .. } => "not a message",
+            MsgFault::Memory => "out of memory",
+        }
+    }
+}
+
+impl fmt::Display for MsgFault {
+    fn fmt<W: fmt::Write>(&self, f: &mut fmt::Formatter<W>) -> fmt::Result {
+        f.write_str(self.words())
+    }
+}
+
+impl Error for MsgFault {}
 
 impl From<Mem> for MsgFault {
     ghost use Rattle.std.specs.Prelude.{◌≡◌};

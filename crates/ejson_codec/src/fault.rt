@@ -3,53 +3,102 @@ ghost use Rattle.std.specs.Prelude.{◌≡◌};
 
 use ejson_value::Mem;
 use std::alloc::{AllocError, AllocFailed};
-use thiserror::Error;
+use std::error::Error;
+use std::fmt;
 
 /// Why a JSON tree is no EJSON value of this program: its first fault, in depth-first order.
-#[derive(Clone, Copy, Debug, PartialEq, Eq, Error)]
+#[derive(Clone, Copy, Debug, PartialEq, Eq)]
 pub enum EjsonFault {
     /// A number that isn't whole, or not within ±(2^53 - 1).
-    #[error("a number that isn't whole within 53 bits")]
     BadNumber = 1,
     /// A `$date` that isn't a number.
-    #[error("a $date that isn't a number")]
     BadDate = 2,
     /// A `$binary` that isn't canonical base64 (RFC 4648, section 4).
-    #[error("a $binary that isn't canonical base64")]
     BadBinary = 3,
     /// An `$escape` that isn't an object.
-    #[error("an $escape that isn't an object")]
     BadEscape = 4,
     /// A form of EJSON that no value here has: `$InfNaN` or a regular expression.
-    #[error("a form of EJSON that isn't supported")]
     Unsupported = 5,
     /// A list, an object or a value of a user type at more than 32 levels.
-    #[error("lists, objects and values of user types nest too deep")]
     TooDeep = 6,
     /// A `$type` that isn't a text of 1 to 128 bytes.
-    #[error("a $type that isn't a text of 1 to 128 bytes")]
     BadUser = 7,
 }
 
+impl EjsonFault {
+    // The fault in words.
+    fn words(&self) -> &'static str {
+        match self {
+            EjsonFault::BadNumber => "a number that isn't whole within 53 bits",
+            EjsonFault::BadDate => "a $date that isn't a number",
+            EjsonFault::BadBinary => "a $binary that isn't canonical base64",
+            EjsonFault::BadEscape => "an $escape that isn't an object",
+            EjsonFault::Unsupported => "a form of EJSON that isn't supported",
+            EjsonFault::TooDeep => "lists, objects and values of user types nest too deep",
+            EjsonFault::BadUser => "a $type that isn't a text of 1 to 128 bytes",
+        }
+    }
+}
+
+impl fmt::Display for EjsonFault {
+    fn fmt<W: fmt::Write>(&self, f: &mut fmt::Formatter<W>) -> fmt::Result {
+        f.write_str(self.words())
+    }
+}
+
+impl Error for EjsonFault {}
+
 /// Why a tree wasn't read.
-#[derive(Clone, Copy, Debug, PartialEq, Eq, Error)]
+#[derive(Clone, Copy, Debug, PartialEq, Eq)]
 pub enum ReadFault {
-    #[error("{0}")]
     Ejson(EjsonFault),
-    #[error("out of memory")]
     Memory,
 }
 
+impl ReadFault {
+    // The fault in words.
+    fn words(&self) -> &'static str {
+        match self {
+            ReadFault::Ejson(fault) => fault.words(),
+            ReadFault::Memory => "out of memory",
+        }
+    }
+}
+
+impl fmt::Display for ReadFault {
+    fn fmt<W: fmt::Write>(&self, f: &mut fmt::Formatter<W>) -> fmt::Result {
+        f.write_str(self.words())
+    }
+}
+
+impl Error for ReadFault {}
+
 /// Why a text wasn't read.
-#[derive(Clone, Copy, Debug, PartialEq, Eq, Error)]
+#[derive(Clone, Copy, Debug, PartialEq, Eq)]
 pub enum ParseFault {
-    #[error("not JSON")]
     NotJson,
-    #[error("{0}")]
     Ejson(EjsonFault),
-    #[error("out of memory")]
     Memory,
 }
+
+impl ParseFault {
+    // The fault in words.
+    fn words(&self) -> &'static str {
+        match self {
+            ParseFault::NotJson => "not JSON",
+            ParseFault::Ejson(fault) => fault.words(),
+            ParseFault::Memory => "out of memory",
+        }
+    }
+}
+
+impl fmt::Display for ParseFault {
+    fn fmt<W: fmt::Write>(&self, f: &mut fmt::Formatter<W>) -> fmt::Result {
+        f.write_str(self.words())
+    }
+}
+
+impl Error for ParseFault {}
 
 impl From<Mem> for ReadFault {
     ghost use Rattle.std.specs.Prelude.{◌≡◌};

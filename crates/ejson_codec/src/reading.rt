@@ -107,7 +107,13 @@ fn user_of(alloc: Global, name: UserName, value: Value) -> Result<Value, Mem>
 fn put_field(alloc: Global, doc: &mut Doc, key: &str, value: Value) -> Result<(), Mem>
     ensures { OnOk result (doc.new ≡ put doc.old key.now (view value)) }
 {
-    doc.put(Text::from_str(alloc, key)?, value)
+    match Text::from_str(alloc, key) {
+        Ok(name) => doc.put(name, value),
+        Err(fault) => {
+            drop(value);
+            Err(fault)
+        }
+    }
 }
 
 // A tree, with so many levels left.

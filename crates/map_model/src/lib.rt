@@ -54,22 +54,3 @@ pub fn no_difference<K: Ord, N: Ord, V: Eq>()
     ensures { (a : List (K × List (N × V))) → IsSorted K.cmp a → AreDocs N.cmp K.cmp a →
         diff N.cmp V.eq K.cmp a a ≡ [] }
 {}
-
-#[cfg(test)]
-mod tests {
-    use super::{
-        changes_append, difference_taken, last_change_decides, no_difference, one_difference,
-        same_maps,
-    };
-
-    // Each law holds at numbers.
-    #[test]
-    fn laws_at_numbers() {
-        same_maps::<u64, bool>();
-        changes_append::<u64, bool>();
-        last_change_decides::<u64, bool>();
-        one_difference::<u64, u8, u64>();
-        difference_taken::<u64, u8, u64>();
-        no_difference::<u64, u8, u64>();
-    }
-}

@@ -147,7 +147,7 @@ impl Claims {
     }
 
     /// One more claim, behind all others.
-    fn push(&mut self, sub: u64, value: &Value) -> Result<(), Mem>
+    pub(crate) fn push(&mut self, sub: u64, value: &Value) -> Result<(), Mem>
         ensures ok { OnOk result (self.new ≡ self.old ++ (sub, view value.now) ∷ []) }
         ensures err { OnErr result (self.new ≡ self.old) }
     {
@@ -160,37 +160,51 @@ impl Claims {
         Ok(())
     }
 
-    /// A copy in which the subscription has this value: in its place where it has one, else behind all others.
+    // Puts copies of these claims behind the others, where the subscription has this value: in its
+    // place where it has one, else behind all others.
+    fn give_to(&self, copies: &mut Claims, sub: u64, value: &Value) -> Result<(), Mem>
+        ensures { OnOk result (copies.new ≡ copies.old ++ give self.now sub (view value.now)) }
+    {
+        let Some(claim) = &self.first else {
+            return copies.push(sub, value);
+        };
+        if claim.sub == sub {
+            copies.push(sub, value)?;
+            push_all(copies, self.others.as_slice())
+        } else {
+            copies.push(claim.sub, &claim.value)?;
+            push_given(copies, self.others.as_slice(), sub, value)
+        }
+    }
+
+    // A copy in which the subscription has this value: in its place where it has one, else behind all others.
     fn given(&self, alloc: Global, sub: u64, value: &Value) -> Result<Claims, Mem>
         ensures { IfOk result (λ claims. claims ≡ give self.now sub (view value.now)) }
     {
         let mut copies = Claims::new(alloc);
-        match &self.first {
-            None => copies.push(sub, value)?,
-            Some(claim) => {
-                if claim.sub == sub {
-                    copies.push(sub, value)?;
-                    push_all(&mut copies, self.others.as_slice())?;
-                } else {
-                    copies.push(claim.sub, &claim.value)?;
-                    push_given(&mut copies, self.others.as_slice(), sub, value)?;
-                }
-            }
-        }
+        self.give_to(&mut copies, sub, value)?;
         Ok(copies)
     }
 
-    /// A copy in which the subscription has none.
+    // Puts copies of these claims behind the others, but for those of the subscription.
+    fn others_to(&self, copies: &mut Claims, sub: u64) -> Result<(), Mem>
+        ensures { OnOk result (copies.new ≡ copies.old ++ filter (λ e. not (sub == e.0)) self.now) }
+    {
+        let Some(claim) = &self.first else {
+            return Ok(());
+        };
+        if claim.sub != sub {
+            copies.push(claim.sub, &claim.value)?;
+        }
+        push_without(copies, self.others.as_slice(), sub)
+    }
+
+    // A copy in which the subscription has none.
     fn without(&self, alloc: Global, sub: u64) -> Result<Claims, Mem>
         ensures { IfOk result (λ claims. claims ≡ filter (λ e. not (sub == e.0)) self.now) }
     {
         let mut copies = Claims::new(alloc);
-        if let Some(claim) = &self.first {
-            if claim.sub != sub {
-                copies.push(claim.sub, &claim.value)?;
-            }
-            push_without(&mut copies, self.others.as_slice(), sub)?;
-        }
+        self.others_to(&mut copies, sub)?;
         Ok(copies)
     }
 
@@ -210,13 +224,8 @@ impl Claims {
         }
     }
 
-    /// A copy with what the subscription publishes now, where None is nothing.
-    pub(crate) fn placed(
-        &self,
-        alloc: Global,
-        sub: u64,
-        value: Option<&Value>,
-    ) -> Result<Claims, Mem>
+    // A copy with what the subscription publishes now, where None is nothing.
+    fn placed(&self, alloc: Global, sub: u64, value: Option<&Value>) -> Result<Claims, Mem>
         ensures { IfOk result (λ claims. claims ≡ placed sub (option_map (λ v. view v.now) value.entry) self.now) }
     {
         match value {

@@ -3,11 +3,13 @@ ghost use Rattle.std.specs.Prelude.{◌≡◌, ◌==◌, ◌++◌, ◌∷◌, �
 ghost use Rattle.std.specs.Option.{option_or};
 ghost use Rattle.std.specs.List.{list_any};
 ghost use Rattle.std.specs.Map.{keys_of};
+ghost use Rattle.std.specs.BTreeMap.{insert_entry};
 ghost use Rattle.map_model.specs.Maps.{at, keyed, filter_map_entries};
 ghost use Rattle.map_model.specs.Differences.{is_there};
 ghost use Rattle.merge_model.specs.Kept.{placed, nothing_kept, has, is_empty, merged_fields, first_value};
 ghost use Rattle.std.specs.Ordering.{eq_by_cmp};
 ghost use Rattle.value_model.specs.Order.{text_cmp};
+ghost use Rattle.value_model.specs.Doc.{put};
 ghost use Rattle.ejson_value.specs.View.{view};
 ghost use Rattle.merge_box.specs.State.{is_shared};
 ghost use Rattle.merge_box.specs.Held.{value_in, same_value, put_some, unseen, lost, changed_claims, with_change, IsHeld, IsChange, SameDoc, IsDocGrown, HasPlaces};
@@ -86,20 +88,36 @@ fn value_in<'a>(doc: Option<&'a Doc>, name: &Text) -> Option<&'a Value>
     }
 }
 
-// Puts the claims as those of the field, if there are any.
-fn put_claims(
-    fields: &mut BTreeMap<Text, Claims>,
-    name: &Text,
-    claims: Option<Claims>,
-) -> Result<(), Mem>
-    ensures { OnOk result (fields.new.entries ≡ put_some text_cmp fields.old.entries name.now claims) }
+// Puts copies of the name and of the value.
+fn put_copy(doc: &mut Doc, name: &Text, value: &Value) -> Result<(), Mem>
+    ensures { OnOk result (doc.new ≡ put doc.old name.now (view value.now)) }
 {
-    match claims {
+    doc.put(name.copy()?, copy(value)?)
+}
+
+// Puts the claims as those of the field.
+fn put_claims(fields: &mut BTreeMap<Text, Claims>, name: &Text, claims: Claims) -> Result<(), Mem>
+    ensures { OnOk result (fields.new.entries ≡ insert_entry text_cmp fields.old.entries name.now claims) }
+{
+    drop(fields.insert(name.copy()?, claims)?);
+    Ok(())
+}
+
+// Puts what becomes of the claims on a field, if `sub` changes them.
+fn put_changed(
+    made: &mut BTreeMap<Text, Claims>,
+    alloc: Global,
+    name: &Text,
+    claims: &Claims,
+    sub: u64,
+    value: Option<&Value>,
+) -> Result<(), Mem>
+    ensures { OnOk result (made.new.entries ≡ put_some text_cmp made.old.entries name.now
+        (changed_claims sub (option_map (λ v. view v.now) value.entry) claims.now)) }
+{
+    match claims.changed(alloc, sub, value)? {
         None => Ok(()),
-        Some(claims) => {
-            drop(fields.insert(name.copy()?, claims)?);
-            Ok(())
-        }
+        Some(changed) => put_claims(made, name, changed),
     }
 }
 
@@ -115,10 +133,24 @@ fn fields_after(
 {
     let mut made = BTreeMap::new(alloc);
     for (name, claims) in fields.iter() {
-        let changed = claims.changed(alloc, sub, value_in(doc, name))?;
-        put_claims(&mut made, name, changed)?;
+        put_changed(&mut made, alloc, name, claims, sub, value_in(doc, name))?;
     }
     Ok(made)
+}
+
+// Puts a claim of `sub` alone on the field.
+fn put_first(
+    made: &mut BTreeMap<Text, Claims>,
+    alloc: Global,
+    name: &Text,
+    sub: u64,
+    value: &Value,
+) -> Result<(), Mem>
+    ensures { OnOk result (made.new.entries ≡ insert_entry text_cmp made.old.entries name.now ((sub, view value.now) ∷ [])) }
+{
+    let mut claims = Claims::new(alloc);
+    claims.push(sub, value)?;
+    put_claims(made, name, claims)
 }
 
 // Puts a claim of `sub` on each field of the document that had none.
@@ -135,8 +167,7 @@ fn claim_others(
 {
     for (name, value) in doc.iter() {
         if !fields.contains_key(name) {
-            let claims = Claims::new(alloc).placed(alloc, sub, Some(value))?;
-            drop(made.insert(name.copy()?, claims)?);
+            put_first(made, alloc, name, sub, value)?;
         }
     }
     Ok(())
@@ -200,6 +231,7 @@ fn put_or_clear(fields: &mut BTreeMap<Text, Claims>, name: &Text, claims: Claims
         at text_cmp fields.new.entries f ≡ at text_cmp fields.old.entries f }
 {
     if claims.is_empty() {
+        drop(claims);
         drop(fields.remove(name));
     } else if let Some(place) = fields.get_mut(name) {
         *place = claims;
@@ -301,7 +333,7 @@ impl Held {
         for (name, claims) in self.fields.iter() {
             match claims.first() {
                 None => {}
-                Some(value) => doc.put(name.copy()?, copy(value)?)?,
+                Some(value) => put_copy(&mut doc, name, value)?,
             }
         }
         Ok(doc)
@@ -338,7 +370,7 @@ impl Held {
                 if self.shows(name, value) {
                     Ok(())
                 } else {
-                    doc.put(name.copy()?, copy(value)?)
+                    put_copy(doc, name, value)
                 }
             }
         }

@@ -67,23 +67,3 @@ pub fn merge_looks_back<K: Ord, N: Ord, V>()
     ensures { (past : List (Call K (List (N × V)))) →
         IsMerge K.cmp N.cmp (shown K.cmp past) (shown_since K.cmp N.cmp past) (merge_of K.cmp N.cmp past) }
 {}
-
-#[cfg(test)]
-mod tests {
-    use super::{
-        merge_looks_back, merged_is_merge, no_tie, one_merge, since_is_least, stands_after,
-        stands_idle,
-    };
-
-    // Each law holds at numbers.
-    #[test]
-    fn laws_at_numbers() {
-        one_merge::<u64, u8, bool>();
-        since_is_least::<u64>();
-        no_tie::<u64, u8, bool>();
-        merged_is_merge::<u64, u8, bool>();
-        stands_after::<u64, u8, bool>();
-        stands_idle::<u64, u8, bool>();
-        merge_looks_back::<u64, u8, bool>();
-    }
-}

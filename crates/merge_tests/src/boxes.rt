@@ -251,14 +251,23 @@ fn what_the_client_sees(rt: HostRuntime) -> Result<(), Fail> {
     Ok(())
 }
 
+fn planned(merge: &mut MergeBox, alloc: Global) -> Result<String, Mem> {
+    let plan = merge.plan_drop(1)?;
+    text_of(alloc, plan.messages())
+}
+
+fn carried_out(merge: &mut MergeBox, alloc: Global) -> Result<String, Mem> {
+    let plan = merge.plan_drop(1)?;
+    let messages = merge.commit(plan);
+    text_of(alloc, &messages)
+}
+
 // Plans the end of subscription 1 twice, and carries the second plan out.
 fn planned_twice(merge: &mut MergeBox, alloc: Global) -> Result<String, Mem> {
-    let first = merge.plan_drop(1)?;
-    let mut out = text_of(alloc, first.messages())?;
-    let second = merge.plan_drop(1)?;
-    out.push_str(text_of(alloc, &merge.commit(second))?.as_str())?;
-    out.push_str(shown(merge, alloc, "x")?.as_str())?;
-    Ok(out)
+    let first = planned(merge, alloc)?;
+    let second = carried_out(merge, alloc)?;
+    let left = shown(merge, alloc, "x")?;
+    Ok(format!(in alloc; "{first}{second}{left}")?)
 }
 
 fn planned_text(alloc: Global) -> Result<String, Fail> {

@@ -1,11 +1,12 @@
 //! Texts of messages.
-use crate::texts::{filled, parts};
+use crate::texts::{filled, fits, parts};
 use ddp_messages::{FromClient, FromServer, MsgFault};
 use ejson_value::Text;
 use std::alloc::Global;
 use std::test::Fail;
 
 // Each row: a client's text, and the message that it is, copied and written; or what refuses it, a message's name, `-` where it has none.
+// `@a 9@` stands for nine times the letter: the last rows are at the limits of ids and of levels.
 const CLIENT: &str = r#"{"msg":"connect","support":["1","pre2"],"version":"1"} => same
 {"msg":"connect","support":[],"version":"1"} => same
 {"msg":"connect","version":"1"} => same
@@ -54,6 +55,15 @@ nope => Parse error
 {"id":null,"method":"m","msg":"method"} => method
 {"id":"1","method":"m","msg":"method","params":null} => method
 {"id":"1","method":"m","msg":"method","randomSeed":{"$InfNaN":0}} => method
+{"id":"@a 256@","msg":"unsub"} => same
+{"id":"@a 257@","msg":"unsub"} => unsub
+{"id":"@a 256@","msg":"sub","name":"all","params":[]} => same
+{"id":"@a 257@","msg":"sub","name":"all","params":[]} => sub
+{"id":"@a 256@","method":"m","msg":"method","params":[]} => same
+{"id":"@a 257@","method":"m","msg":"method","params":[]} => method
+{"id":"@a 257@","msg":"ping"} => same
+{"id":"1","msg":"sub","name":"all","params":[@[ 32@@] 32@]} => same
+{"id":"1","msg":"sub","name":"all","params":[@[ 33@@] 33@]} => sub
 "#;
 
 // The same of a server's text.
@@ -115,18 +125,15 @@ nope => Parse error
 {"cleared":{},"collection":"tasks","id":"t1","msg":"changed"} => changed
 {"cleared":null,"collection":"tasks","id":"t1","msg":"changed"} => changed
 {"collection":"tasks","id":"","msg":"removed"} => removed
-"#;
-
-// With `@` for the letters of an id: 256 are read, and 257 refused under this name.
-const CLIENT_IDS: &str = r#"{"id":"@","msg":"unsub"} => unsub
-{"id":"@","msg":"sub","name":"all","params":[]} => sub
-{"id":"@","method":"m","msg":"method","params":[]} => method
-"#;
-
-const SERVER_IDS: &str = r#"{"id":"@","msg":"nosub"} => nosub
-{"id":"@","msg":"result"} => result
-{"msg":"ready","subs":["@"]} => ready
-{"methods":["1","@"],"msg":"updated"} => updated
+{"id":"@a 256@","msg":"nosub"} => same
+{"id":"@a 257@","msg":"nosub"} => nosub
+{"id":"@a 256@","msg":"result"} => same
+{"id":"@a 257@","msg":"result"} => result
+{"msg":"ready","subs":["@a 256@"]} => same
+{"msg":"ready","subs":["@a 257@"]} => ready
+{"methods":["1","@a 256@"],"msg":"updated"} => same
+{"methods":["1","@a 257@"],"msg":"updated"} => updated
+{"collection":"tasks","id":"@a 257@","msg":"removed"} => same
 "#;
 
 // Who sent a text.
@@ -198,86 +205,20 @@ fn answer(alloc: Global, sender: Sender, input: &Text) -> Result<Text, Fail> {
     }
 }
 
-fn is_answer(alloc: Global, sender: Sender, input: &Text, wanted: &str) -> Result<bool, Fail> {
-    Ok(answer(alloc, sender, input)?.as_str() == wanted)
-}
-
 fn is_right(alloc: Global, sender: Sender, row: &str) -> Result<bool, Fail> {
-    let (input, wanted) = parts(row);
-    is_answer(alloc, sender, &Text::from_str(alloc, input)?, wanted)
-}
-
-// Whether the text with so many letters is read, and written as it was.
-fn is_kept(alloc: Global, sender: Sender, text: &str, letters: u16) -> Result<bool, Fail> {
-    let input = filled(alloc, text, "a", letters)?;
-    is_answer(alloc, sender, &input, input.as_str())
-}
-
-fn is_refused(alloc: Global, sender: Sender, text: &str, name: &str) -> Result<bool, Fail> {
-    is_answer(alloc, sender, &filled(alloc, text, "a", 257)?, name)
-}
-
-fn has_limit(alloc: Global, sender: Sender, row: &str) -> Result<bool, Fail> {
-    let (text, name) = parts(row);
-    Ok(is_kept(alloc, sender, text, 256)? && is_refused(alloc, sender, text, name)?)
+    let (text, wanted) = parts(row);
+    let input = filled(alloc, text)?;
+    let given = answer(alloc, sender, &input)?;
+    Ok(fits(&given, &input, wanted))
 }
 
 #[test]
-fn from_clients(rt: HostRuntime) -> Result<(), Fail> {
+fn tables_of_messages(rt: HostRuntime) -> Result<(), Fail> {
     for row in CLIENT.lines() {
         assert!(rt; is_right(rt.alloc(), Sender::Client, row)?, "at {row}");
     }
-    Ok(())
-}
-
-#[test]
-fn from_servers(rt: HostRuntime) -> Result<(), Fail> {
     for row in SERVER.lines() {
         assert!(rt; is_right(rt.alloc(), Sender::Server, row)?, "at {row}");
     }
-    Ok(())
-}
-
-#[test]
-fn ids_with_a_limit(rt: HostRuntime) -> Result<(), Fail> {
-    for row in CLIENT_IDS.lines() {
-        assert!(rt; has_limit(rt.alloc(), Sender::Client, row)?, "at {row}");
-    }
-    for row in SERVER_IDS.lines() {
-        assert!(rt; has_limit(rt.alloc(), Sender::Server, row)?, "at {row}");
-    }
-    Ok(())
-}
-
-#[test]
-fn ids_without_a_limit(rt: HostRuntime) -> Result<(), Fail> {
-    let ping = r#"{"id":"@","msg":"ping"}"#;
-    assert!(rt; is_kept(rt.alloc(), Sender::Client, ping, 257)?);
-    let removed = r#"{"collection":"tasks","id":"@","msg":"removed"}"#;
-    assert!(rt; is_kept(rt.alloc(), Sender::Server, removed, 257)?);
-    Ok(())
-}
-
-// A `sub` with one parameter, of so many lists in one another.
-fn sub_of_lists(alloc: Global, lists: u16) -> Result<Text, Fail> {
-    let head = r#"{"id":"1","msg":"sub","name":"all","params":[@"#;
-    let mut sub = filled(alloc, head, "[", lists)?;
-    sub.push_str(filled(alloc, "@]}", "]", lists)?.as_str())?;
-    Ok(sub)
-}
-
-fn lists_are_kept(alloc: Global, lists: u16) -> Result<bool, Fail> {
-    let input = sub_of_lists(alloc, lists)?;
-    is_answer(alloc, Sender::Client, &input, input.as_str())
-}
-
-fn lists_are_refused(alloc: Global, lists: u16) -> Result<bool, Fail> {
-    is_answer(alloc, Sender::Client, &sub_of_lists(alloc, lists)?, "sub")
-}
-
-#[test]
-fn each_parameter_has_32_levels(rt: HostRuntime) -> Result<(), Fail> {
-    assert!(rt; lists_are_kept(rt.alloc(), 32)?);
-    assert!(rt; lists_are_refused(rt.alloc(), 33)?);
     Ok(())
 }

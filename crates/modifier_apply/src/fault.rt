@@ -4,20 +4,37 @@ ghost use Rattle.modifier_apply.specs.Modified.{refusal_number};
 
 use ejson_value::Mem;
 use std::alloc::{AllocError, AllocFailed};
-use thiserror::Error;
+use std::error::Error;
+use std::fmt;
 
 /// Why a value is no modifier.
-#[derive(Clone, Copy, Debug, PartialEq, Eq, Error)]
+#[derive(Clone, Copy, Debug, PartialEq, Eq)]
 pub enum ModifierFault {
-    #[error("a modifier is an object")]
     NotObject,
-    #[error("unknown operator")]
     UnknownOperator,
-    #[error("an operand of another form")]
     BadOperand,
-    #[error("out of memory")]
     Memory,
 }
+
+impl ModifierFault {
+    // The fault in words.
+    fn words(&self) -> &'static str {
+        match self {
+            ModifierFault::NotObject => "a modifier is an object",
+            ModifierFault::UnknownOperator => "unknown operator",
+            ModifierFault::BadOperand => "an operand of another form",
+            ModifierFault::Memory => "out of memory",
+        }
+    }
+}
+
+impl fmt::Display for ModifierFault {
+    fn fmt<W: fmt::Write>(&self, f: &mut fmt::Formatter<W>) -> fmt::Result {
+        f.write_str(self.words())
+    }
+}
+
+impl Error for ModifierFault {}
 
 impl From<Mem> for ModifierFault {
     ghost use Rattle.std.specs.Prelude.{◌≡◌};
@@ -53,23 +70,39 @@ impl<T: Drop> From<AllocFailed<T>> for ModifierFault {
 }
 
 /// Why a modifier is refused by a document.
-#[derive(Clone, Copy, Debug, PartialEq, Eq, Error)]
+#[derive(Clone, Copy, Debug, PartialEq, Eq)]
 pub enum ApplyFault {
-    #[error("not a number")]
     NotNumber,
-    #[error("not a list")]
     NotArray,
-    #[error("the path can't go on")]
     PathBlocked,
-    #[error("the id can't change")]
     IdChange,
-    #[error("a number out of range")]
     NumberRange,
-    #[error("two changes at one place")]
     Conflict,
-    #[error("out of memory")]
     Memory,
 }
+
+impl ApplyFault {
+    // The fault in words.
+    fn words(&self) -> &'static str {
+        match self {
+            ApplyFault::NotNumber => "not a number",
+            ApplyFault::NotArray => "not a list",
+            ApplyFault::PathBlocked => "the path can't go on",
+            ApplyFault::IdChange => "the id can't change",
+            ApplyFault::NumberRange => "a number out of range",
+            ApplyFault::Conflict => "two changes at one place",
+            ApplyFault::Memory => "out of memory",
+        }
+    }
+}
+
+impl fmt::Display for ApplyFault {
+    fn fmt<W: fmt::Write>(&self, f: &mut fmt::Formatter<W>) -> fmt::Result {
+        f.write_str(self.words())
+    }
+}
+
+impl Error for ApplyFault {}
 
 impl ApplyFault {
     /// The number that tells a client the refusal, from 1 to 6. Want of memory has none.

@@ -1,7 +1,8 @@
 -- Lemmas of loops that ask each element, until one decides.
-use Rattle.std.proofs.Common.{◌≡◌, ℕ, ◌+◌, ◌<◌, ◌≤◌, ◌&&◌, ◌||◌, Bool, true, false, List, [], ◌∷◌, ◌==◌, cond, Option, Some, length, get_or, take, map, refl, ap, sym, ◌∙◌}
+use Rattle.std.proofs.Common.{◌≡◌, ℕ, ◌+◌, ◌<◌, ◌≤◌, ◌&&◌, ◌||◌, ◌++◌, Bool, true, false, suc, List, [], ◌∷◌, ◌==◌, cond, Option, Some, length, get_or, take, drop, map, refl, ap, ap₂, sym, ◌∙◌, arith, append_assoc}
 use Rattle.std.specs.List.{list_any, list_all}
-use Rattle.std.proofs.lemmas.List.{take_all}
+use Rattle.std.proofs.Math.Seq.{drop-cons}
+use Rattle.std.proofs.lemmas.List.{take_all, map-append, append-nil, drop_all}
 use Rattle.std.proofs.lemmas.List.Folds.{list_any_more, list_any_at, list_all_more, list_all_at}
 use Rattle.std.specs.Option.{option_map_or}
 use Rattle.value_model.specs.Val.{Val, Fields, vals_of, list_of}
@@ -89,3 +90,19 @@ any_or p q (x ∷ xs) = by (p x) (q x) (any_or p q xs)
 pub any_either_way : {X Y : Type 0} (test : Y → X → Bool) (xs : List X) (ys : List Y) → list_any (λ x. list_any (λ y. test y x) ys) xs ≡ list_any (λ y. list_any (λ x. test y x) xs) ys
 any_either_way test [] ys = any_none ys
 any_either_way test (x ∷ xs) ys = ap (λ r. list_any (λ y. test y x) ys || r) (any_either_way test xs ys) ∙ any_or (λ y. test y x) (λ y. list_any (λ w. test y w) xs) ys
+
+-- a loop that makes one of each element: what is made so far, and the elements that are left
+next_is : (i : ℕ) → suc i ≡ i + 1
+next_is i = omega arith
+
+module _ {X Y Z : Type 0} (f : X → Y) (g : Z → Y) (xs : List X) (done : List Z) (i : ℕ) where
+  pub one_made : (new : List Z) (x : X) (z : Z) → i < length xs → x ≡ get_or xs i x → new ≡ done ++ z ∷ [] → g z ≡ f x → map f xs ≡ map g done ++ map f (drop i xs) → map f xs ≡ map g new ++ map f (drop (i + 1) xs)
+  one_made new x z h is put same so_far =
+      so_far
+      ∙ ap (λ r. map g done ++ map f r) (drop-cons xs i x h)
+      ∙ ap₂ (λ y n. map g done ++ (y ∷ map f (drop n xs))) (ap f (sym is) ∙ sym same) (next_is i)
+      ∙ sym (append_assoc (map g done) (g z ∷ []) (map f (drop (i + 1) xs)))
+      ∙ ap (λ l. l ++ map f (drop (i + 1) xs)) (sym (ap (λ zs. map g zs) put ∙ map-append g done (z ∷ [])))
+
+  pub all_made : length xs ≤ i → map f xs ≡ map g done ++ map f (drop i xs) → map g done ≡ map f xs
+  all_made h so_far = sym (so_far ∙ ap (λ r. map g done ++ map f r) (drop_all i xs h) ∙ append-nil (map g done))

@@ -1,20 +1,37 @@
 //! Why a value is no selector.
 use ejson_value::Mem;
 use std::alloc::{AllocError, AllocFailed};
-use thiserror::Error;
+use std::error::Error;
+use std::fmt;
 
 /// Why a value is no selector.
-#[derive(Clone, Copy, Debug, PartialEq, Eq, Error)]
+#[derive(Clone, Copy, Debug, PartialEq, Eq)]
 pub enum SelectorFault {
-    #[error("a selector is an object")]
     NotObject,
-    #[error("unknown operator")]
     UnknownOperator,
-    #[error("an operand of another form")]
     BadOperand,
-    #[error("out of memory")]
     Memory,
 }
+
+impl SelectorFault {
+    // The fault in words.
+    fn words(&self) -> &'static str {
+        match self {
+            SelectorFault::NotObject => "a selector is an object",
+            SelectorFault::UnknownOperator => "unknown operator",
+            SelectorFault::BadOperand => "an operand of another form",
+            SelectorFault::Memory => "out of memory",
+        }
+    }
+}
+
+impl fmt::Display for SelectorFault {
+    fn fmt<W: fmt::Write>(&self, f: &mut fmt::Formatter<W>) -> fmt::Result {
+        f.write_str(self.words())
+    }
+}
+
+impl Error for SelectorFault {}
 
 impl From<Mem> for SelectorFault {
     ghost use Rattle.std.specs.Prelude.{◌≡◌};

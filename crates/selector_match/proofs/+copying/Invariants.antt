@@ -1,4 +1,4 @@
-use Rattle.std.proofs.Common.{◌≡◌, ◌+◌, ◌*◌, map, take}
+use Rattle.std.proofs.Common.{◌≡◌, ◌+◌, ◌*◌, ◌++◌, map, drop}
 use Rattle.selector_match.specs.Query.{query_height, clause_height, queries_height, predicates_height, predicate_height, test_height}
 use Rattle.selector_match.specs.View.{clause_view, predicate_view}
 use Rattle.selector_match.proofs.+copying.Given as goal
@@ -22,10 +22,10 @@ abbrev pub decreases-selector::Test::copy : goal.decreases-selector::Test::copy
 decreases-selector::Test::copy l = 4 * test_height l.self.now
 
 abbrev pub invariant-copying::copy_selectors-loop-selector : goal.invariant-copying::copy_selectors-loop-selector
-invariant-copying::copy_selectors-loop-selector l = l.copies.items ≡ take l.selector-index l.selector-items
+invariant-copying::copy_selectors-loop-selector l = l.selector-items ≡ l.copies.items ++ drop l.selector-index l.selector-items
 
 abbrev pub invariant-copying::copy_operators-loop-operator : goal.invariant-copying::copy_operators-loop-operator
-invariant-copying::copy_operators-loop-operator l = map predicate_view l.copies.items ≡ map predicate_view (take l.operator-index l.operator-items)
+invariant-copying::copy_operators-loop-operator l = map predicate_view l.operator-items ≡ map predicate_view l.copies.items ++ map predicate_view (drop l.operator-index l.operator-items)
 
 abbrev pub invariant-selector::Selector::copy-loop-condition : goal.invariant-selector::Selector::copy-loop-condition
-invariant-selector::Selector::copy-loop-condition l = map clause_view l.copies.items ≡ map clause_view (take l.condition-index l.condition-items)
+invariant-selector::Selector::copy-loop-condition l = map clause_view l.condition-items ≡ map clause_view l.copies.items ++ map clause_view (drop l.condition-index l.condition-items)

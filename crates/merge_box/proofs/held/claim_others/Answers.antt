@@ -1,33 +1,30 @@
-use Rattle.std.proofs.Common.{◌∷◌, [], ◌++◌, is_some, Some, refl, ap, sym, subst, ◌∙◌}
+use Rattle.std.proofs.Common.{◌∷◌, [], ◌++◌, is_some, refl, ap, sym, subst, ◌∙◌}
 use Rattle.std.specs.List.Sorted.{IsStrictlySortedBy}
-use Rattle.std.specs.BTreeMap.{insert_entry}
 use Rattle.std.specs.Map.{keys_of}
 use Rattle.map_model.specs.Maps.{at}
 use Rattle.value_model.specs.Order.{text_cmp}
-use Rattle.merge_model.specs.Kept.{placed}
 use Rattle.ejson_value.specs.View.{view, entries}
 use Rattle.ejson_value.specs.Entries.{keys_of-entries}
 use Rattle.merge_box.proofs.Walks.{walk_on}
 use Rattle.merge_box.proofs.KeptAfter.{claim_next, claim_passed, either_same}
 use Rattle.merge_box.proofs.held.claim_others.Goals as goal
 
-pub loop-name-preserved-then-not-contains_key : goal.loop-name-preserved-then-not-contains_key
-loop-name-preserved-then-not-contains_key c =
+pub loop-name-preserved-in-Continue-1 : goal.loop-name-preserved-in-Continue-1
+loop-name-preserved-in-Continue-1 c =
     let walk = c.loop-name.invariant in
     let name = c.in-Some.name.now in
     let value = view c.in-Some.value.now in
     let rest = entries c.next.new.self in
     let all = entries c.into_iter-name-iterator.result in
     let sorted = subst (IsStrictlySortedBy text_cmp) (sym (keys_of-entries c.into_iter-name-iterator.result)) (subst (λ es. IsStrictlySortedBy text_cmp (keys_of es)) (sym c.into_iter-name-iterator.ensures.into_iter_gives) c.iter-name-items.ensures.ordered) in
-    let claims = c.in_ok-claims.ensures ∙ ap (placed c.args.sub (Some value)) c.new.ensures in
     record {
       can_next = tt;
       is_finite = tt;
       done = walk.done ++ (name, value) ∷ [];
       whole = walk_on all walk.done (name, value) (entries c.loop-name.name-iterator) rest walk.whole (ap entries c.in-Some.ensures.steps);
-      made = λ f. ap (λ es. at text_cmp es f) c.in_ok-insert.ensures.entries ∙ ap (λ n. at text_cmp (insert_entry text_cmp c.loop-name.made.entries n c.in_ok-claims.claims) f) c.in_ok-copy.ensures ∙
+      made = λ f. ap (λ es. at text_cmp es f) c.in_ok-put_first.ensures ∙
           claim_next c.args.sub c.args.fields.now.entries c.args.made.now.entries c.loop-name.made.entries all walk.done name value rest
-          (walk.whole ∙ ap (λ l. walk.done ++ l) (ap entries c.in-Some.ensures.steps)) sorted walk.made c.in_ok-claims.claims claims (sym c.if-not-contains_key.ensures) f;
+          (walk.whole ∙ ap (λ l. walk.done ++ l) (ap entries c.in-Some.ensures.steps)) sorted walk.made ((c.args.sub, value) ∷ []) refl (sym c.if-not-contains_key.ensures) f;
     }
 
 pub loop-name-preserved : goal.loop-name-preserved

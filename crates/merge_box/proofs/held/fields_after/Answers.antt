@@ -19,8 +19,8 @@ loop-name-preserved c =
       is_finite = tt;
       done = walk.done ++ (name, claims) ∷ [];
       whole = walk_on all walk.done (name, claims) c.loop-name.name-iterator rest walk.whole c.in-Some.ensures.steps;
-      made = c.in_ok-put_claims.ensures
-          ∙ ap (put_some text_cmp c.loop-name.made.entries name) (c.in_ok-changed.ensures ∙ ap (λ w. changed_claims c.args.sub w claims) c.value_in.ensures)
+      made = c.in_ok-put_changed.ensures
+          ∙ ap (λ w. put_some text_cmp c.loop-name.made.entries name (changed_claims c.args.sub w claims)) c.value_in.ensures
           ∙ walk_put_some name_order (λ f cs. changed_claims c.args.sub (value_in (option_copied c.args.doc) f) cs) all walk.done name claims rest c.loop-name.made.entries (changed_claims c.args.sub (value_in (option_copied c.args.doc) name) claims)
           (walk.whole ∙ ap (λ l. walk.done ++ l) c.in-Some.ensures.steps) walk.made sorted refl;
     }

@@ -1,7 +1,6 @@
-use Rattle.std.proofs.Common.{◌∷◌, [], ◌++◌, Some, ap, sym, subst, ◌∙◌}
+use Rattle.std.proofs.Common.{◌∷◌, [], ◌++◌, ap, sym, subst, ◌∙◌}
 use Rattle.map_model.specs.Maps.{IsSorted}
 use Rattle.value_model.specs.Order.{text_cmp}
-use Rattle.value_model.specs.Doc.{put}
 use Rattle.merge_model.specs.Kept.{first_value}
 use Rattle.ejson_value.specs.View.{view}
 use Rattle.ejson_value.specs.Key.{name_order}
@@ -36,8 +35,7 @@ loop-name-preserved c =
       is_finite = tt;
       done = walk.done ++ (name, claims) ∷ [];
       whole = walk_on all walk.done (name, claims) c.loop-name.name-iterator rest walk.whole c.in-Some.ensures.steps;
-      made = c.in_ok-put-in-Some-first.ensures.ok
-          ∙ ap (λ n. put c.loop-name.doc n (view c.in_ok-copy-in-Some-first-2.field-0)) c.in_ok-copy-in-Some-first.ensures
-          ∙ walk_put name_order (λ f cs. first_value cs) all walk.done name claims rest c.loop-name.doc (walk.whole ∙ ap (λ l. walk.done ++ l) c.in-Some.ensures.steps) walk.made (view c.in_ok-copy-in-Some-first-2.field-0) sorted
-          (sym c.in-Some-first.ensures ∙ ap Some (sym c.in_ok-copy-in-Some-first-2.ensures));
+      made = c.in_ok-put_copy-in-Some-first.ensures
+          ∙ walk_put name_order (λ f cs. first_value cs) all walk.done name claims rest c.loop-name.doc (walk.whole ∙ ap (λ l. walk.done ++ l) c.in-Some.ensures.steps) walk.made (view c.in-Some-first.value.now) sorted
+          (sym c.in-Some-first.ensures);
     }

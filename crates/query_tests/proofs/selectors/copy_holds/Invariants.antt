@@ -1,4 +1,4 @@
-use Rattle.query_tests.proofs.tests.copy_holds.Given as goal
+use Rattle.query_tests.proofs.selectors.copy_holds.Given as goal
 
 abbrev pub ghosts-counted : goal.ghosts-counted
 ghosts-counted a = record { name = a.blank.name; parts = a.blank.parts }
