@@ -111,6 +111,12 @@ impl Program {
     }
 }
 
+impl Copied for Program {
+    fn copied(&self) -> Result<Program, Mem> {
+        self.copy()
+    }
+}
+
 fn copy_value(value: &Option<Value>) -> Result<Option<Value>, Mem>
     ensures { IfOk result (λ copied. option_map (λ v. view v) copied ≡ option_map (λ v. view v) value.now) }
 {
@@ -198,5 +204,11 @@ impl Rules {
             allow,
             deny: self.deny.copy()?,
         })
+    }
+}
+
+impl Copied for Rules {
+    fn copied(&self) -> Result<Rules, Mem> {
+        self.copy()
     }
 }

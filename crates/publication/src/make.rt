@@ -57,6 +57,8 @@ fn make_cursor(alloc: Global, rule: &CursorRule, params: &Items) -> Result<Curso
         name: rule.name.copy()?,
         selector,
         fields: rule.fields.copy()?,
+        sort: rule.sort.copy()?,
+        limit: rule.limit,
     })
 }
 
