@@ -1,6 +1,5 @@
--- Lists and objects of values in their two forms, and maps that are made in order.
-use borrow.Author.Tests.{tests}
-use Rattle.std.proofs.Common.{rules, ◌≡◌, ◌==◌, ◌+◌, ℕ, suc, Some, length, List, [], ◌∷◌, ◌++◌, refl, ap, subst, ◌∙◌}
+-- Maps that are made in order.
+use Rattle.std.proofs.Common.{◌≡◌, List, ℕ, ◌∷◌, ◌++◌, [], ap, subst, ◌∙◌}
 use Rattle.std.proofs.lemmas.List.{map-append}
 use Rattle.std.proofs.lemmas.Cmp.{nat_list_cmp_total}
 use Rattle.std.specs.BTreeMap.{insert_entry}
@@ -9,17 +8,6 @@ use Rattle.std.specs.List.Sorted.{IsStrictlySortedBy}
 use Rattle.map_model.specs.Maps.{IsSorted}
 use Rattle.map_model.specs.OrderLaws.{put_last, IsAbove-from_sorted}
 use Rattle.value_model.specs.Order.{text_cmp}
-use Rattle.value_model.specs.Val.{Entries, object, fields_of}
-use Rattle.value_model.specs.Size.{names_of}
-use Rattle.app_model.specs.Reading.{has_no_methods}
-
-pub length-names_of : (es : Entries) → length (names_of (fields_of es)) ≡ length es
-length-names_of [] = refl
-length-names_of (e ∷ es) = ap suc (length-names_of es)
-
-pub no_length : (es : Entries) → (length es == 0) ≡ has_no_methods (Some (object (fields_of es)))
-no_length [] = refl
-no_length (e ∷ es) = search (rules, tests)
 
 -- the next entry of a map by names goes last
 pub put_behind_all : {X : Type 0} (all es : List (List ℕ × X)) (name : List ℕ) (x : X) (more : List (List ℕ × X)) → all ≡ es ++ (name, x) ∷ more → IsSorted text_cmp all → insert_entry text_cmp es name x ≡ es ++ (name, x) ∷ []

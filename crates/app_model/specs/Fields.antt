@@ -9,10 +9,10 @@ use Rattle.value_model.specs.Val.{Val, int, object, Fields, no_fields, field}
 use Rattle.value_model.specs.Size.{is_name}
 use Rattle.value_model.specs.Branches.{path_of}
 use Rattle.ejson_value.specs.Results.{made, and_then}
-use Rattle.app_model.specs.declared.fault.Flaw.TheVariants as flaw
+use Rattle.program_reading.specs.declared.fault.Flaw.TheVariants as flaw
 use Rattle.app_model.specs.declared.publication.Projection.{Projection}
 use Rattle.app_model.specs.declared.publication.Projection.TheVariants as projection
-use Rattle.app_model.specs.Faults.{Place, below, Reading, bad}
+use Rattle.program_reading.specs.Faults.{Place, below, Reading, bad}
 
 abbrev pub APath : Type 0
 APath = List (List ℕ)
@@ -60,8 +60,8 @@ path_behind paths (Some path) = if can_follow paths path then Some path else Non
 abbrev pub next_path : Bool → List APath → List ℕ → Val → Option APath
 next_path including paths name v = if says including v then path_behind paths (path_of name) else None
 
-abbrev pub or_bad_shape : Place → Option APath → Reading APath
-or_bad_shape place (Some path) = Ok path
+abbrev pub or_bad_shape : {X : Type 0} → Place → Option X → Reading X
+or_bad_shape place (Some x) = Ok x
 or_bad_shape place None = bad flaw.BadShape place
 
 -- the paths of fields, behind those before

@@ -1,9 +1,6 @@
-pub mod Faults
-pub mod Template
-pub mod Measuring
 pub mod Rules
 pub mod App
-pub mod Coding
 pub mod Fields
+pub mod Sorting
 pub mod Reading
 pub mod Distinct

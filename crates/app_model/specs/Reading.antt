@@ -1,21 +1,31 @@
--- How a value is read as an application: `{"collections":[name..],"methods":{},"publications":{name:[cursor..]..}}`, where each key may be missing. A cursor is `{"collection":name,"as":name,"selector":template,"fields":{path:1|0..}}`, where all but the collection may be missing.
--- The first fault is answered: collections, methods, publications, inside by the bytes of the keys or by place, and at each part its form, its name, how many parts it has, an unknown collection and a double name, in this order.
+-- How a value is read as an application: `{"collections":[name..],"methods":{name:program..},"publications":{name:[cursor..]..},"rules":{collection:rules..}}`, where each key may be missing. A cursor is `{"collection":name,"as":name,"selector":template,"fields":{path:1|0..},"sort":[[path,1|-1]..],"limit":number}`, where all but the collection may be missing.
+-- The first fault is answered: collections, methods, publications, rules, inside by the bytes of the keys or by place, and at each part its form, its name, how many parts it has, an unknown collection and a double name, in this order.
 use Rattle.std.specs.Prelude.{ℕ, Bool, true, false, not, List, [], ◌∷◌, ◌++◌, length, codes, Option, None, Some, Ok, unwrap_or, is_some, nat_lt, nat_le, if◌then◌else◌, ◌&&◌, ◌||◌}
-use Rattle.std.specs.List.{list_any, list_all}
 use Rattle.std.specs.BTreeMap.{insert_entry}
+use Rattle.map_model.specs.Maps.{at}
 use Rattle.value_model.specs.Val.{Val, text, list, object, Vals, no_vals, val, Fields, no_fields, field, list_of}
 use Rattle.value_model.specs.Order.{text_cmp}
 use Rattle.value_model.specs.Size.{is_name, names_of}
 use Rattle.value_model.specs.Branches.{field_of}
 use Rattle.ejson_value.specs.Results.{made, and_then}
-use Rattle.app_model.specs.declared.fault.Flaw.TheVariants as flaw
+use Rattle.program_reading.specs.declared.fault.Flaw.TheVariants as flaw
+use Rattle.program_reading.specs.declared.names.Shape.TheVariants as shape
 use Rattle.app_model.specs.declared.publication.CursorRule.{CursorRule}
 use Rattle.app_model.specs.Rules.{Rules, publishes}
-use Rattle.app_model.specs.Faults.{Place, below, element, Reading, bad}
+use Rattle.program_steps.specs.declared.rules.Action.{Action}
+use Rattle.program_steps.specs.declared.rules.Action.TheVariants as action
+use Rattle.program_steps.specs.declared.rules.Rules.{Rules as WriteRules}
+use Rattle.program_steps.specs.declared.step.Program.{Program}
+use Rattle.program_steps.specs.Guards.{method_name, guarded_program}
+use Rattle.program_reading.specs.Faults.{Place, below, element, Reading, bad}
+use Rattle.program_reading.specs.Names.{is_valid_name, name_reading, has_name, known_reading, has_only_keys}
+use Rattle.program_reading.specs.Programs.{program_reading}
+use Rattle.program_reading.specs.Guarding.{lists_reading}
 use Rattle.app_model.specs.Fields.{projection_reading}
-use Rattle.app_model.specs.App.{App, has_name}
+use Rattle.app_model.specs.Sorting.{window_reading}
+use Rattle.app_model.specs.App.{App}
 
--- the most collections, publications and cursors of a publication
+-- the most collections, publications, cursors of a publication, and methods
 abbrev pub max_collections : ℕ
 max_collections = 64
 
@@ -25,17 +35,8 @@ max_publications = 256
 abbrev pub max_cursors : ℕ
 max_cursors = 8
 
--- a name has 1 to 128 bytes
-abbrev pub is_valid_name : List ℕ → Bool
-is_valid_name name = nat_lt 0 (length name) && nat_le (length name) 128
-
-abbrev pub valid_name : Place → List ℕ → Reading (List ℕ)
-valid_name place name = if is_valid_name name then Ok name else bad flaw.BadName place
-
--- the name that a part is
-abbrev pub name_reading : Place → Val → Reading (List ℕ)
-name_reading place (text name) = valid_name place name
-name_reading place v = bad flaw.BadShape place
+abbrev pub max_methods : ℕ
+max_methods = 256
 
 abbrev pub unless_double : Bool → Place → List ℕ → Reading (List ℕ)
 unless_double double place name = if double then bad flaw.DoubleName place else Ok name
@@ -56,17 +57,8 @@ collections_reading None = Ok []
 collections_reading (Some (list vs)) = if nat_lt max_collections (length (list_of vs)) then bad flaw.TooMany (codes "collections") else names_behind [] vs
 collections_reading (Some v) = bad flaw.BadShape (codes "collections")
 
--- no method can be described yet
-abbrev pub has_no_methods : Option Val → Bool
-has_no_methods None = true
-has_no_methods (Some (object no_fields)) = true
-has_no_methods (Some v) = false
-
-abbrev pub is_cursor_key : List ℕ → Bool
-is_cursor_key key = is_name key (codes "collection") || is_name key (codes "as") || is_name key (codes "selector") || is_name key (codes "fields")
-
 abbrev pub is_cursor : Fields → Bool
-is_cursor fs = list_all is_cursor_key (names_of fs) && is_some (field_of fs (codes "collection"))
+is_cursor fs = has_only_keys shape.Cursor fs && is_some (field_of fs (codes "collection"))
 
 -- the name under which a cursor publishes: its collection's, where it has no name of its own
 abbrev pub published_as : Option Val → Option Val → Option Val
@@ -81,14 +73,6 @@ is_published rules _ = false
 abbrev pub alias_reading : Place → Option Val → Reading (Option (List ℕ))
 alias_reading place None = Ok None
 alias_reading place (Some v) = made (λ name. Some name) (name_reading place v)
-
-abbrev pub if_known : Bool → Place → List ℕ → Reading (List ℕ)
-if_known known place name = if known then Ok name else bad flaw.UnknownCollection place
-
--- one of the collections
-abbrev pub known_reading : List (List ℕ) → Place → Option Val → Reading (List ℕ)
-known_reading collections place None = bad flaw.BadShape place
-known_reading collections place (Some v) = and_then (name_reading place v) (λ name. if_known (has_name collections name) place name)
 
 -- a cursor without a selector publishes all documents of its collection
 abbrev pub selector_of : Option Val → Val
@@ -105,7 +89,8 @@ abbrev pub parts_reading : List (List ℕ) → Place → Fields → Reading Curs
 parts_reading collections place fs =
     and_then (names_reading collections place fs) (λ names.
     and_then (projection_reading (below place (codes "fields")) (field_of fs (codes "fields"))) (λ fields.
-    Ok (record { collection = names.0; name = names.1; selector = selector_of (field_of fs (codes "selector")); fields = fields })))
+    and_then (window_reading place fs) (λ window.
+    Ok (record { collection = names.0; name = names.1; selector = selector_of (field_of fs (codes "selector")); fields = fields; sort = window.1; limit = window.0 }))))
 
 -- a cursor behind others
 abbrev pub rule_reading : List (List ℕ) → Place → Rules → Val → Reading CursorRule
@@ -144,16 +129,74 @@ publications_reading collections (Some (object fs)) =
     if nat_lt max_publications (length (names_of fs)) then bad flaw.TooMany (codes "publications") else publications_put collections [] fs
 publications_reading collections (Some v) = bad flaw.BadShape (codes "publications")
 
-abbrev pub is_app_key : List ℕ → Bool
-is_app_key key = is_name key (codes "collections") || is_name key (codes "methods") || is_name key (codes "publications")
+-- the methods of an object, put to those before
+abbrev pub methods_put : List (List ℕ) → List (List ℕ × Program) → Fields → Reading (List (List ℕ × Program))
+methods_put collections rows no_fields = Ok rows
+methods_put collections rows (field name v fs) =
+    and_then (program_reading collections (below (codes "methods") name) name v) (λ program. methods_put collections (insert_entry text_cmp rows name program) fs)
+
+abbrev pub methods_reading : List (List ℕ) → Option Val → Reading (List (List ℕ × Program))
+methods_reading collections None = Ok []
+methods_reading collections (Some (object fs)) = if nat_lt max_methods (length (names_of fs)) then bad flaw.TooMany (codes "methods") else methods_put collections [] fs
+methods_reading collections (Some v) = bad flaw.BadShape (codes "methods")
+
+-- whether a method has the name of one that the collection's rules make
+abbrev pub has_method : List (List ℕ × Program) → List ℕ → Action → Bool
+has_method methods collection a = is_some (at text_cmp methods (method_name collection a))
+
+abbrev pub has_made_name : List (List ℕ × Program) → List ℕ → Bool
+has_made_name methods collection = has_method methods collection action.Insert || has_method methods collection action.Update || has_method methods collection action.Remove
+
+-- the rules of the collection of this name
+abbrev pub entry_reading : List (List ℕ) → List (List ℕ × Program) → Place → List ℕ → Fields → Reading WriteRules
+entry_reading collections methods place name fs =
+    if not (has_only_keys shape.Rules fs) then bad flaw.BadShape place else (
+    if not (is_valid_name name) then bad flaw.BadName place else (
+    if not (has_name collections name) then bad flaw.UnknownCollection place else (
+    if has_made_name methods name then bad flaw.DoubleName place else
+    lists_reading place fs)))
+
+abbrev pub guard_reading : List (List ℕ) → List (List ℕ × Program) → List ℕ → Val → Reading WriteRules
+guard_reading collections methods name (object fs) = entry_reading collections methods (below (codes "rules") name) name fs
+guard_reading collections methods name v = bad flaw.BadShape (below (codes "rules") name)
+
+-- the rules of an object's collections, put to those before
+abbrev pub guards_put : List (List ℕ) → List (List ℕ × Program) → List (List ℕ × WriteRules) → Fields → Reading (List (List ℕ × WriteRules))
+guards_put collections methods rows no_fields = Ok rows
+guards_put collections methods rows (field name v fs) =
+    and_then (guard_reading collections methods name v) (λ guards. guards_put collections methods (insert_entry text_cmp rows name guards) fs)
+
+abbrev pub guards_reading : List (List ℕ) → List (List ℕ × Program) → Option Val → Reading (List (List ℕ × WriteRules))
+guards_reading collections methods None = Ok []
+guards_reading collections methods (Some (object fs)) = guards_put collections methods [] fs
+guards_reading collections methods (Some v) = bad flaw.BadShape (codes "rules")
+
+-- A collection with rules has three methods more.
+abbrev pub with_method : List (List ℕ × Program) → List ℕ → Action → List (List ℕ × Program)
+with_method methods collection a = insert_entry text_cmp methods (method_name collection a) (guarded_program collection a)
+
+abbrev pub with_made : List (List ℕ × Program) → List (List ℕ × WriteRules) → List (List ℕ × Program)
+with_made methods [] = methods
+with_made methods (row ∷ rows) = with_made (with_method (with_method (with_method methods row.0 action.Insert) row.0 action.Update) row.0 action.Remove) rows
+
+-- the collections and the methods
+abbrev pub stored_reading : Fields → Reading (List (List ℕ) × List (List ℕ × Program))
+stored_reading fs =
+    and_then (collections_reading (field_of fs (codes "collections"))) (λ collections.
+    and_then (methods_reading collections (field_of fs (codes "methods"))) (λ methods. Ok (collections, methods)))
+
+-- the publications and the rules
+abbrev pub told_reading : List (List ℕ) → List (List ℕ × Program) → Fields → Reading (List (List ℕ × Rules) × List (List ℕ × WriteRules))
+told_reading collections methods fs =
+    and_then (publications_reading collections (field_of fs (codes "publications"))) (λ publications.
+    and_then (guards_reading collections methods (field_of fs (codes "rules"))) (λ guards. Ok (publications, guards)))
 
 abbrev pub members_reading : Fields → Reading App
 members_reading fs =
-    and_then (collections_reading (field_of fs (codes "collections"))) (λ collections.
-    if has_no_methods (field_of fs (codes "methods")) then
-    and_then (publications_reading collections (field_of fs (codes "publications"))) (λ publications. Ok (record { collections = collections; publications = publications }))
-    else bad flaw.BadShape (codes "methods"))
+    and_then (stored_reading fs) (λ stored.
+    and_then (told_reading stored.0 stored.1 fs) (λ told.
+    Ok (record { collections = stored.0; methods = with_made stored.1 told.1; publications = told.0; guards = told.1 })))
 
 abbrev pub app_reading : Val → Reading App
-app_reading (object fs) = if list_all is_app_key (names_of fs) then members_reading fs else bad flaw.BadShape []
+app_reading (object fs) = if has_only_keys shape.Application fs then members_reading fs else bad flaw.BadShape []
 app_reading v = bad flaw.BadShape []

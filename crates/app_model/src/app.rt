@@ -1,49 +1,52 @@
 //! Applications.
-ghost use Rattle.std.specs.Prelude.{◌≡◌, [], Some, IfOk, OnOk, codes, option_map};
+ghost use Rattle.std.specs.Prelude.{◌≡◌, [], IfOk, codes, option_map};
 ghost use Rattle.std.specs.Option.{option_copied};
-ghost use Rattle.value_model.specs.Val.{object, fields_of, vals_of};
-ghost use Rattle.std.specs.BTreeMap.{insert_entry};
-ghost use Rattle.value_model.specs.Order.{text_cmp};
+ghost use Rattle.value_model.specs.Val.{fields_of, vals_of};
 ghost use Rattle.value_model.specs.Branches.{field_of};
 ghost use Rattle.ejson_value.specs.View.{view};
-ghost use Rattle.app_model.specs.Faults.{Gives};
-ghost use Rattle.app_model.specs.App.{has_collection, publication};
-ghost use Rattle.app_model.specs.Reading.{listed_reading, names_behind, collections_reading, has_no_methods, publications_put, publications_reading, members_reading, app_reading};
+ghost use Rattle.program_reading.specs.Faults.{Gives};
+ghost use Rattle.app_model.specs.App.{has_collection, method, publication, write_rules};
+ghost use Rattle.app_model.specs.Reading.{listed_reading, names_behind, collections_reading, publications_put, publications_reading, stored_reading, told_reading, members_reading, app_reading};
 
 use crate::cursors::read_publication;
-use crate::fault::{AppFault, Flaw, bad};
-use crate::names::{
-    has_more_fields, has_more_items, has_name, has_only_app_keys, member, read_name,
-};
-use crate::place::element;
+use crate::maps::{copy_map, put};
+use crate::methods::{guards_in, methods_in, put_made};
 use crate::publication::Publication;
 use ejson_value::{Doc, Items, Mem, Names, Text, Value};
+use program_reading::{
+    AppFault, Flaw, Shape, bad, element, has_more_fields, has_more_items, has_name, has_only_keys,
+    member, read_name,
+};
+use program_steps::{Program, Rules};
 use std::alloc::Global;
 use std::collections::BTreeMap;
-use std::default::Emptied;
 use std::marker::Model;
 
 const MAX_COLLECTIONS: usize = 64;
 
 const MAX_PUBLICATIONS: usize = 256;
 
-/// An application: the collections of its store and its publications by name (Meteor's guide,
-/// "Publications and data loading").
-#[derive(Debug, Drop)]
+/// An application: the collections of its store, its methods and its publications by name, and the
+/// rules by which clients may write to collections by themselves (Meteor's guide, "Methods" and
+/// "Publications and data loading"; Meteor's documentation, "allow" and "deny").
+#[derive(Drop)]
 pub struct App {
     collections: Names,
+    methods: BTreeMap<Text, Program>,
     publications: BTreeMap<Text, Publication>,
+    guards: BTreeMap<Text, Rules>,
 }
 
 impl Model for App {
+    ghost use Rattle.std.specs.Coded.{codes};
+    ghost use Rattle.value_model.specs.Coding.{val_code};
     ghost use Rattle.app_model.specs.App.{App as AnApp};
-    ghost use Rattle.app_model.specs.Coding.{app_code};
 
     ghost Value = { AnApp };
 
-    ghost coded = { app_code };
+    ghost coded = { Prim.hlevel (codes, val_code) };
 
-    ghost view = { λ a. record { collections = a.collections; publications = a.publications.entries } };
+    ghost view = { λ a. record { collections = a.collections; methods = a.methods.entries; publications = a.publications.entries; guards = a.guards.entries } };
 }
 
 // A collection that is listed behind others.
@@ -83,37 +86,6 @@ fn read_collections(alloc: Global, member: Option<&Value>) -> Result<Names, AppF
         return Err(bad(Flaw::TooMany, Text::from_str(alloc, "collections")?));
     }
     read_names(alloc, items)
-}
-
-// Whether the object of methods is empty.
-fn is_empty(fields: &Doc) -> bool
-    ensures { result ≡ has_no_methods (Some (object (fields_of fields.now))) }
-{
-    fields.is_empty()
-}
-
-fn has_no_methods(member: Option<&Value>) -> bool
-    ensures { result ≡ has_no_methods (option_map (λ v. view v.now) member.entry) }
-{
-    let Some(value) = member else {
-        return true;
-    };
-    match value {
-        Value::Object(fields) => is_empty(fields),
-        _ => false,
-    }
-}
-
-// Puts the publication under the name.
-fn put(
-    publications: &mut BTreeMap<Text, Publication>,
-    name: &Text,
-    publication: Publication,
-) -> Result<(), Mem>
-    ensures { OnOk result (publications.new.entries ≡ insert_entry text_cmp publications.old.entries name.now publication) }
-{
-    drop(publications.insert(name.copy()?, publication)?);
-    Ok(())
 }
 
 fn put_publications(
@@ -156,12 +128,6 @@ fn collections_in(alloc: Global, fields: &Doc) -> Result<Names, AppFault>
     read_collections(alloc, member(alloc, fields, "collections")?)
 }
 
-fn describes_no_methods(alloc: Global, fields: &Doc) -> Result<bool, Mem>
-    ensures { IfOk result (λ b. b ≡ has_no_methods (field_of (fields_of fields.now) (codes "methods"))) }
-{
-    Ok(has_no_methods(member(alloc, fields, "methods")?))
-}
-
 fn publications_in(
     alloc: Global,
     collections: &Names,
@@ -172,42 +138,55 @@ fn publications_in(
     read_publications(alloc, collections, member(alloc, fields, "publications")?)
 }
 
+type Stored = (Names, BTreeMap<Text, Program>);
+
+fn read_stored(alloc: Global, fields: &Doc) -> Result<Stored, AppFault>
+    ensures { Gives (λ s. (s.0, s.1.entries)) result (stored_reading (fields_of fields.now)) }
+{
+    let collections = collections_in(alloc, fields)?;
+    let methods = methods_in(alloc, &collections, fields)?;
+    Ok((collections, methods))
+}
+
+type Told = (BTreeMap<Text, Publication>, BTreeMap<Text, Rules>);
+
+fn read_told(
+    alloc: Global,
+    collections: &Names,
+    methods: &BTreeMap<Text, Program>,
+    fields: &Doc,
+) -> Result<Told, AppFault>
+    ensures { Gives (λ t. (t.0.entries, t.1.entries)) result (told_reading collections.now methods.now.entries (fields_of fields.now)) }
+{
+    let publications = publications_in(alloc, collections, fields)?;
+    let guards = guards_in(alloc, collections, methods, fields)?;
+    Ok((publications, guards))
+}
+
 fn read_members(alloc: Global, fields: &Doc) -> Result<App, AppFault>
     ensures { Gives (λ app. app) result (members_reading (fields_of fields.now)) }
 {
-    let collections = collections_in(alloc, fields)?;
-    if !describes_no_methods(alloc, fields)? {
-        return Err(bad(Flaw::BadShape, Text::from_str(alloc, "methods")?));
-    }
-    let publications = publications_in(alloc, &collections, fields)?;
+    let (collections, mut methods) = read_stored(alloc, fields)?;
+    let (publications, guards) = read_told(alloc, &collections, &methods, fields)?;
+    put_made(alloc, &mut methods, &guards)?;
     Ok(App {
         collections,
+        methods,
         publications,
+        guards,
     })
 }
 
-fn copy_publications(
-    publications: &BTreeMap<Text, Publication>,
-) -> Result<BTreeMap<Text, Publication>, Mem>
-    ensures { IfOk result (λ m. m.entries ≡ publications.now.entries) }
-{
-    let mut copies = BTreeMap::emptied(publications)?;
-    for (name, publication) in publications.iter() {
-        put(&mut copies, name, publication.copy()?)?;
-    }
-    Ok(copies)
-}
-
 impl App {
-    /// The application that the value describes: an object with the keys `collections`, `methods` and
-    /// `publications`, each of which may be missing. `methods` is an empty object.
+    /// The application that the value describes: an object with the keys `collections`, `methods`,
+    /// `publications` and `rules`, each of which may be missing.
     pub fn read(alloc: Global, value: &Value) -> Result<App, AppFault>
         ensures { Gives (λ app. app) result (app_reading (view value.now)) }
     {
         let Value::Object(fields) = value else {
             return Err(bad(Flaw::BadShape, Text::new(alloc)));
         };
-        if !has_only_app_keys(fields) {
+        if !has_only_keys(Shape::Application, fields) {
             return Err(bad(Flaw::BadShape, Text::new(alloc)));
         }
         read_members(alloc, fields)
@@ -219,7 +198,9 @@ impl App {
     {
         Ok(App {
             collections: self.collections.copy()?,
-            publications: copy_publications(&self.publications)?,
+            methods: copy_map(&self.methods)?,
+            publications: copy_map(&self.publications)?,
+            guards: copy_map(&self.guards)?,
         })
     }
 
@@ -228,6 +209,21 @@ impl App {
         ensures { result.now ≡ self.now.collections }
     {
         &self.collections
+    }
+
+    /// The program of the method of this name. A collection `c` with rules has the methods `/c/insert`,
+    /// `/c/update` and `/c/remove`.
+    pub fn method(&self, name: &Text) -> Option<&Program>
+        ensures { option_copied result ≡ method self.now name.now }
+    {
+        self.methods.get(name)
+    }
+
+    /// The rules by which clients may write to the collection of this name, if it has any.
+    pub fn rules(&self, collection: &Text) -> Option<&Rules>
+        ensures { option_copied result ≡ write_rules self.now collection.now }
+    {
+        self.guards.get(collection)
     }
 
     /// The publication of this name.

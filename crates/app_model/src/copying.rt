@@ -34,6 +34,8 @@ impl CursorRule {
             name,
             selector: self.selector.copy()?,
             fields: self.fields.copy()?,
+            sort: self.sort.copy()?,
+            limit: self.limit,
         })
     }
 }
@@ -52,5 +54,11 @@ impl Publication {
         Ok(Publication {
             cursors: self.cursors.copy()?,
         })
+    }
+}
+
+impl Copied for Publication {
+    fn copied(&self) -> Result<Publication, Mem> {
+        self.copy()
     }
 }

@@ -4,19 +4,20 @@ ghost use Rattle.value_model.specs.Val.{fields_of, vals_of};
 ghost use Rattle.value_model.specs.Branches.{field_of};
 ghost use Rattle.ejson_value.specs.View.{view};
 ghost use Rattle.app_model.specs.Rules.{publishes};
-ghost use Rattle.app_model.specs.Faults.{below, element, Gives};
+ghost use Rattle.program_reading.specs.Faults.{below, element, Gives};
+ghost use Rattle.program_reading.specs.Names.{known_reading};
 ghost use Rattle.app_model.specs.Fields.{projection_reading};
-ghost use Rattle.app_model.specs.Reading.{is_cursor, is_published, published_as, alias_reading, known_reading, selector_of, names_reading, parts_reading, rule_reading, rules_behind, cursors_reading, named_reading, publication_reading};
+ghost use Rattle.app_model.specs.Reading.{is_cursor, is_published, published_as, alias_reading, selector_of, names_reading, parts_reading, rule_reading, rules_behind, cursors_reading, named_reading, publication_reading};
 
-use crate::fault::{AppFault, Flaw, bad};
 use crate::fields::read_projection;
-use crate::names::{
-    has_more_items, has_name, has_only_cursor_keys, is_valid_name, member, read_name,
-};
-use crate::place::{below, element};
 use crate::publication::{CursorRule, CursorRules, Projection, Publication};
-use crate::template::Template;
+use crate::sorting::read_window;
 use ejson_value::{Doc, Items, Mem, Names, Text, Value, copy};
+use program_reading::{
+    AppFault, Flaw, Shape, bad, below, element, has_more_items, has_only_keys, is_valid_name,
+    member, read_known, read_name,
+};
+use program_steps::Template;
 use std::alloc::Global;
 
 const MAX_CURSORS: usize = 8;
@@ -26,7 +27,7 @@ fn is_cursor(alloc: Global, fields: &Doc) -> Result<bool, Mem>
     ensures { IfOk result (λ b. b ≡ is_cursor (fields_of fields.now)) }
 {
     let collection = member(alloc, fields, "collection")?;
-    Ok(has_only_cursor_keys(fields) && collection.is_some())
+    Ok(has_only_keys(Shape::Cursor, fields) && collection.is_some())
 }
 
 fn has_published_name(rules: &CursorRules, name: &Text) -> bool
@@ -70,24 +71,6 @@ fn read_alias(place: &Text, alias: Option<&Value>) -> Result<Option<Text>, AppFa
     match alias {
         None => Ok(None),
         Some(value) => Ok(Some(read_name(place, value)?)),
-    }
-}
-
-fn read_known(
-    collections: &Names,
-    place: &Text,
-    collection: Option<&Value>,
-) -> Result<Text, AppFault>
-    ensures { Gives (λ name. name) result (known_reading collections.now place.now (option_map (λ v. view v.now) collection.entry)) }
-{
-    let Some(value) = collection else {
-        return Err(bad(Flaw::BadShape, place.copy()?));
-    };
-    let name = read_name(place, value)?;
-    if has_name(collections, &name) {
-        Ok(name)
-    } else {
-        Err(bad(Flaw::UnknownCollection, place.copy()?))
     }
 }
 
@@ -172,12 +155,15 @@ fn read_parts(
 {
     let (collection, name) = read_names(alloc, collections, place, fields)?;
     let projection = read_published(alloc, place, fields)?;
+    let (limit, sort) = read_window(alloc, place, fields)?;
     let selector = read_template(alloc, fields)?;
     Ok(CursorRule {
         collection,
         name,
         selector,
         fields: projection,
+        sort,
+        limit,
     })
 }
 

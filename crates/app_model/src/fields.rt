@@ -3,14 +3,13 @@ ghost use Rattle.std.specs.Prelude.{◌≡◌, [], Some, IfOk, IfSome, OnSome, o
 ghost use Rattle.value_model.specs.Val.{fields_of};
 ghost use Rattle.value_model.specs.Branches.{path_of};
 ghost use Rattle.ejson_value.specs.View.{view};
-ghost use Rattle.app_model.specs.Faults.{below, Gives};
+ghost use Rattle.program_reading.specs.Faults.{below, Gives};
 ghost use Rattle.app_model.specs.Fields.{flag, says, begins_with_id, Joins, path_behind, next_path, or_bad_shape, paths_behind, projecting, fields_reading, projection_reading};
 
-use crate::fault::{AppFault, Flaw, bad};
-use crate::place::below;
 use crate::publication::{Paths, Projection};
 use crate::seen::{Seen, part_names};
 use ejson_value::{Doc, Mem, Path, PathFault, Text, Value};
+use program_reading::{AppFault, Flaw, bad, below};
 use std::alloc::Global;
 
 // The number that stands at a path that is included, or left out.

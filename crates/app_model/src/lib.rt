@@ -1,21 +1,22 @@
-//! Applications as data: collections, publications, templates of selectors (Meteor's guide,
-//! "Publications and data loading").
+//! Applications as data: collections, methods, publications and the rules by which clients may write (Meteor's guide,
+//! "Methods" and "Publications and data loading").
 #![tactic(auto)]
 
 mod app;
 mod copying;
 mod cursors;
-mod fault;
 mod fields;
-mod measuring;
-mod names;
-mod place;
+mod maps;
+mod methods;
 mod publication;
 mod seen;
-mod template;
+mod sorting;
 
 pub use app::App;
 pub use ejson_value::Fault;
-pub use fault::{AppFault, FillFault};
+pub use program_reading::AppFault;
+pub use program_steps::{
+    Action, End, FillFault, Outcome, Program, ProgramStep, ProgramSteps, Rule, RuleList, Rules,
+    Status, Template,
+};
 pub use publication::{CursorRule, CursorRules, Paths, Projection, Publication};
-pub use template::Template;

@@ -1,8 +1,8 @@
 //! Publications in memory.
 ghost use Rattle.app_model.specs.Rules.{HaveDistinctNames};
 
-use crate::template::Template;
-use ejson_value::{ListOf, Path, Text};
+use ejson_value::{ListOf, Path, SortKeys, Text};
+use program_steps::Template;
 use std::marker::Model;
 
 /// Paths into documents.
@@ -26,6 +26,10 @@ pub struct CursorRule {
     pub name: Text,
     pub selector: Template,
     pub fields: Projection,
+    /// The keys by which the documents are sorted for the limit; none where there is no `sort`.
+    pub sort: SortKeys,
+    /// At most so many of them are published, 1 to 10,000: the first ones by the keys and then by id.
+    pub limit: Option<u32>,
 }
 
 /// The cursors of a publication, in order.
@@ -38,12 +42,13 @@ pub struct Publication {
 }
 
 impl Model for Publication {
+    ghost use Rattle.std.specs.Coded.{codes};
+    ghost use Rattle.value_model.specs.Coding.{val_code};
     ghost use Rattle.app_model.specs.Rules.{Rules, HaveDistinctNames};
-    ghost use Rattle.app_model.specs.Coding.{rules_code};
 
     ghost Value = { Rules };
 
-    ghost coded = { rules_code };
+    ghost coded = { Prim.hlevel (codes, val_code) };
 
     ghost view = { λ a. a.cursors };
 

@@ -3,7 +3,7 @@
 use Rattle.std.specs.Prelude.{◌≡◌, ◌⊎◌, ℕ, suc, pos, true, false, map, List, [], ◌∷◌, ◌++◌, take, flat_map, Bool, Option, Some, None, option_and_then, Ok, Err, if◌then◌else◌, codes}
 use Rattle.value_model.specs.Val.{int}
 use Rattle.app_model.specs.App.{App}
-use Rattle.app_model.specs.Faults.{Reading}
+use Rattle.program_reading.specs.Faults.{Reading}
 use Rattle.app_model.specs.Reading.{app_reading}
 use Rattle.world_model.specs.declared.events.Event.{Event}
 use Rattle.world_model.specs.World.{World, start}

@@ -7,7 +7,7 @@ use Rattle.ejson_value.specs.Results.{and_then}
 use Rattle.selector_match.specs.Query.{Query}
 use Rattle.selector_match.specs.Reading.{reading}
 use Rattle.app_model.specs.declared.publication.CursorRule.{CursorRule}
-use Rattle.app_model.specs.Template.{filled}
+use Rattle.program_steps.specs.Template.{filled}
 use Rattle.publication.specs.declared.cursor.Cursor.{Cursor}
 use Rattle.publication.specs.Faults.{Making, lifted, fill_fault, selector_fault}
 
@@ -28,7 +28,7 @@ abbrev pub selector_made : List Val → Val → Making Query
 selector_made params template = and_then (lifted fill_fault (filled params [] template)) (λ v. lifted selector_fault (reading v))
 
 abbrev pub cursor_of : CursorRule → Query → Cursor
-cursor_of rule selector = record { collection = rule.collection; name = rule.name; selector = selector; fields = rule.fields }
+cursor_of rule selector = record { collection = rule.collection; name = rule.name; selector = selector; fields = rule.fields; sort = rule.sort; limit = rule.limit }
 
 abbrev pub cursor_made : List Val → CursorRule → Making Cursor
 cursor_made params rule = and_then (selector_made params rule.selector) (λ selector. Ok (cursor_of rule selector))

@@ -2,7 +2,6 @@ pub mod Projected
 pub mod Parts
 pub mod Faults
 pub mod Cursors
-pub mod Coding
 pub mod Distinct
 pub mod Published
 pub mod Putting

@@ -3,7 +3,7 @@ ghost use Rattle.std.specs.Prelude.{◌≡◌, ◌==◌, length, slice_get, IfOk
 ghost use Rattle.std.specs.Option.{option_copied};
 
 use app_model::Projection;
-use ejson_value::{Mem, Text};
+use ejson_value::{Mem, SortKeys, Text};
 use selector_match::Selector;
 use std::marker::Model;
 
@@ -15,6 +15,10 @@ pub struct Cursor {
     pub name: Text,
     pub selector: Selector,
     pub fields: Projection,
+    /// The keys by which the documents are sorted for the limit; none where there is no `sort`.
+    pub sort: SortKeys,
+    /// At most so many of them are published: the first ones by the keys and then by id.
+    pub limit: Option<u32>,
 }
 
 /// Cursors with different published names. A contract sees the list of them.
@@ -24,12 +28,14 @@ pub struct Cursors {
 }
 
 impl Model for Cursors {
+    ghost use Rattle.std.specs.Coded.{codes};
+    ghost use Rattle.value_model.specs.Coding.{val_code};
+    ghost use Rattle.selector_match.specs.Coding.{query_code};
     ghost use Rattle.publication.specs.Cursors.{ACursors, HaveDistinctNames};
-    ghost use Rattle.publication.specs.Coding.{cursors_code};
 
     ghost Value = { ACursors };
 
-    ghost coded = { cursors_code };
+    ghost coded = { Prim.hlevel (codes, val_code, query_code) };
 
     ghost view = { λ a. a.cursors.items };
 
@@ -46,6 +52,8 @@ impl Cursor {
             name: self.name.copy()?,
             selector: self.selector.copy()?,
             fields: self.fields.copy()?,
+            sort: self.sort.copy()?,
+            limit: self.limit,
         })
     }
 }

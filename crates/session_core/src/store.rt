@@ -29,11 +29,13 @@ pub struct Store {
 }
 
 impl Model for Store {
-    ghost use Rattle.session_core.specs.Store.{Stored, stored_code};
+    ghost use Rattle.std.specs.Coded.{codes};
+    ghost use Rattle.value_model.specs.Coding.{val_code};
+    ghost use Rattle.session_core.specs.Store.{Stored};
 
     ghost Value = { Stored };
 
-    ghost coded = { stored_code };
+    ghost coded = { Prim.hlevel (codes, val_code) };
 
     ghost use Rattle.session_core.specs.Stands.{stored, IsTrueStore};
 

@@ -3,7 +3,7 @@ use Rattle.std.specs.Prelude.{codes}
 use Rattle.value_model.specs.Val.{vals_of}
 use Rattle.ejson_value.specs.View.{view}
 use Rattle.app_model.specs.Rules.{Rules}
-use Rattle.app_model.specs.Faults.{below, Gives}
+use Rattle.program_reading.specs.Faults.{below, Gives}
 use Rattle.app_model.specs.Reading.{named_reading, publication_reading}
 use Rattle.app_model.proofs.cursors.read_publication.Goals as goal
 
