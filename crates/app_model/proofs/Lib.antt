@@ -1,4 +1,2 @@
-pub mod Front
 pub mod Forms
 pub mod PathLaws
-pub mod Extents

@@ -1,6 +1,4 @@
 pub mod Faults
-pub mod Template
-pub mod Measuring
 pub mod Rules
 pub mod App
 pub mod Coding

@@ -15,8 +15,8 @@ use crate::names::{
 };
 use crate::place::{below, element};
 use crate::publication::{CursorRule, CursorRules, Projection, Publication};
-use crate::template::Template;
 use ejson_value::{Doc, Items, Mem, Names, Text, Value, copy};
+use program_steps::Template;
 use std::alloc::Global;
 
 const MAX_CURSORS: usize = 8;

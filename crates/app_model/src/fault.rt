@@ -1,4 +1,4 @@
-//! Why a value describes no application, and why a template can't be filled.
+//! Why a value describes no application.
 ghost use Rattle.std.specs.Prelude.{◌≡◌};
 ghost use Rattle.app_model.specs.declared.fault.AppFault.TheVariants.{Bad};
 ghost use Rattle.app_model.specs.Faults.{flaw_number};
@@ -94,29 +94,5 @@ impl<T: Drop> From<AllocFailed<T>> for AppFault {
 
     fn from(_: AllocFailed<T>) -> AppFault {
         AppFault::Memory
-    }
-}
-
-/// Why a template can't be filled.
-#[derive(Clone, Copy, Debug, PartialEq, Eq, Error)]
-pub enum FillFault {
-    #[error("no such parameter or made id")]
-    NoParam,
-    #[error("deeper than 32 levels")]
-    TooDeep,
-    #[error("larger than 1,048,576 bytes")]
-    TooLarge,
-    #[error("out of memory")]
-    Memory,
-}
-
-impl From<Mem> for FillFault {
-    ghost use Rattle.std.specs.Prelude.{◌≡◌};
-    ghost use Rattle.app_model.specs.declared.fault.FillFault.TheVariants.{Memory};
-
-    ghost from_gives = { λ _ e. e ≡ Memory };
-
-    fn from(_: Mem) -> FillFault {
-        FillFault::Memory
     }
 }

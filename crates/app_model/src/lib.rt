@@ -7,15 +7,13 @@ mod copying;
 mod cursors;
 mod fault;
 mod fields;
-mod measuring;
 mod names;
 mod place;
 mod publication;
 mod seen;
-mod template;
 
 pub use app::App;
 pub use ejson_value::Fault;
-pub use fault::{AppFault, FillFault};
+pub use fault::AppFault;
 pub use publication::{CursorRule, CursorRules, Paths, Projection, Publication};
-pub use template::Template;
+pub use program_steps::{FillFault, Template};

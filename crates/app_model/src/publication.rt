@@ -1,8 +1,8 @@
 //! Publications in memory.
 ghost use Rattle.app_model.specs.Rules.{HaveDistinctNames};
 
-use crate::template::Template;
 use ejson_value::{ListOf, Path, Text};
+use program_steps::Template;
 use std::marker::Model;
 
 /// Paths into documents.

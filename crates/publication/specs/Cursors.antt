@@ -7,7 +7,7 @@ use Rattle.ejson_value.specs.Results.{and_then}
 use Rattle.selector_match.specs.Query.{Query}
 use Rattle.selector_match.specs.Reading.{reading}
 use Rattle.app_model.specs.declared.publication.CursorRule.{CursorRule}
-use Rattle.app_model.specs.Template.{filled}
+use Rattle.program_steps.specs.Template.{filled}
 use Rattle.publication.specs.declared.cursor.Cursor.{Cursor}
 use Rattle.publication.specs.Faults.{Making, lifted, fill_fault, selector_fault}
 

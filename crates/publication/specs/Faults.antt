@@ -2,8 +2,8 @@
 use Rattle.std.specs.Prelude.{◌≡◌, ℕ, Result, Ok, Err}
 use Rattle.selector_match.specs.declared.fault.SelectorFault.{SelectorFault}
 use Rattle.selector_match.specs.declared.fault.SelectorFault.TheVariants as selector
-use Rattle.app_model.specs.declared.fault.FillFault.{FillFault}
-use Rattle.app_model.specs.declared.fault.FillFault.TheVariants as fill
+use Rattle.program_steps.specs.declared.fault.FillFault.{FillFault}
+use Rattle.program_steps.specs.declared.fault.FillFault.TheVariants as fill
 use Rattle.publication.specs.declared.fault.CursorFault.{CursorFault}
 use Rattle.publication.specs.declared.fault.CursorFault.TheVariants as fault
 

@@ -2,7 +2,7 @@
 ghost use Rattle.std.specs.Prelude.{◌≡◌, []};
 ghost use Rattle.ejson_value.specs.View.{view};
 ghost use Rattle.selector_match.specs.Reading.{reading};
-ghost use Rattle.app_model.specs.Template.{filled};
+ghost use Rattle.program_steps.specs.Template.{filled};
 ghost use Rattle.publication.specs.Faults.{Gives, lifted, fill_fault, selector_fault};
 ghost use Rattle.publication.specs.Cursors.{selector_made, cursor_made, cursors_behind, cursors_made};
 

@@ -2,10 +2,10 @@ use Rattle.std.proofs.Common.{Err, ap, sym, subst, ◌∙◌}
 use Rattle.std.proofs.lemmas.Result.{err_from_is_err_and}
 use Rattle.ejson_value.specs.View.{view}
 use Rattle.ejson_value.specs.Results.{made}
-use Rattle.app_model.specs.Template.{Gives, filling, filled}
-use Rattle.app_model.specs.Measuring.{extent_of}
-use Rattle.app_model.proofs.Extents.{fault-given, past-given}
-use Rattle.app_model.proofs.template.Template.fill.Goals as goal
+use Rattle.program_steps.specs.Template.{Gives, filling, filled}
+use Rattle.program_steps.specs.Measuring.{extent_of}
+use Rattle.program_steps.proofs.Extents.{fault-given, past-given}
+use Rattle.program_steps.proofs.template.Template.fill.Goals as goal
 
 pub returns-in_err-extent : goal.returns-in_err-extent
 returns-in_err-extent c =

@@ -5,9 +5,9 @@ use Rattle.value_model.specs.Depth.{depth, vals_depth, fields_depth}
 use Rattle.ejson_value.specs.declared.value.Value.{Value}
 use Rattle.ejson_value.specs.View.{view, views, entries}
 use Rattle.ejson_value.specs.Results.{made, after}
-use Rattle.app_model.specs.Template.{items_filling, fields_filling}
-use Rattle.app_model.proofs.Front.{field_before}
-use Rattle.app_model.proofs.template.+filling.Given as goal
+use Rattle.program_steps.specs.Template.{items_filling, fields_filling}
+use Rattle.program_steps.proofs.Front.{field_before}
+use Rattle.program_steps.proofs.template.+filling.Given as goal
 
 abbrev pub decreases-fill_value : goal.decreases-fill_value
 decreases-fill_value l = 4 * depth (view l.template.now)

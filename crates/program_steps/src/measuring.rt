@@ -4,9 +4,9 @@ ghost use Rattle.value_model.specs.Val.{text, vals_of, fields_of};
 ghost use Rattle.value_model.specs.Size.{is_special, names_of};
 ghost use Rattle.ejson_value.specs.View.{view};
 ghost use Rattle.ejson_value.specs.Results.{made};
-ghost use Rattle.app_model.specs.declared.fault.FillFault.TheVariants.{NoParam};
-ghost use Rattle.app_model.specs.Template.{placeholder_in, nth, filling, Gives};
-ghost use Rattle.app_model.specs.Measuring.{extent_of, list_extent, object_extent, item_behind, field_behind, placed, measuring, items_measuring, fields_measuring, past_limits};
+ghost use Rattle.program_steps.specs.declared.fault.FillFault.TheVariants.{NoParam};
+ghost use Rattle.program_steps.specs.Template.{placeholder_in, nth, filling, Gives};
+ghost use Rattle.program_steps.specs.Measuring.{extent_of, list_extent, object_extent, item_behind, field_behind, placed, measuring, items_measuring, fields_measuring, past_limits};
 
 use crate::fault::FillFault;
 use crate::template::{Placeholder, placeholder_in};

@@ -6,13 +6,13 @@ use Rattle.std.specs.Map.{keys_of}
 use Rattle.std.specs.List.Sorted.{IsStrictlySortedBy}
 use Rattle.map_model.specs.Orders.{IsAbove}
 use Rattle.map_model.specs.OrderLaws.{put_last, IsAbove-from_sorted}
-use Rattle.value_model.specs.Val.{Val, Vals, no_vals, val, vals_of, Fields, no_fields, field, fields_of, Entries}
+use Rattle.value_model.specs.Val.{Val, no_vals, val, vals_of, Fields, no_fields, field, fields_of, Entries}
 use Rattle.value_model.specs.Order.{text_cmp}
 use Rattle.value_model.specs.Doc.{put}
 use Rattle.ejson_value.specs.declared.value.Value.{Value}
 use Rattle.ejson_value.specs.Results.{made, with_both, after}
 use Rattle.ejson_value.specs.ResultLaws.{after-append}
-use Rattle.app_model.specs.Template.{Filling}
+use Rattle.program_steps.specs.Template.{Filling}
 
 pub after-vals : (vs : List Val) → after val vs no_vals ≡ vals_of vs
 after-vals [] = refl

@@ -1,21 +1,21 @@
 -- Laws of extents: those of a filled template are what is measured, and a loop's walk over parts from the front measures what the definition does from the back.
-use Rattle.std.specs.Prelude.{nat_lt, if◌then◌else◌, ok_or, slice_get, option_map, max, map, ℤ, pos, negsuc}
-use Rattle.std.proofs.Common.{◌≡◌, ℕ, zero, suc, ◌+◌, ◌<◌, ◌^◌, Bool, true, false, List, [], ◌∷◌, Option, None, Some, Ok, Err, refl, ap, sym, ◌∙◌, arith, subst, lit<}
+use Rattle.std.specs.Prelude.{nat_lt, if◌then◌else◌, ok_or, option_map, max, map, ℤ, pos, negsuc}
+use Rattle.std.proofs.Common.{◌≡◌, ℕ, suc, ◌+◌, ◌<◌, ◌^◌, true, false, List, ◌∷◌, Option, None, Some, Ok, Err, refl, ap, sym, ◌∙◌, arith, lit<}
 use Rattle.std.proofs.lemmas.Option.{slice_get-map}
 use Rattle.std.proofs.lemmas.Bool.Decides.{nat_tests}
-use Rattle.value_model.specs.Val.{Val, null, boolean, int, text, date, bytes, list, object, Vals, no_vals, val, Fields, no_fields, field}
+use Rattle.value_model.specs.Val.{Val, text, list, object, Vals, no_vals, val, Fields, no_fields, field}
 use Rattle.value_model.specs.Depth.{depth, vals_depth, fields_depth}
 use Rattle.value_model.specs.Size.{size, vals_size, fields_size, text_size, is_special, names_of, escape_wrapper}
 use Rattle.ejson_value.specs.View.{view}
 use Rattle.ejson_value.specs.Measure.{capped}
 use Rattle.ejson_value.specs.Results.{made, with_both}
-use Rattle.app_model.specs.declared.fault.FillFault.{FillFault}
-use Rattle.app_model.specs.declared.fault.FillFault.TheVariants as fault
-use Rattle.app_model.specs.declared.measuring.Extent.{Extent}
-use Rattle.app_model.specs.declared.template.Placeholder.{Placeholder}
-use Rattle.app_model.specs.declared.template.Placeholder.TheVariants as placeholder
-use Rattle.app_model.specs.Template.{Filling, nth, in_place, placeholder_in, filling, items_filling, fields_filling, within_limits, limited, max_depth, max_size, Gives}
-use Rattle.app_model.specs.Measuring.{extent_by, extent_of, no_extent, list_extent, object_extent, item_before, field_before, item_behind, field_behind, placed, measuring, items_measuring, fields_measuring, past_limits}
+use Rattle.program_steps.specs.declared.fault.FillFault.{FillFault}
+use Rattle.program_steps.specs.declared.fault.FillFault.TheVariants as fault
+use Rattle.program_steps.specs.declared.measuring.Extent.{Extent}
+use Rattle.program_steps.specs.declared.template.Placeholder.{Placeholder}
+use Rattle.program_steps.specs.declared.template.Placeholder.TheVariants as placeholder
+use Rattle.program_steps.specs.Template.{Filling, nth, in_place, placeholder_in, filling, items_filling, fields_filling, within_limits, limited, max_depth, max_size, Gives}
+use Rattle.program_steps.specs.Measuring.{extent_by, extent_of, no_extent, list_extent, object_extent, item_before, field_before, item_behind, field_behind, placed, measuring, items_measuring, fields_measuring, past_limits}
 
 abbrev extent : ℕ → ℕ → Extent
 extent d s = record { depth = d; size = s }

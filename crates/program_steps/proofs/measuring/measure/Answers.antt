@@ -1,12 +1,11 @@
 use Rattle.std.specs.Prelude.{map}
-use Rattle.std.proofs.Common.{ap, sym, subst, ◌∙◌}
-use Rattle.value_model.specs.Val.{text}
+use Rattle.std.proofs.Common.{ap, subst, ◌∙◌}
 use Rattle.ejson_value.specs.View.{view}
-use Rattle.app_model.specs.declared.measuring.Extent.{Extent}
-use Rattle.app_model.specs.Template.{Gives}
-use Rattle.app_model.specs.Measuring.{extent_of, measuring}
-use Rattle.app_model.proofs.Extents.{measured}
-use Rattle.app_model.proofs.measuring.measure.Goals as goal
+use Rattle.program_steps.specs.declared.measuring.Extent.{Extent}
+use Rattle.program_steps.specs.Template.{Gives}
+use Rattle.program_steps.specs.Measuring.{extent_of, measuring}
+use Rattle.program_steps.proofs.Extents.{measured}
+use Rattle.program_steps.proofs.measuring.measure.Goals as goal
 
 pub returns : goal.returns
 returns c =

@@ -1,15 +1,14 @@
-use Rattle.std.proofs.Common.{◌≡◌, ℕ, ◌∷◌, [], ◌++◌, ◌+◌, suc, Ok, List, drop, get_or, refl, lit<, ap, sym, ◌∙◌, arith}
+use Rattle.std.proofs.Common.{◌≡◌, ◌∷◌, [], ◌++◌, ◌+◌, suc, Ok, drop, get_or, refl, lit<, ap, sym, ◌∙◌, arith}
 use Rattle.std.proofs.Math.Seq.{drop-cons}
 use Rattle.std.proofs.lemmas.List.{append_assoc, drop_all}
 use Rattle.value_model.specs.Val.{fields_of, vals_of}
-use Rattle.ejson_value.specs.declared.value.Value.{Value}
 use Rattle.ejson_value.specs.View.{view, views, entries}
 use Rattle.ejson_value.proofs.Walks.{item_depth, field_depth}
-use Rattle.app_model.specs.declared.measuring.Extent.{Extent}
+use Rattle.program_steps.specs.declared.measuring.Extent.{Extent}
 use Rattle.ejson_value.specs.Results.{made}
-use Rattle.app_model.specs.Measuring.{measuring, items_measuring, fields_measuring, field_behind}
-use Rattle.app_model.proofs.Extents.{behind, item_more, field_more, items_first, fields_first, all_behind}
-use Rattle.app_model.proofs.measuring.+measuring.Goals as goal
+use Rattle.program_steps.specs.Measuring.{measuring, items_measuring, fields_measuring, field_behind}
+use Rattle.program_steps.proofs.Extents.{behind, item_more, field_more, items_first, fields_first, all_behind}
+use Rattle.program_steps.proofs.measuring.+measuring.Goals as goal
 
 pub measure_items-measure_value-requires : goal.measure_items-measure_value-requires
 measure_items-measure_value-requires t c =

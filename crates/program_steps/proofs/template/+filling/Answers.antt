@@ -11,9 +11,9 @@ use Rattle.ejson_value.specs.View.{view, views, entries}
 use Rattle.ejson_value.proofs.Walks.{item_depth, field_depth}
 use Rattle.ejson_value.specs.Results.{made, after}
 use Rattle.ejson_value.specs.ResultLaws.{made_none, made_more}
-use Rattle.app_model.specs.Template.{filling, items_filling, fields_filling}
-use Rattle.app_model.proofs.Front.{after-vals, field_before, field_more, after-fields, put_behind}
-use Rattle.app_model.proofs.template.+filling.Goals as goal
+use Rattle.program_steps.specs.Template.{filling, items_filling, fields_filling}
+use Rattle.program_steps.proofs.Front.{after-vals, field_before, field_more, after-fields, put_behind}
+use Rattle.program_steps.proofs.template.+filling.Goals as goal
 
 pub fill_items-fill_value-requires : goal.fill_items-fill_value-requires
 fill_items-fill_value-requires t c =

@@ -5,12 +5,12 @@ use Rattle.value_model.specs.Depth.{depth}
 use Rattle.value_model.specs.Size.{size, text_size, is_special, names_of, escape_wrapper}
 use Rattle.ejson_value.specs.Measure.{capped}
 use Rattle.ejson_value.specs.Results.{made, with_both}
-use Rattle.app_model.specs.declared.fault.FillFault.{FillFault}
-use Rattle.app_model.specs.declared.fault.FillFault.TheVariants as fault
-use Rattle.app_model.specs.declared.measuring.Extent.{Extent}
-use Rattle.app_model.specs.declared.template.Placeholder.{Placeholder}
-use Rattle.app_model.specs.declared.template.Placeholder.TheVariants as placeholder
-use Rattle.app_model.specs.Template.{Filling, nth, placeholder_in, max_depth, max_size}
+use Rattle.program_steps.specs.declared.fault.FillFault.{FillFault}
+use Rattle.program_steps.specs.declared.fault.FillFault.TheVariants as fault
+use Rattle.program_steps.specs.declared.measuring.Extent.{Extent}
+use Rattle.program_steps.specs.declared.template.Placeholder.{Placeholder}
+use Rattle.program_steps.specs.declared.template.Placeholder.TheVariants as placeholder
+use Rattle.program_steps.specs.Template.{Filling, nth, placeholder_in, max_depth, max_size}
 
 abbrev pub extent_by : ℕ → ℕ → Extent
 extent_by depth size = record { depth = capped depth; size = capped size }

@@ -3,8 +3,8 @@ ghost use Rattle.std.specs.Prelude.{◌≡◌, Option, Some, ok_or, option_map, 
 ghost use Rattle.value_model.specs.Val.{text, list, object, vals_of, fields_of};
 ghost use Rattle.ejson_value.specs.View.{view};
 ghost use Rattle.ejson_value.specs.Results.{made};
-ghost use Rattle.app_model.specs.declared.fault.FillFault.TheVariants.{NoParam};
-ghost use Rattle.app_model.specs.Template.{placeholder_named, placeholder_in, nth, in_place, filling, items_filling, fields_filling, filled, Gives};
+ghost use Rattle.program_steps.specs.declared.fault.FillFault.TheVariants.{NoParam};
+ghost use Rattle.program_steps.specs.Template.{placeholder_named, placeholder_in, nth, in_place, filling, items_filling, fields_filling, filled, Gives};
 
 use crate::fault::FillFault;
 use crate::measuring::{measure, past_limits};

@@ -1,13 +1,13 @@
 -- Templates: values in which placeholders stand for what is known only later.
-use Rattle.std.specs.Prelude.{◌≡◌, ℕ, ℤ, pos, negsuc, Bool, List, [], ◌∷◌, codes, Option, None, Some, ok_or, Result, Ok, Err, slice_get, option_map, nat_lt, if◌then◌else◌}
+use Rattle.std.specs.Prelude.{◌≡◌, ℕ, ℤ, pos, negsuc, List, codes, Option, None, Some, ok_or, Result, Ok, Err, slice_get, option_map, nat_lt, if◌then◌else◌}
 use Rattle.value_model.specs.Val.{Val, int, text, list, object, Vals, no_vals, val, Fields, no_fields, field}
 use Rattle.value_model.specs.Depth.{depth}
 use Rattle.value_model.specs.Size.{size, is_name}
 use Rattle.ejson_value.specs.Results.{made, with_both}
-use Rattle.app_model.specs.declared.fault.FillFault.{FillFault}
-use Rattle.app_model.specs.declared.fault.FillFault.TheVariants as fault
-use Rattle.app_model.specs.declared.template.Placeholder.{Placeholder}
-use Rattle.app_model.specs.declared.template.Placeholder.TheVariants as placeholder
+use Rattle.program_steps.specs.declared.fault.FillFault.{FillFault}
+use Rattle.program_steps.specs.declared.fault.FillFault.TheVariants as fault
+use Rattle.program_steps.specs.declared.template.Placeholder.{Placeholder}
+use Rattle.program_steps.specs.declared.template.Placeholder.TheVariants as placeholder
 
 -- the most levels and bytes of a filled template
 abbrev pub max_depth : ℕ

@@ -4,9 +4,9 @@ use Rattle.value_model.specs.Depth.{depth, vals_depth, fields_depth}
 use Rattle.ejson_value.specs.declared.value.Value.{Value}
 use Rattle.ejson_value.specs.View.{view, views, entries}
 use Rattle.ejson_value.specs.Results.{made}
-use Rattle.app_model.specs.Measuring.{items_measuring, fields_measuring}
-use Rattle.app_model.proofs.Extents.{behind}
-use Rattle.app_model.proofs.measuring.+measuring.Given as goal
+use Rattle.program_steps.specs.Measuring.{items_measuring, fields_measuring}
+use Rattle.program_steps.proofs.Extents.{behind}
+use Rattle.program_steps.proofs.measuring.+measuring.Given as goal
 
 abbrev pub decreases-measure_value : goal.decreases-measure_value
 decreases-measure_value l = 4 * depth (view l.template.now)

@@ -1,0 +1,4 @@
+pub mod Template
+pub mod Measuring
+pub mod Runs
+pub mod Guards
