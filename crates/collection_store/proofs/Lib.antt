@@ -2,3 +2,4 @@ pub mod Sums
 pub mod Picked
 pub mod Named
 pub mod Passing
+pub mod Leading

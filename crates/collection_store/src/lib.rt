@@ -5,6 +5,7 @@ mod changes;
 mod documents;
 mod fault;
 mod finding;
+pub mod laws;
 mod operation;
 mod store;
 mod updates;

@@ -1,5 +1,5 @@
 //! The store.
-ghost use Rattle.std.specs.Prelude.{◌≡◌, ◌+◌, length, is_some, OnOk, OnErr, IfOk, Ok, Err, [], if◌then◌else◌};
+ghost use Rattle.std.specs.Prelude.{◌≡◌, ◌+◌, ◌∷◌, length, is_some, OnOk, OnErr, IfOk, Ok, Err, Some, None, [], if◌then◌else◌};
 ghost use Rattle.map_model.specs.Maps.{at};
 ghost use Rattle.ejson_value.specs.Key.{key_cmp};
 ghost use Rattle.ejson_value.specs.Measure.{capped};
@@ -8,6 +8,7 @@ ghost use Rattle.collection_store.specs.Limits.{bytes_of, is_full, new_bytes};
 ghost use Rattle.collection_store.specs.Applied.{is_listed, key_of, after, done, chosen, matching, insertion, insert_plan, update_plan, remove_plan, if_listed, if_room, applied};
 ghost use Rattle.collection_store.specs.Answered.{plan_of, applied_as, AreFor};
 ghost use Rattle.collection_store.specs.declared.fault.OpFault.TheVariants.{Full};
+ghost use Rattle.collection_store.specs.declared.operation.Op.TheVariants.{Insert, Update};
 
 use crate::changes::{new_bytes, old_bytes};
 use crate::documents::is_too_large;
@@ -82,22 +83,42 @@ fn bytes_in(contents: &Contents) -> Result<u64, Mem>
     }
 }
 
+fn one_key(alloc: Global, key: &Key) -> Result<Keys, Mem>
+    ensures { IfOk result (λ keys. keys ≡ key.now ∷ []) }
+{
+    let key = key.copy()?;
+    let mut keys = Keys::new(alloc);
+    keys.push(key)?;
+    Ok(keys)
+}
+
+fn new_document(key: &Key, doc: &Doc) -> Result<Change, Mem>
+    ensures { IfOk result (λ change. change ≡ record { key = key.now; before = None; after = Some doc.now }) }
+{
+    Ok(Change {
+        key: key.copy()?,
+        before: None,
+        after: Some(doc.copy()?),
+    })
+}
+
+fn one_change(alloc: Global, key: &Key, doc: &Doc) -> Result<Changes, Mem>
+    ensures { IfOk result (λ changes. changes ≡ (insertion key.now doc.now).changes) }
+{
+    let mut changes = Changes::new(alloc);
+    changes.push(new_document(key, doc)?)?;
+    Ok(changes)
+}
+
 fn insertion(alloc: Global, key: Key, doc: &Doc) -> Result<Reply, Mem>
     ensures { IfOk result (λ reply. plan_of reply ≡ insertion key doc.now) }
 {
-    let mut touched = Keys::new(alloc);
-    touched.push(key.copy()?)?;
-    let answer = Value::Text(key.id.copy()?);
-    let mut changes = Changes::new(alloc);
-    changes.push(Change {
-        key,
-        before: None,
-        after: Some(doc.copy()?),
-    })?;
+    let touched = one_key(alloc, &key)?;
+    let changes = one_change(alloc, &key, doc)?;
     Ok(Reply {
         changes,
         touched,
-        answer,
+        answer: Value::Text(key.id),
     })
 }
 
@@ -239,6 +260,39 @@ impl Store {
         Ok(reply)
     }
 
+    fn insert(
+        &mut self,
+        collection: &Text,
+        id: &Text,
+        doc: &Doc,
+        room: u64,
+    ) -> Result<Reply, OpFault>
+        ensures gives { Gives (λ reply. applied_as self.new.rows reply) result (applied self.old.names self.old.rows (Insert collection.now id.now doc.now) room) }
+        ensures names { self.new.names ≡ self.old.names }
+        ensures refused { OnErr result (self.new ≡ self.old) }
+    {
+        let reply = self.planned_insert(collection, id, doc)?;
+        self.make_if_room(&reply.changes, 1, room)?;
+        Ok(reply)
+    }
+
+    fn update(
+        &mut self,
+        collection: &Text,
+        selector: &Selector,
+        modifier: &Modifier,
+        all: bool,
+        room: u64,
+    ) -> Result<Reply, OpFault>
+        ensures gives { Gives (λ reply. applied_as self.new.rows reply) result (applied self.old.names self.old.rows (Update collection.now selector.now modifier.now all) room) }
+        ensures names { self.new.names ≡ self.old.names }
+        ensures refused { OnErr result (self.new ≡ self.old) }
+    {
+        let reply = self.planned_update(collection, selector, modifier, all)?;
+        self.make_if_room(&reply.changes, 0, room)?;
+        Ok(reply)
+    }
+
     /// Carries the operation out, if it isn't refused: its new documents may have as many bytes as
     /// `room` says. Where the selector names an id it looks at the document with this id alone, and
     /// else at those of the collection.
@@ -252,21 +306,13 @@ impl Store {
                 collection,
                 id,
                 doc,
-            } => {
-                let reply = self.planned_insert(collection, id, doc)?;
-                self.make_if_room(&reply.changes, 1, room)?;
-                Ok(reply)
-            }
+            } => self.insert(collection, id, doc, room),
             Op::Update {
                 collection,
                 selector,
                 modifier,
                 all,
-            } => {
-                let reply = self.planned_update(collection, selector, modifier, *all)?;
-                self.make_if_room(&reply.changes, 0, room)?;
-                Ok(reply)
-            }
+            } => self.update(collection, selector, modifier, *all, room),
             Op::Remove {
                 collection,
                 selector,

@@ -1,0 +1,9 @@
+pub mod Operations
+pub mod History
+pub mod HistoryLaws
+pub mod Bounds
+pub mod RunsLaws
+pub mod LimitLaws
+pub mod StatusLaws
+pub mod ViewLaws
+pub mod StoredLaws
