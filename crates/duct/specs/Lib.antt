@@ -1,0 +1,4 @@
+pub mod Told
+pub mod Polls
+pub mod Sends
+pub mod Networks
