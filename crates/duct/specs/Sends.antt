@@ -26,4 +26,4 @@ with_refused t = record t { blocked = t.blocked || not (has_closed t.polls) }
 -- a send puts the text behind those sent, where there is room and the peer is there, or hands it back
 abbrev pub Sends : {R : Type 0} → Told → List ℕ → Result R (List ℕ × SendFault) → Option Told → Type 0
 Sends before text (Ok _) after = (0 < before.room) × (before.closed ≡ false) × (after ≡ Some (with_sent before text))
-Sends before text (Err (back, fault)) after = RefusedFor before fault × (after ≡ Some (with_refused before))
+Sends before text (Err refused) after = RefusedFor before refused.1 × (after ≡ Some (with_refused before))

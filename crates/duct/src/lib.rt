@@ -3,7 +3,12 @@
 #![tactic(auto)]
 
 mod link;
+mod memory_link;
+mod memory_network;
 mod network;
+mod schedule;
 
 pub use link::{Link, Polled, SendFault};
+pub use memory_link::{MemoryLink, Texts};
+pub use memory_network::{Links, MemoryNetwork};
 pub use network::{NetFault, Network};
