@@ -6,3 +6,6 @@ pub mod Schedules
 pub mod Lines
 pub mod LineSends
 pub mod Nets
+pub mod Marked
+pub mod Rings
+pub mod RingViews

@@ -6,9 +6,11 @@ mod link;
 mod memory_link;
 mod memory_network;
 mod network;
+mod ring_link;
 mod schedule;
 
 pub use link::{Link, Polled, SendFault};
 pub use memory_link::{MemoryLink, Texts};
 pub use memory_network::{Links, MemoryNetwork};
 pub use network::{NetFault, Network};
+pub use ring_link::{RingLink, ring};
