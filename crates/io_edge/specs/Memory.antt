@@ -33,6 +33,10 @@ after_read s room = if read_fails s
     then record s { calls = with_call s.calls; faults = s.faults + 1 }
     else record s { calls = with_call s.calls; left = drop (read_length s room) s.left }
 
+-- how often it was read, up to the last call that is counted
+abbrev pub reads_of : Supply → Option ℕ
+reads_of s = if nat_lt s.calls last_call then Some s.calls else None
+
 pub record Held : Type 0 where
   pub bytes : List ℕ
   pub room : ℕ

@@ -1,8 +1,8 @@
 ghost use Rattle.std.specs.Prelude.{◌≡◌, ◌≤◌, ◌<◌, ◌+◌, ◌-◌, ◌^◌, ◌∷◌, ◌++◌, ℕ, List, [], Option, Some, length, take, drop, min, IfOk, IfSome, OnOk, OnErr, IsTrue, IsErr, ◌↔◌, ◌==◌, slice_get};
 ghost use Rattle.std.specs.List.{list_any};
 ghost use Rattle.std.specs.Option.{option_copied};
-ghost use Rattle.io_edge.specs.Outside.{TakesNext, Grows};
-ghost use Rattle.io_edge.specs.Memory.{Supply, Held, with_call, is_to_fail, read_fails, read_length, after_read, write_fails, after_write, told_of, last_call};
+ghost use Rattle.io_edge.specs.Outside.{TakesNext, Grows, CountsRead};
+ghost use Rattle.io_edge.specs.Memory.{Supply, Held, with_call, is_to_fail, read_fails, read_length, after_read, reads_of, write_fails, after_write, told_of, last_call};
 
 use crate::sink::Sink;
 use crate::source::{Failed, Source};
@@ -80,6 +80,8 @@ impl Source for MemorySource {
 
     ghost faults = { λ s. s.faults };
 
+    ghost reads = { reads_of };
+
     fn read(&mut self, into: &mut [u8]) -> Result<usize, Failed>
         ensures room { IfOk result (λ n. n ≤ length into.old) }
         ensures bytes { IfOk result (λ n. IfSome (Some self.old.left)
@@ -87,6 +89,7 @@ impl Source for MemorySource {
         ensures same { OnErr result (Some self.new.left ≡ Some self.old.left) }
         ensures sound { OnOk result (self.new.faults ≡ self.old.faults) }
         ensures failed { OnErr result (self.old.faults < self.new.faults) }
+        ensures counted { CountsRead (reads_of self.old) (reads_of self.new) }
         ensures after { self.new ≡ after_read self.old (length into.old) }
         ensures fails { IsErr result ↔ IsTrue (read_fails self.old) }
         ensures length { IfOk result (λ n. n ≡ read_length self.old (length into.old)) }

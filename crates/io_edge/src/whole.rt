@@ -1,5 +1,5 @@
-ghost use Rattle.std.specs.Prelude.{◌≡◌, ◌≤◌, ◌<◌, ◌↔◌, ◌++◌, ℕ, List, [], Some, length, take, drop, IfOk, IfErr, IfSome, OnOk, OnErr, IsErr};
-ghost use Rattle.io_edge.specs.Outside.{Grows};
+ghost use Rattle.std.specs.Prelude.{◌≡◌, ◌≤◌, ◌<◌, ◌↔◌, ◌++◌, ◌+◌, ℕ, List, [], Some, length, take, drop, IfOk, IfErr, IfSome, OnOk, OnErr, IsErr};
+ghost use Rattle.io_edge.specs.Outside.{Grows, ReadsAtMost};
 ghost use Rattle.io_edge.specs.Whole.{written_before};
 
 use crate::sink::Sink;
@@ -29,7 +29,8 @@ pub enum WriteAll {
 // How many bytes are asked for at a time.
 const PIECE: usize = 16384;
 
-/// Reads a source to its end, if it has at most `limit` bytes.
+/// Reads a source to its end, if it has at most `limit` bytes. Each turn is one read, and each but the last gives a
+/// byte at least.
 pub fn read_all<I: Source>(alloc: Global, input: &mut I, limit: u64) -> Result<Bytes, ReadAll>
     ensures all { IfOk result (λ bytes. IfSome (I.left input.old) (λ old. bytes ≡ old)) }
     ensures end { OnOk result (IfSome (I.left input.old) (λ _. I.left input.new ≡ Some [])) }
@@ -39,6 +40,8 @@ pub fn read_all<I: Source>(alloc: Global, input: &mut I, limit: u64) -> Result<B
     ensures failed { result ≡ Err ReadAll.Failed → I.faults input.old < I.faults input.new }
     ensures sound { I.faults input.old < I.faults input.new → result ≡ Err ReadAll.Failed }
     ensures later { I.faults input.old ≤ I.faults input.new }
+    ensures turns { ReadsAtMost (limit + 1) (I.reads input.old) (I.reads input.new) }
+    ensures ok_turns { IfOk result (λ bytes. ReadsAtMost (length bytes + 1) (I.reads input.old) (I.reads input.new)) }
 {
     let mut bytes = Vec::new(alloc);
     let mut piece = [0u8; PIECE];

@@ -53,6 +53,45 @@ impl Write for Slow {
     }
 }
 
+// A reader and a writer whose every other call is interrupted, from the first on.
+#[derive(Drop)]
+struct Interrupted {
+    calls: u8,
+}
+
+impl Interrupted {
+    fn is_cut_off(&mut self) -> bool {
+        self.calls = self.calls.wrapping_add(1);
+        self.calls % 2 == 1
+    }
+}
+
+impl Read for Interrupted {
+    fn read(&mut self, into: &mut [u8]) -> io::Result<usize> {
+        if self.is_cut_off() {
+            return Err(io::Error::from(io::ErrorKind::Interrupted));
+        }
+        if into.is_empty() || self.calls > 4 {
+            return Ok(0);
+        }
+        into[0] = b'x';
+        Ok(1)
+    }
+}
+
+impl Write for Interrupted {
+    fn write(&mut self, bytes: &[u8]) -> io::Result<usize> {
+        if self.is_cut_off() {
+            return Err(io::Error::from(io::ErrorKind::Interrupted));
+        }
+        Ok(bytes.len().min(1))
+    }
+
+    fn flush(&mut self) -> io::Result<()> {
+        Ok(())
+    }
+}
+
 // Whether a source of these bytes, whose calls of these numbers fail, is read as wanted within a limit.
 fn reads(
     alloc: Global,
@@ -127,6 +166,27 @@ fn writes_slowly() -> bool {
     let mut sink = StdSink::new(Slow { calls: 0 });
     let first = write_all(&mut sink, b"abcd") == Err(WriteAll::Failed { written: 2 });
     first && write_all(&mut sink, b"cd") == Ok(2)
+}
+
+// Two bytes come in spite of three interruptions.
+fn reads_on(alloc: Global) -> bool {
+    let mut source = StdSource::new(Interrupted { calls: 0 });
+    match read_all(alloc, &mut source, 9) {
+        Ok(bytes) => bytes.as_slice() == b"xx".as_slice(),
+        Err(_) => false,
+    }
+}
+
+fn writes_on() -> bool {
+    let mut sink = StdSink::new(Interrupted { calls: 0 });
+    write_all(&mut sink, b"abcd") == Ok(4)
+}
+
+#[test]
+fn goes_on_after_an_interruption(rt: HostRuntime) -> Result<(), Fail> {
+    assert!(rt; reads_on(rt.alloc()));
+    assert!(rt; writes_on());
+    Ok(())
 }
 
 #[test]
