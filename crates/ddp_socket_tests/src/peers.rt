@@ -1,0 +1,257 @@
+use crate::talk::listening;
+use ddp_socket::{SocketLink, SocketNetwork};
+use duct::{Link, NetFault, Network, Polled};
+use std::alloc::Global;
+use std::io;
+use std::io::{Read, Write};
+use std::net::{Ipv4Addr, Net, Shutdown, TcpListener, TcpStream};
+use std::random::RandomSource;
+use std::test::Fail;
+
+// How often a link is polled for what a peer sent.
+const POLLS: u32 = 100;
+
+const REQUEST: &[u8] =
+    b"GET /websocket HTTP/1.1\r\nHost: 127.0.0.1\r\nConnection: Upgrade\r\nUpgrade: websocket\r\nSec-WebSocket-Version: 13\r\nSec-WebSocket-Key: dGhlIHNhbXBsZSBub25jZQ==\r\n\r\n";
+
+// The example of RFC 6455, section 1.3: how a server answers that key.
+const ACCEPTED: &[u8] = b"sec-websocket-accept: s3pPLMBiTxaQ9kYGzzhZRbK+xOo=\r\n";
+
+// Each row: what a peer sends behind its handshake before it sends no more (RFC 6455, section 5.2), in hexadecimal; what
+// the polls of the link then give; and what the peer was sent behind the handshake.
+const FRAMES: &str = r#"818000000000 => [] failed =>
+8182000000006869 => [hi] failed =>
+818201020304696b => [hi] failed =>
+8182000000006869818100000000788182000000006a6b => [hi] [x] [jk] failed =>
+818400000000f09f8d8c => [🍌] failed =>
+018100000000688980000000000080000000008a80000000008081000000006a => [hj] failed => 8a00
+898100000000618182000000006869 => [hi] failed => 8a0161
+82810000000061 => closed => 880203eb
+81820000000068698280000000008182000000006869 => [hi] closed => 880203eb
+88820000000003e8 => closed => 880203e8
+888000000000 => closed => 8800
+888000000000818100000000 => closed => 8800
+81850000000068 => failed =>
+8182000000 => failed =>
+81820000000068698181 => [hi] failed =>
+818100000000ff => failed =>
+818200000000686981820000 => [hi] failed =>
+81ff000000000080000100000000 => failed =>
+81026869 => failed =>
+c18000000000 => failed =>
+808000000000 => failed =>
+838000000000 => failed =>
+ => failed =>
+"#;
+
+// Each row: what a peer sends in place of a handshake before it sends no more, with a bar for the end of a line.
+const HEADS: &str = r#"
+hello
+GET /websocket HTTP/1.1|Host: 127.0.0.1||
+GET /websocket HTTP/1.1|Host: 127.0.0.1|Connection: Upgrade|Upgrade: websocket|Sec-WebSocket-Version: 13|
+GET /websocket HTTP/1.1|Host: 127.0.0.1|Connection: Upgrade|Upgrade: websocket|Sec-WebSocket-Version: 13||
+GET /websocket HTTP/1.1|Host: 127.0.0.1|Connection: Upgrade|Upgrade: websocket|Sec-WebSocket-Version: 8|Sec-WebSocket-Key: dGhlIHNhbXBsZSBub25jZQ==||
+POST /websocket HTTP/1.1|Host: 127.0.0.1|Connection: Upgrade|Upgrade: websocket|Sec-WebSocket-Version: 13|Sec-WebSocket-Key: dGhlIHNhbXBsZSBub25jZQ==||
+"#;
+
+fn digit(letter: u8) -> u8 {
+    match letter {
+        b'0'..=b'9' => letter - b'0',
+        b'a'..=b'f' => letter - b'a' + 10,
+        _ => 0,
+    }
+}
+
+fn bytes(alloc: Global, digits: &str) -> Result<Vec<u8>, Fail> {
+    let mut bytes = Vec::new(alloc);
+    for pair in digits.as_bytes().chunks_exact(2) {
+        bytes.push(digit(pair[0]) << 4 | digit(pair[1]))?;
+    }
+    Ok(bytes)
+}
+
+fn lines(alloc: Global, row: &str) -> Result<Vec<u8>, Fail> {
+    let mut bytes = Vec::new(alloc);
+    for byte in row.as_bytes() {
+        if *byte == b'|' {
+            bytes.extend_from_slice(b"\r\n")?;
+        } else {
+            bytes.push(*byte)?;
+        }
+    }
+    Ok(bytes)
+}
+
+// What the polls of a link give, up to its end.
+pub fn heard<L: Link>(alloc: Global, link: &mut L) -> Result<String, Fail> {
+    let mut all = String::new(alloc);
+    for _ in 0..POLLS {
+        match link.poll() {
+            Polled::Message(text) => {
+                all.push_str("[")?;
+                all.push_str(text.as_str())?;
+                all.push_str("] ")?;
+            }
+            Polled::Quiet => {}
+            Polled::Closed => {
+                all.push_str("closed")?;
+                return Ok(all);
+            }
+            Polled::Failed => {
+                all.push_str("failed")?;
+                return Ok(all);
+            }
+            Polled::Memory => {
+                all.push_str("memory")?;
+                return Ok(all);
+            }
+        }
+    }
+    Ok(all)
+}
+
+// A peer that has sent this, and the link of it.
+fn peer<R: Net<Listener = TcpListener, Stream = TcpStream> + RandomSource + Copy + Send>(
+    rt: R,
+    network: &mut SocketNetwork<R>,
+    port: u16,
+    head: &[u8],
+) -> Result<(TcpStream, SocketLink<TcpStream, R>), Fail> {
+    let mut peer = TcpStream::connect(&rt, (Ipv4Addr::LOCALHOST, port))?;
+    peer.write_all(head)?;
+    Ok((peer, network.accept()?))
+}
+
+// A peer and its link behind the handshake; the peer has sent these frames, and sends no more.
+fn sends<R: Net<Listener = TcpListener, Stream = TcpStream> + RandomSource + Copy + Send>(
+    rt: R,
+    network: &mut SocketNetwork<R>,
+    port: u16,
+    frames: &[u8],
+) -> Result<(TcpStream, SocketLink<TcpStream, R>), Fail> {
+    let (mut peer, mut link) = peer(rt, network, port, REQUEST)?;
+    if !matches!(link.poll(), Polled::Quiet) {
+        return Err(io::Error::from(io::ErrorKind::ConnectionRefused).into());
+    }
+    peer.write_all(frames)?;
+    peer.shutdown(Shutdown::Write)?;
+    Ok((peer, link))
+}
+
+// Whether these end with the head that accepts the handshake, and then these.
+fn is_answered(sent: &[u8], wanted: &[u8]) -> bool {
+    let head = sent.len().saturating_sub(wanted.len());
+    sent.ends_with(wanted)
+        && sent[..head].ends_with(b"\r\n\r\n")
+        && sent.windows(ACCEPTED.len()).any(|part| part == ACCEPTED)
+}
+
+// Whether a row of frames is heard as it says, and answered so.
+fn is_heard<R: Net<Listener = TcpListener, Stream = TcpStream> + RandomSource + Copy + Send>(
+    rt: R,
+    alloc: Global,
+    network: &mut SocketNetwork<R>,
+    port: u16,
+    row: &str,
+) -> Result<bool, Fail> {
+    let Some((frames, wanted)) = row.split_once(" =>") else {
+        return Ok(false);
+    };
+    let Some((polls, reply)) = wanted.split_once(" =>") else {
+        return Ok(false);
+    };
+    let frames = bytes(alloc, frames)?;
+    let (mut peer, mut link) = sends(rt, network, port, &frames)?;
+    let heard = heard(alloc, &mut link)?;
+    drop(link);
+    let mut sent = Vec::new(alloc);
+    peer.read_to_end(&mut sent)?;
+    let reply = bytes(alloc, reply.trim())?;
+    Ok(heard.as_str() == polls.trim() && is_answered(&sent, &reply))
+}
+
+// Whether a link fails at its first poll and its second where its peer sends this.
+fn is_refused<R: Net<Listener = TcpListener, Stream = TcpStream> + RandomSource + Copy + Send>(
+    rt: R,
+    alloc: Global,
+    network: &mut SocketNetwork<R>,
+    port: u16,
+    head: &str,
+) -> Result<bool, Fail> {
+    let head = lines(alloc, head)?;
+    let (peer, mut link) = peer(rt, network, port, &head)?;
+    peer.shutdown(Shutdown::Write)?;
+    Ok(matches!(link.poll(), Polled::Failed) && matches!(link.poll(), Polled::Failed))
+}
+
+// Adds a row, as one that isn't as it says.
+fn add(wrong: &mut String, row: &str) -> Result<(), Fail> {
+    wrong.push_str(row)?;
+    wrong.push_str("\n")?;
+    Ok(())
+}
+
+// The rows that aren't as they say, of frames and of heads; a link that stands beside them all then still gives its text.
+fn wrong_rows<R: Net<Listener = TcpListener, Stream = TcpStream> + RandomSource + Copy + Send>(
+    rt: R,
+    alloc: Global,
+    network: &mut SocketNetwork<R>,
+    port: u16,
+) -> Result<String, Fail> {
+    let mut wrong = String::new(alloc);
+    let text = bytes(alloc, "8182000000006869")?;
+    let (_peer, mut standing) = sends(rt, network, port, &text)?;
+    for row in FRAMES.lines() {
+        if !is_heard(rt, alloc, network, port, row)? {
+            add(&mut wrong, row)?;
+        }
+    }
+    for head in HEADS.lines() {
+        if !is_refused(rt, alloc, network, port, head)? {
+            add(&mut wrong, head)?;
+        }
+    }
+    if heard(alloc, &mut standing)?.as_str() != "[hi] failed" {
+        add(&mut wrong, "the link beside them")?;
+    }
+    Ok(wrong)
+}
+
+fn all_wrong_rows<R: Net<Listener = TcpListener, Stream = TcpStream> + RandomSource + Copy + Send>(
+    rt: R,
+    alloc: Global,
+) -> Result<String, Fail> {
+    let mut network = SocketNetwork::new(rt, alloc);
+    match listening(&mut network) {
+        Some(port) => wrong_rows(rt, alloc, &mut network, port),
+        None => Ok(String::from_str(alloc, "no port is free")?),
+    }
+}
+
+#[test]
+fn links_fail_alone(rt: HostRuntime) -> Result<(), Fail> {
+    let wrong = all_wrong_rows(rt, rt.alloc())?;
+    assert_eq!(rt; wrong.as_str(), "");
+    Ok(())
+}
+
+// Whether the calls of a network fail where nothing listens, and where the port is taken.
+fn fails<R: Net<Listener = TcpListener, Stream = TcpStream> + RandomSource + Copy + Send>(
+    rt: R,
+    alloc: Global,
+) -> bool {
+    let mut network = SocketNetwork::new(rt, alloc);
+    let unheard = matches!(network.accept(), Err(NetFault::Failed));
+    let Some(port) = listening(&mut network) else {
+        return false;
+    };
+    let mut other = SocketNetwork::new(rt, alloc);
+    let taken = matches!(other.listen(port), Err(NetFault::Failed));
+    drop(network);
+    unheard && taken && matches!(other.connect(port), Err(NetFault::Failed))
+}
+
+#[test]
+fn networks_fail(rt: HostRuntime) {
+    assert!(rt; fails(rt, rt.alloc()));
+}

@@ -1,0 +1,221 @@
+use ddp_socket::{READS, SocketLink, TRIES, accept, connect};
+use duct::{Link, NetFault, Polled, SendFault};
+use ejson_value::Text;
+use std::alloc::Global;
+use std::io;
+use std::io::{ErrorKind, Read, Write};
+use std::random::RandomSource;
+use std::test::Fail;
+
+const REQUEST: &[u8] =
+    b"GET /websocket HTTP/1.1\r\nHost: 127.0.0.1\r\nConnection: Upgrade\r\nUpgrade: websocket\r\nSec-WebSocket-Version: 13\r\nSec-WebSocket-Key: dGhlIHNhbXBsZSBub25jZQ==\r\n\r\n";
+
+// What a stream gives behind its parts.
+#[derive(Drop)]
+enum Then {
+    Blocks,
+    Ends,
+    // These six bytes at each read.
+    Repeats([u8; 6]),
+}
+
+// A stream that gives a part at each read, counts its reads, takes so many writes and then fails at each with this error.
+#[derive(Drop)]
+struct Stream<'a> {
+    parts: &'a [&'a [u8]],
+    then: Then,
+    reads: &'a mut u32,
+    writes: u32,
+    refused: ErrorKind,
+}
+
+impl Read for Stream<'_> {
+    fn read(&mut self, into: &mut [u8]) -> io::Result<usize> {
+        *self.reads = self.reads.saturating_add(1);
+        let given: &[u8] = match self.parts.split_first() {
+            Some((first, rest)) => {
+                self.parts = rest;
+                first
+            }
+            None => match &self.then {
+                Then::Blocks => return Err(io::Error::from(ErrorKind::WouldBlock)),
+                Then::Ends => &[],
+                Then::Repeats(bytes) => bytes,
+            },
+        };
+        let n = given.len().min(into.len());
+        into[..n].copy_from_slice(&given[..n]);
+        Ok(n)
+    }
+}
+
+impl Write for Stream<'_> {
+    fn write(&mut self, bytes: &[u8]) -> io::Result<usize> {
+        match self.writes.checked_sub(1) {
+            Some(writes) => {
+                self.writes = writes;
+                Ok(bytes.len())
+            }
+            None => Err(io::Error::from(self.refused)),
+        }
+    }
+
+    fn flush(&mut self) -> io::Result<()> {
+        Ok(())
+    }
+}
+
+// The random bytes of a test.
+#[derive(Clone, Copy)]
+struct Zeros;
+
+impl RandomSource for Zeros {
+    fn fill_bytes(&self, into: &mut [u8]) -> io::Result<()> {
+        into.fill(0);
+        Ok(())
+    }
+}
+
+// A server's link over a stream.
+fn link<'a>(
+    alloc: Global,
+    parts: &'a [&'a [u8]],
+    then: Then,
+    reads: &'a mut u32,
+    writes: u32,
+    refused: ErrorKind,
+) -> SocketLink<Stream<'a>, Zeros> {
+    accept(
+        alloc,
+        Stream {
+            parts,
+            then,
+            reads,
+            writes,
+            refused,
+        },
+    )
+}
+
+// Whether a link tries the handshake of a peer that sends nothing so often, and then fails.
+fn fails_at_silence(alloc: Global) -> bool {
+    let mut reads = 0;
+    let mut link = link(
+        alloc,
+        &[],
+        Then::Blocks,
+        &mut reads,
+        9,
+        ErrorKind::BrokenPipe,
+    );
+    let failed = matches!(link.poll(), Polled::Failed) && matches!(link.poll(), Polled::Failed);
+    drop(link);
+    failed && reads == TRIES
+}
+
+// Whether a poll ends though its peer sends the fragments of a text without end.
+fn ends_each_poll(alloc: Global) -> bool {
+    let mut reads = 0;
+    let parts: [&[u8]; 2] = [REQUEST, b"\x01\x80\x00\x00\x00\x00"];
+    let endless = Then::Repeats([0, 0x80, 0, 0, 0, 0]);
+    let mut link = link(alloc, &parts, endless, &mut reads, 9, ErrorKind::BrokenPipe);
+    let quiet = (0..3u8).all(|_| matches!(link.poll(), Polled::Quiet));
+    drop(link);
+    quiet && reads == 2 * READS
+}
+
+// Whether a client fails where its server sends nothing, and where it ends.
+fn fails_to_connect(alloc: Global, then: Then, wanted: u32) -> bool {
+    let mut reads = 0;
+    let stream = Stream {
+        parts: &[],
+        then,
+        reads: &mut reads,
+        writes: 9,
+        refused: ErrorKind::BrokenPipe,
+    };
+    let failed = matches!(connect(Zeros, alloc, stream), Err(NetFault::Failed));
+    failed && reads == wanted
+}
+
+#[test]
+fn calls_end(rt: HostRuntime) {
+    let alloc = rt.alloc();
+    assert!(rt; fails_at_silence(alloc));
+    assert!(rt; ends_each_poll(alloc));
+    assert!(rt; fails_to_connect(alloc, Then::Blocks, TRIES));
+    assert!(rt; fails_to_connect(alloc, Then::Ends, 1));
+}
+
+// What a send of a text answers; none where another text came back.
+fn sent<L: Link>(alloc: Global, link: &mut L) -> Option<Result<(), SendFault>> {
+    let text = Text::from_str(alloc, "hi").ok()?;
+    match link.send(text) {
+        Ok(()) => Some(Ok(())),
+        Err((back, fault)) if back.as_str() == "hi" => Some(Err(fault)),
+        Err(_) => None,
+    }
+}
+
+// A link is full before its handshake, and while an earlier text waits.
+fn is_full(alloc: Global) -> bool {
+    let mut reads = 0;
+    let parts: [&[u8]; 1] = [REQUEST];
+    let mut link = link(
+        alloc,
+        &parts,
+        Then::Blocks,
+        &mut reads,
+        1,
+        ErrorKind::WouldBlock,
+    );
+    let before = sent(alloc, &mut link) == Some(Err(SendFault::Full));
+    let opened = matches!(link.poll(), Polled::Quiet);
+    let taken = sent(alloc, &mut link) == Some(Ok(()));
+    let full = sent(alloc, &mut link) == Some(Err(SendFault::Full));
+    before && opened && taken && full && matches!(link.poll(), Polled::Quiet)
+}
+
+// A link fails at a write that fails, and stays so.
+fn is_broken(alloc: Global) -> bool {
+    let mut reads = 0;
+    let parts: [&[u8]; 1] = [REQUEST];
+    let mut link = link(
+        alloc,
+        &parts,
+        Then::Blocks,
+        &mut reads,
+        1,
+        ErrorKind::BrokenPipe,
+    );
+    let opened = matches!(link.poll(), Polled::Quiet);
+    let failed = sent(alloc, &mut link) == Some(Err(SendFault::Failed));
+    let again = sent(alloc, &mut link) == Some(Err(SendFault::Failed));
+    opened && failed && again && matches!(link.poll(), Polled::Failed)
+}
+
+// A link whose peer has closed stays so.
+fn is_closed(alloc: Global) -> bool {
+    let mut reads = 0;
+    let parts: [&[u8]; 2] = [REQUEST, b"\x88\x80\x00\x00\x00\x00"];
+    let mut link = link(
+        alloc,
+        &parts,
+        Then::Blocks,
+        &mut reads,
+        9,
+        ErrorKind::BrokenPipe,
+    );
+    let opened = matches!(link.poll(), Polled::Quiet);
+    let closed = matches!(link.poll(), Polled::Closed);
+    let refused = sent(alloc, &mut link) == Some(Err(SendFault::Closed));
+    opened && closed && refused && matches!(link.poll(), Polled::Closed)
+}
+
+#[test]
+fn a_refused_text_comes_back(rt: HostRuntime) {
+    let alloc = rt.alloc();
+    assert!(rt; is_full(alloc));
+    assert!(rt; is_broken(alloc));
+    assert!(rt; is_closed(alloc));
+}
