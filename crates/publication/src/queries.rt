@@ -15,27 +15,9 @@ use crate::paths::sorted_paths;
 use crate::projections::project_by;
 use app_model::Projection;
 use ejson_value::{Contents, Doc, Key, Mem, Part, Publish, Publishes, Text};
-use selector_match::{Selector, Steps, matches};
+use selector_match::holds;
 use std::alloc::Global;
 use std::collections::BTreeMap;
-use std::marker::Brand;
-use std::sync::ledger::{Blank, Ledger};
-
-fn counted<L: Ledger>(selector: &Selector, id: &Text, doc: &Doc, blank: Blank) -> bool
-    requires name { blank.name ≡ L.name }
-    requires parts { blank.parts ≡ L.parts }
-    requires whole { blank.parts ≡ 1 }
-    ensures { result ≡ holds selector.now id.now doc.now }
-{
-    let mut steps = Steps::<L>::new(blank);
-    matches(selector, id, doc, &mut steps)
-}
-
-fn selector_holds(selector: &Selector, id: &Text, doc: &Doc) -> bool
-    ensures { result ≡ holds selector.now id.now doc.now }
-{
-    counted::<Brand>(selector, id, doc, Blank::new(1))
-}
 
 // Published documents by published name and id.
 type Found = BTreeMap<Key, Doc>;
@@ -65,10 +47,7 @@ fn put_document(
     ensures { OnOk result (found.new.entries ≡ set key_cmp found.old.entries (key_of cursor.now.name id.now) (Some (entries_of (projected cursor.now.fields (fields_of doc.now))))) }
 {
     let fields = projected(alloc, &cursor.fields, paths, doc)?;
-    let key = Key {
-        collection: cursor.name.copy()?,
-        id: id.copy()?,
-    };
+    let key = Key::of(&cursor.name, id)?;
     drop(found.insert(key, fields)?);
     Ok(())
 }
@@ -85,7 +64,7 @@ fn put_if_held(
     requires { AreSorted (paths_of cursor.now.fields) (paths_in paths.now) }
     ensures { OnOk result (found.new.entries ≡ put_document found.old.entries (key_of cursor.now.name id.now) (published_of cursor.now id.now doc.now)) }
 {
-    if selector_holds(&cursor.selector, id, doc) {
+    if holds(&cursor.selector, id, doc) {
         put_document(alloc, found, cursor, paths, id, doc)
     } else {
         Ok(())
@@ -121,10 +100,7 @@ fn put_named(
     requires { AreSorted (paths_of cursor.now.fields) (paths_in paths.now) }
     ensures { OnOk result (found.new.entries ≡ put_document found.old.entries (key_of cursor.now.name id.now) (published_at cursor.now contents.now id.now)) }
 {
-    let key = Key {
-        collection: cursor.collection.copy()?,
-        id: id.copy()?,
-    };
+    let key = Key::of(&cursor.collection, id)?;
     match contents.get(&key) {
         None => Ok(()),
         Some(doc) => put_if_held(alloc, found, cursor, paths, id, doc),
