@@ -11,7 +11,7 @@ use Rattle.map_model.specs.ChangeLaws.{sorted-changed}
 use Rattle.value_model.specs.Val.{Entries}
 use Rattle.ejson_value.specs.declared.key.Key.{Key}
 use Rattle.ejson_value.specs.declared.change.Change.{Change}
-use Rattle.ejson_value.specs.Key.{key_cmp, key_order}
+use Rattle.ejson_value.specs.Key.{key_cmp, key_order, key_of}
 use Rattle.ejson_value.specs.Rows.{Rows}
 use Rattle.ejson_value.specs.Changes.{changes_of}
 use Rattle.ejson_value.specs.ChangeLaws.{Fit-from_all}
@@ -21,7 +21,7 @@ use Rattle.collection_store.specs.declared.operation.Op.{Op}
 use Rattle.collection_store.specs.declared.operation.Op.TheVariants as operation
 use Rattle.collection_store.specs.Outcome.{Outcome}
 use Rattle.collection_store.specs.Limits.{is_too_large, is_full, max_documents, max_bytes, bytes_of, new_bytes}
-use Rattle.collection_store.specs.Applied.{Row, Plan, Applied, key_of, is_listed, after, done, matching, chosen, insertion, insert_plan, update_plan, all_updated, remove_plan, removal, plan_for, if_room, applied}
+use Rattle.collection_store.specs.Applied.{Row, Plan, Applied, is_listed, after, done, matching, chosen, insertion, insert_plan, update_plan, all_updated, remove_plan, removal, plan_for, if_room, applied}
 use Rattle.collection_store.specs.Answered.{AreFor, AreTouched, is_touched, Does}
 use Rattle.collection_store.proofs.Picked.{Picked, none, skip, pick, AreFor-from_picked, AreFor-insertion, of_matching, of_chosen_matching, picked_removals, picked_updates, no_new_bytes}
 

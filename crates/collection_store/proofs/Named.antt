@@ -10,11 +10,11 @@ use Rattle.map_model.specs.MapLaws.{at-tail, key_is, eq_by_cmp-self}
 use Rattle.value_model.specs.Val.{Entries}
 use Rattle.value_model.specs.Size.{is_name}
 use Rattle.ejson_value.specs.declared.key.Key.{Key}
-use Rattle.ejson_value.specs.Key.{key_cmp, key_order}
+use Rattle.ejson_value.specs.Key.{key_cmp, key_order, key_of}
 use Rattle.ejson_value.specs.Rows.{Rows, rows_of}
 use Rattle.selector_match.specs.Query.{Query}
 use Rattle.selector_match.specs.Holds.{holds}
-use Rattle.collection_store.specs.Applied.{Row, key_of, matching, chosen}
+use Rattle.collection_store.specs.Applied.{Row, matching, chosen}
 use Rattle.collection_store.specs.Finding.{if_held}
 
 named : (a b : List ℕ) → is_name a b ≡ true → a ≡ b

@@ -8,7 +8,7 @@ use Rattle.value_model.specs.Val.{Val, int, text, Entries}
 use Rattle.value_model.specs.Size.{is_name}
 use Rattle.ejson_value.specs.declared.key.Key.{Key}
 use Rattle.ejson_value.specs.declared.change.Change.{Change}
-use Rattle.ejson_value.specs.Key.{key_cmp}
+use Rattle.ejson_value.specs.Key.{key_cmp, key_of}
 use Rattle.ejson_value.specs.Rows.{Rows, rows_of}
 use Rattle.ejson_value.specs.Changes.{changes_of}
 use Rattle.ejson_value.specs.Results.{made, with_both, and_then}
@@ -27,9 +27,6 @@ use Rattle.collection_store.specs.Limits.{document, is_too_large, is_full}
 -- a document with its key
 abbrev pub Row : Type 0
 Row = Key × Entries
-
-abbrev pub key_of : List ℕ → List ℕ → Key
-key_of collection id = record { collection = collection; id = id }
 
 -- the collection is one of those of these names
 abbrev pub is_listed : List (List ℕ) → List ℕ → Bool

@@ -1,9 +1,9 @@
 //! The documents that a selector holds of.
 ghost use Rattle.std.specs.Prelude.{◌≡◌, ◌++◌, ◌∷◌, [], IfOk, OnOk};
 ghost use Rattle.map_model.specs.Maps.{at};
-ghost use Rattle.ejson_value.specs.Key.{key_cmp};
+ghost use Rattle.ejson_value.specs.Key.{key_cmp, key_of};
 ghost use Rattle.selector_match.specs.Holds.{holds};
-ghost use Rattle.collection_store.specs.Applied.{key_of, matching, chosen};
+ghost use Rattle.collection_store.specs.Applied.{matching, chosen};
 ghost use Rattle.collection_store.specs.Finding.{rows_in, if_held};
 
 use ejson_value::{Contents, Doc, Key, Mem, Text};

@@ -1,11 +1,11 @@
 //! The store.
 ghost use Rattle.std.specs.Prelude.{◌≡◌, ◌+◌, ◌∷◌, length, is_some, OnOk, OnErr, IfOk, Ok, Err, Some, None, [], if◌then◌else◌};
 ghost use Rattle.map_model.specs.Maps.{at};
-ghost use Rattle.ejson_value.specs.Key.{key_cmp};
+ghost use Rattle.ejson_value.specs.Key.{key_cmp, key_of};
 ghost use Rattle.ejson_value.specs.Measure.{capped};
 ghost use Rattle.collection_store.specs.Outcome.{Gives};
 ghost use Rattle.collection_store.specs.Limits.{bytes_of, is_full, new_bytes};
-ghost use Rattle.collection_store.specs.Applied.{is_listed, key_of, after, done, chosen, matching, insertion, insert_plan, update_plan, remove_plan, if_listed, if_room, applied};
+ghost use Rattle.collection_store.specs.Applied.{is_listed, after, done, chosen, matching, insertion, insert_plan, update_plan, remove_plan, if_listed, if_room, applied};
 ghost use Rattle.collection_store.specs.Answered.{plan_of, applied_as, AreFor};
 ghost use Rattle.collection_store.specs.declared.fault.OpFault.TheVariants.{Full};
 ghost use Rattle.collection_store.specs.declared.operation.Op.TheVariants.{Insert, Update};

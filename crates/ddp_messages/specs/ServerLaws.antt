@@ -10,13 +10,14 @@ use Rattle.ejson_value.specs.declared.key.Key.{Key}
 use Rattle.ejson_value.specs.declared.fault.Fault.{Fault}
 use Rattle.ejson_value.specs.declared.message.DataMsg.{DataMsg}
 use Rattle.ejson_value.specs.declared.message.DataMsg.TheVariants.{Added, Changed, Removed}
+use Rattle.ejson_value.specs.Key.{key_of}
 use Rattle.ejson_codec.specs.WrittenLaws.{name_is}
 use Rattle.ddp_messages.specs.Wire.{wire_of}
 use Rattle.ddp_messages.specs.WireLaws.{own_only}
 use Rattle.ddp_messages.specs.Forms.{id_of, document_id_of, texts_of, ids_of, value_of, document_of}
 use Rattle.ddp_messages.specs.Fields.{needed, optional, defaulted, name_of, IsNamed}
 use Rattle.ddp_messages.specs.FieldLaws.{map_some, map₂_some, map₃_some, by_test, map₂_from, map₃_from, id_back, ids_back, texts_back, value_back, document_back}
-use Rattle.ddp_messages.specs.ServerMessage.{ServerMessage, connected, failed, ping, pong, nosub, ready, about, finished, updated, refused, unknown, fault_of, key_of, HasKey, DataReads, server_names, is_known, ServerReads, key_reading, added_reading, changed_reading, removed_reading, nosub_reading, result_reading, refused_with, error_reading, unknown_unless, server_named, server_reading}
+use Rattle.ddp_messages.specs.ServerMessage.{ServerMessage, connected, failed, ping, pong, nosub, ready, about, finished, updated, refused, unknown, fault_of, HasKey, DataReads, server_names, is_known, ServerReads, key_reading, added_reading, changed_reading, removed_reading, nosub_reading, result_reading, refused_with, error_reading, unknown_unless, server_named, server_reading}
 use Rattle.ddp_messages.specs.Written.{fault_written, server_written}
 use Rattle.ddp_messages.specs.Limits.{DataKeepsLimits, DataHasValues, ServerKeepsLimits, ServerHasValues}
 

@@ -10,6 +10,7 @@ use Rattle.ejson_value.specs.declared.key.Key.{Key}
 use Rattle.ejson_value.specs.declared.fault.Fault.{Fault}
 use Rattle.ejson_value.specs.declared.message.DataMsg.{DataMsg}
 use Rattle.ejson_value.specs.declared.message.DataMsg.TheVariants.{Added, Changed, Removed}
+use Rattle.ejson_value.specs.Key.{key_of}
 use Rattle.ddp_messages.specs.Forms.{id_of, document_id_of, texts_of, ids_of, value_of, document_of, code_of}
 use Rattle.ddp_messages.specs.Fields.{needed, optional, defaulted, name_of, IsNamed, Has, MayHave, HasOr, map₂, map₃, map₄}
 use Rattle.ddp_messages.specs.declared.from_server.FromServer.{FromServer}
@@ -52,9 +53,6 @@ abbrev pub fault_of : Data → Option Fault
 fault_of d = map₄ fault_made (needed code_of (codes "error") d) (needed as_str (codes "errorType") d) (optional as_str (codes "message") d) (defaulted [] as_str (codes "reason") d)
 
 -- ---- data
-
-abbrev pub key_of : List ℕ → List ℕ → Key
-key_of collection id = record { collection = collection; id = id }
 
 -- which document the message is about
 abbrev pub HasKey : Data → Key → Type 0

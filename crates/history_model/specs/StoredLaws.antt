@@ -14,7 +14,7 @@ use Rattle.value_model.specs.Size.{is_name}
 use Rattle.ejson_value.specs.declared.key.Key.{Key}
 use Rattle.ejson_value.specs.declared.change.Change.{Change}
 use Rattle.ejson_value.specs.declared.fault.Fault.{Fault}
-use Rattle.ejson_value.specs.Key.{key_cmp, key_exact}
+use Rattle.ejson_value.specs.Key.{key_cmp, key_exact, key_of}
 use Rattle.ejson_value.specs.Rows.{Rows, rows_of}
 use Rattle.ejson_value.specs.View.{view}
 use Rattle.ejson_value.specs.ResultLaws.{made-ok, and_then-ok}
@@ -31,7 +31,7 @@ use Rattle.collection_store.specs.declared.operation.Op.{Op}
 use Rattle.collection_store.specs.declared.operation.Op.TheVariants as operation
 use Rattle.collection_store.specs.Outcome.{Outcome}
 use Rattle.collection_store.specs.Limits.{document, is_too_large, is_full}
-use Rattle.collection_store.specs.Applied.{Row, Plan, Applied, key_of, is_listed, after, done, matching, chosen, insertion, insert_plan, update_plan, or_refused, change_if_differs, change_to, updated, with_change, all_updated, remove_plan, removal, plan_for, if_room, applied}
+use Rattle.collection_store.specs.Applied.{Row, Plan, Applied, is_listed, after, done, matching, chosen, insertion, insert_plan, update_plan, or_refused, change_if_differs, change_to, updated, with_change, all_updated, remove_plan, removal, plan_for, if_room, applied}
 use Rattle.program_steps.specs.declared.rules.Action.{Action}
 use Rattle.program_steps.specs.declared.rules.Action.TheVariants as action
 use Rattle.program_steps.specs.declared.rules.Rules.{Rules}

@@ -4,10 +4,10 @@ use Rattle.std.specs.List.{list_any}
 use Rattle.std.proofs.Common.{ap, subst, arith}
 use Rattle.map_model.specs.Maps.{at}
 use Rattle.value_model.specs.Val.{Entries}
-use Rattle.ejson_value.specs.Key.{key_cmp}
+use Rattle.ejson_value.specs.Key.{key_cmp, key_of}
 use Rattle.ejson_value.specs.Rows.{Rows}
 use Rattle.collection_store.specs.Outcome.{Outcome as Answer}
-use Rattle.collection_store.specs.Applied.{Applied, applied, key_of}
+use Rattle.collection_store.specs.Applied.{Applied, applied}
 use Rattle.program_steps.specs.declared.rules.Action.{Action}
 use Rattle.program_steps.specs.declared.rules.Rules.{Rules}
 use Rattle.program_steps.specs.declared.step.ProgramStep.TheVariants as step

@@ -4,11 +4,11 @@ use Rattle.std.proofs.Common.{ap, sym, ◌∙◌, arith, length-append}
 use Rattle.map_model.specs.Maps.{at}
 use Rattle.value_model.specs.Val.{Val, text}
 use Rattle.ejson_value.specs.declared.fault.Fault.{Fault}
-use Rattle.ejson_value.specs.Key.{key_cmp}
+use Rattle.ejson_value.specs.Key.{key_cmp, key_of}
 use Rattle.ejson_value.specs.Rows.{Rows}
 use Rattle.modifier_apply.specs.Reading as modifier
 use Rattle.collection_store.specs.Outcome.{Outcome as Answer}
-use Rattle.collection_store.specs.Applied.{Applied, applied, matching, key_of}
+use Rattle.collection_store.specs.Applied.{Applied, applied, matching}
 use Rattle.program_steps.specs.declared.rules.Action.{Action}
 use Rattle.program_steps.specs.declared.rules.Action.TheVariants as action
 use Rattle.program_steps.specs.declared.rules.Rules.{Rules}

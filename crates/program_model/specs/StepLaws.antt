@@ -11,11 +11,11 @@ use Rattle.value_model.specs.Val.{Val}
 use Rattle.ejson_value.specs.declared.key.Key.{Key}
 use Rattle.ejson_value.specs.declared.change.Change.{Change}
 use Rattle.ejson_value.specs.declared.fault.Fault.{Fault}
-use Rattle.ejson_value.specs.Key.{key_cmp, key_order}
+use Rattle.ejson_value.specs.Key.{key_cmp, key_order, key_of}
 use Rattle.ejson_value.specs.Rows.{Rows}
 use Rattle.ejson_value.specs.Changes.{change_of, changes_of}
 use Rattle.collection_store.specs.Outcome.{Outcome as Answer}
-use Rattle.collection_store.specs.Applied.{Applied, applied, matching, key_of}
+use Rattle.collection_store.specs.Applied.{Applied, applied, matching}
 use Rattle.collection_store.specs.Answered.{AreTouched}
 use Rattle.collection_store.specs.declared.operation.Op.{Op}
 use Rattle.collection_store.specs.declared.operation.Op.TheVariants as operation

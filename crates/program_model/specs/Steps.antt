@@ -5,13 +5,13 @@ use Rattle.value_model.specs.Val.{Val, text, int}
 use Rattle.ejson_value.specs.declared.key.Key.{Key}
 use Rattle.ejson_value.specs.declared.change.Change.{Change}
 use Rattle.ejson_value.specs.declared.fault.Fault.{Fault}
-use Rattle.ejson_value.specs.Key.{key_cmp}
+use Rattle.ejson_value.specs.Key.{key_cmp, key_of}
 use Rattle.ejson_value.specs.Rows.{Rows}
 use Rattle.selector_match.specs.Query.{Query, no_clauses, clause, at_path, predicate, no_predicates, equal}
 use Rattle.modifier_apply.specs.Change.{Modification, changed_by}
 use Rattle.modifier_apply.specs.Reading as modifier
 use Rattle.collection_store.specs.Outcome.{Outcome as Answer}
-use Rattle.collection_store.specs.Applied.{Applied, applied, matching, key_of}
+use Rattle.collection_store.specs.Applied.{Applied, applied, matching}
 use Rattle.collection_store.specs.declared.operation.Op.{Op}
 use Rattle.collection_store.specs.declared.operation.Op.TheVariants as operation
 use Rattle.program_steps.specs.declared.rules.Action.{Action}

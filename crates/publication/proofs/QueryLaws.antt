@@ -19,12 +19,12 @@ use Rattle.value_model.specs.Val.{Entries, fields_of, entries_of}
 use Rattle.value_model.specs.Size.{is_name}
 use Rattle.ejson_value.specs.declared.key.Key.{Key}
 use Rattle.ejson_value.specs.declared.change.Publish.{Publish}
-use Rattle.ejson_value.specs.Key.{key_cmp, key_total, key_exact, key_order}
+use Rattle.ejson_value.specs.Key.{key_cmp, key_total, key_exact, key_order, key_of}
 use Rattle.ejson_value.specs.Rows.{Rows, rows_of}
 use Rattle.selector_match.specs.Holds.{holds}
 use Rattle.publication.specs.declared.cursor.Cursor.{Cursor}
 use Rattle.publication.specs.Cursors.{ACursors}
-use Rattle.publication.specs.Published.{key_of, published_of, published_by, published, publish_of, IsQuery}
+use Rattle.publication.specs.Published.{published_of, published_by, published, publish_of, IsQuery}
 use Rattle.publication.specs.Projected.{projected}
 use Rattle.publication.specs.Putting.{row_published, put_document, put_row, put_rows, put_own, published_at, put_all, listed_behind}
 

@@ -6,15 +6,12 @@ use Rattle.value_model.specs.Val.{Entries, fields_of, entries_of}
 use Rattle.value_model.specs.Size.{is_name}
 use Rattle.ejson_value.specs.declared.key.Key.{Key}
 use Rattle.ejson_value.specs.declared.change.Publish.{Publish}
-use Rattle.ejson_value.specs.Key.{key_cmp}
+use Rattle.ejson_value.specs.Key.{key_cmp, key_of}
 use Rattle.ejson_value.specs.Rows.{Rows}
 use Rattle.selector_match.specs.Holds.{holds}
 use Rattle.publication.specs.declared.cursor.Cursor.{Cursor}
 use Rattle.publication.specs.Cursors.{ACursors}
 use Rattle.publication.specs.Projected.{projected}
-
-abbrev pub key_of : List ℕ → List ℕ → Key
-key_of collection id = record { collection = collection; id = id }
 
 -- what is published of a document, if the selector holds of it
 abbrev pub published_of : Cursor → List ℕ → Entries → Option Entries

@@ -5,11 +5,11 @@ use Rattle.value_model.specs.Val.{Entries}
 use Rattle.value_model.specs.Size.{is_name}
 use Rattle.ejson_value.specs.declared.key.Key.{Key}
 use Rattle.ejson_value.specs.declared.change.Publish.{Publish}
-use Rattle.ejson_value.specs.Key.{key_cmp}
+use Rattle.ejson_value.specs.Key.{key_cmp, key_of}
 use Rattle.ejson_value.specs.Rows.{Rows}
 use Rattle.publication.specs.declared.cursor.Cursor.{Cursor}
 use Rattle.publication.specs.Cursors.{ACursors}
-use Rattle.publication.specs.Published.{key_of, published_of, publish_of}
+use Rattle.publication.specs.Published.{published_of, publish_of}
 
 -- what is published of a row, if it is of the cursor's collection
 abbrev pub row_published : Cursor → Key → Entries → Option Entries

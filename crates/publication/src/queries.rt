@@ -2,12 +2,12 @@
 ghost use Rattle.std.specs.Prelude.{◌≡◌, [], Some, IfOk, OnOk};
 ghost use Rattle.map_model.specs.Maps.{set};
 ghost use Rattle.value_model.specs.Val.{fields_of, entries_of};
-ghost use Rattle.ejson_value.specs.Key.{key_cmp};
+ghost use Rattle.ejson_value.specs.Key.{key_cmp, key_of};
 ghost use Rattle.selector_match.specs.Holds.{holds};
 ghost use Rattle.publication.specs.Projected.{projected};
 ghost use Rattle.ejson_value.specs.Rows.{rows_of};
 ghost use Rattle.publication.specs.Parts.{paths_in, paths_of, AreSorted};
-ghost use Rattle.publication.specs.Published.{key_of, published_of, IsQuery};
+ghost use Rattle.publication.specs.Published.{published_of, IsQuery};
 ghost use Rattle.publication.specs.Putting.{put_document, put_own, published_at, put_rows, put_all, listed_behind};
 
 use crate::cursor::{Cursor, Cursors};

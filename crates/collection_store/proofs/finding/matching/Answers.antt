@@ -1,8 +1,8 @@
 use Rattle.std.specs.Prelude.{IfOk}
 use Rattle.std.proofs.Common.{◌≡◌, ◌∙◌, ap, sym, subst}
 use Rattle.map_model.specs.Maps.{at}
-use Rattle.ejson_value.specs.Key.{key_cmp}
-use Rattle.collection_store.specs.Applied.{key_of, chosen}
+use Rattle.ejson_value.specs.Key.{key_cmp, key_of}
+use Rattle.collection_store.specs.Applied.{chosen}
 use Rattle.collection_store.specs.Finding.{rows_in}
 use Rattle.collection_store.proofs.Named.{named_matching, chosen_held}
 use Rattle.collection_store.proofs.finding.matching.Goals as goal
