@@ -1,8 +1,8 @@
 -- The history of a store: what was done to it, oldest first. Its documents, and how far each run is, are the fold of it.
-use Rattle.std.specs.Prelude.{ℕ, suc, ◌+◌, ◌-◌, ◌==◌, List, [], ◌∷◌, ◌++◌, length, take, drop, sum_by, Bool, true, false, not, ◌&&◌, ◌||◌, nat_lt, Option, None, Some, is_some, option_map, Ok, Err, IsTrue, if◌then◌else◌}
+use Rattle.std.specs.Prelude.{◌<◌, ℕ, suc, ◌+◌, ◌-◌, ◌==◌, List, [], ◌∷◌, ◌++◌, length, take, drop, sum_by, Bool, true, false, not, ◌&&◌, ◌||◌, nat_lt, Option, None, Some, is_some, option_map, Ok, Err, IsTrue, if◌then◌else◌}
 use Rattle.std.specs.List.{list_all}
 use Rattle.std.specs.declared.cmp.Ordering.{Ordering}
-use Rattle.std.specs.Ordering.{nat_cmp, ordering_then}
+use Rattle.std.specs.Ordering.{eq_by_cmp, nat_cmp, ordering_then}
 use Rattle.map_model.specs.Maps.{at, set}
 use Rattle.value_model.specs.Val.{Val, list, vals_of}
 use Rattle.value_model.specs.Size.{size}
@@ -228,3 +228,29 @@ IsLegalFrom app h (e ∷ es) = IsTrue (can_follow app h e) × IsLegalFrom app (c
 -- each entry can be made where it stands
 abbrev pub IsLegal : Programs → List Entry → Type 0
 IsLegal app history = IsLegalFrom app nothing history
+
+-- ---- calls
+
+-- the entry begins this call
+abbrev pub begins : RunKey → Entry → Bool
+begins key (entry.Begin session k method params seed) = eq_by_cmp run_cmp key (session, k)
+begins key e = false
+
+-- the number of the session's call that the entry begins, if it does
+abbrev pub call_in : ℕ → Entry → List ℕ
+call_in session (entry.Begin n k method params seed) = if session == n then k ∷ [] else []
+call_in session e = []
+
+-- the numbers of the session's calls, in the order in which they are begun
+abbrev pub calls_of : ℕ → List Entry → List ℕ
+calls_of session [] = []
+calls_of session (e ∷ es) = call_in session e ++ calls_of session es
+
+abbrev pub AllAbove : ℕ → List ℕ → Type 0
+AllAbove k [] = Unit {0}
+AllAbove k (j ∷ ks) = (k < j) × AllAbove k ks
+
+-- each is greater than those before it
+abbrev pub Rise : List ℕ → Type 0
+Rise [] = Unit {0}
+Rise (k ∷ ks) = AllAbove k ks × Rise ks

@@ -7,3 +7,4 @@ pub mod LimitLaws
 pub mod StatusLaws
 pub mod ViewLaws
 pub mod StoredLaws
+pub mod BegunLaws

@@ -68,7 +68,7 @@ answer_runs : (h : Held) (o : Outcome Applied) → (with_answer h o).runs ≡ h.
 answer_runs h (Ok a) = refl
 answer_runs h (Err e) = refl
 
-operation_runs : (app : Programs) (h : Held) (o : Option Op) → (with_operation app h o).runs ≡ h.runs
+pub operation_runs : (app : Programs) (h : Held) (o : Option Op) → (with_operation app h o).runs ≡ h.runs
 operation_runs app h None = refl
 operation_runs app h (Some op) = answer_runs h (applied app.collections h.rows op (room_in h))
 

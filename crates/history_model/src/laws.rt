@@ -1,5 +1,6 @@
 //! The laws of histories.
 ghost use Rattle.std.specs.Prelude.{◌≡◌, ℕ, ◌+◌, ◌≤◌, ◌∷◌, [], ◌++◌, List, length, true, is_some, Some, IfSome, IsTrue};
+ghost use Rattle.std.specs.List.{list_any};
 ghost use Rattle.map_model.specs.Maps.{IsSorted};
 ghost use Rattle.map_model.specs.Changes.{Leads};
 ghost use Rattle.ejson_value.specs.Key.{key_cmp};
@@ -7,7 +8,7 @@ ghost use Rattle.ejson_value.specs.Changes.{changes_of};
 ghost use Rattle.program_steps.specs.declared.outcome.Status.{Status};
 ghost use Rattle.program_steps.specs.Runs.{End};
 ghost use Rattle.history_model.specs.declared.entry.Entry.{Entry as AnEntry};
-ghost use Rattle.history_model.specs.History.{Programs, carried, held, held_at, status_in, changes_between, can_follow, IsLegal};
+ghost use Rattle.history_model.specs.History.{Programs, carried, held, held_at, status_in, changes_between, can_follow, IsLegal, begins, calls_of, Rise};
 ghost use Rattle.history_model.specs.Bounds.{IsHeld, IsWithin, AreStored};
 
 /// One entry more carries what is held one entry further.
@@ -71,4 +72,14 @@ pub fn runs_end_within_their_history()
 /// Each document of a history has an id of 1 to 256 bytes, and is within the limits of a document.
 pub fn documents_keep_to_their_limits()
     ensures { (app : Programs) (history : List AnEntry) → AreStored (held app history).rows }
+{}
+
+/// A call has a run exactly where the history begins it.
+pub fn runs_are_those_that_were_begun()
+    ensures { (app : Programs) (history : List AnEntry) (session k : ℕ) → is_some (status_in (held app history) session k) ≡ list_any (begins (session, k)) history }
+{}
+
+/// In a legal history the numbers of a session's calls rise, so that none is begun twice.
+pub fn calls_of_a_session_rise()
+    ensures { (app : Programs) (history : List AnEntry) (session : ℕ) → IsLegal app history → Rise (calls_of session history) }
 {}
