@@ -1,5 +1,5 @@
 -- One poll and one send of a link over a WebSocket.
-use Rattle.std.specs.Prelude.{◌≡◌, ◌⊎◌, ◌-◌, ◌^◌, ◌==◌, ℕ, List, [], Option, Result, Ok, Err, if◌then◌else◌, ⊤, false, Some}
+use Rattle.std.specs.Prelude.{◌≡◌, ◌⊎◌, ◌-◌, ◌^◌, ◌==◌, ℕ, List, [], Option, if◌then◌else◌, ⊤, false, Some}
 use Rattle.duct.specs.declared.link.Polled.{Polled}
 use Rattle.duct.specs.declared.link.Polled.TheVariants as Answer
 use Rattle.duct.specs.declared.link.SendFault.{SendFault}

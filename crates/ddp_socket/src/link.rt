@@ -1,4 +1,4 @@
-ghost use Rattle.std.specs.Prelude.{◌≡◌, ◌<◌, ◌≤◌, ◌↔◌, ◌⊎◌, ℕ, IfErr, IfOk, IfSome, OnOk, None};
+ghost use Rattle.std.specs.Prelude.{◌≡◌, IfErr, IfOk, OnOk, None};
 ghost use Rattle.duct.specs.Told.{CountsFaults};
 ghost use Rattle.duct.specs.Polls.{poll_failed};
 ghost use Rattle.duct.specs.Sends.{send_failed};

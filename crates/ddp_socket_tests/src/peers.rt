@@ -82,27 +82,32 @@ fn lines(alloc: Global, row: &str) -> Result<Vec<u8>, Fail> {
     Ok(bytes)
 }
 
+// Adds a text that a link gave.
+fn add_text(all: &mut String, text: &str) -> Result<(), Fail> {
+    all.push_str("[")?;
+    all.push_str(text)?;
+    all.push_str("] ")?;
+    Ok(())
+}
+
+// The word for what is no text.
+fn word(polled: Polled) -> &'static str {
+    match polled {
+        Polled::Closed => "closed",
+        Polled::Failed => "failed",
+        _ => "memory",
+    }
+}
+
 // What the polls of a link give, up to its end.
-pub fn heard<L: Link>(alloc: Global, link: &mut L) -> Result<String, Fail> {
+fn heard<L: Link>(alloc: Global, link: &mut L) -> Result<String, Fail> {
     let mut all = String::new(alloc);
     for _ in 0..POLLS {
         match link.poll() {
-            Polled::Message(text) => {
-                all.push_str("[")?;
-                all.push_str(text.as_str())?;
-                all.push_str("] ")?;
-            }
             Polled::Quiet => {}
-            Polled::Closed => {
-                all.push_str("closed")?;
-                return Ok(all);
-            }
-            Polled::Failed => {
-                all.push_str("failed")?;
-                return Ok(all);
-            }
-            Polled::Memory => {
-                all.push_str("memory")?;
+            Polled::Message(text) => add_text(&mut all, text.as_str())?,
+            end => {
+                all.push_str(word(end))?;
                 return Ok(all);
             }
         }
@@ -146,6 +151,29 @@ fn is_answered(sent: &[u8], wanted: &[u8]) -> bool {
         && sent.windows(ACCEPTED.len()).any(|part| part == ACCEPTED)
 }
 
+// What is heard of a peer that sends these frames, and what it is sent.
+fn exchange<R: Net<Listener = TcpListener, Stream = TcpStream> + RandomSource + Copy + Send>(
+    rt: R,
+    alloc: Global,
+    network: &mut SocketNetwork<R>,
+    port: u16,
+    frames: &[u8],
+) -> Result<(String, Vec<u8>), Fail> {
+    let (mut peer, mut link) = sends(rt, network, port, frames)?;
+    let heard = heard(alloc, &mut link)?;
+    drop(link);
+    let mut sent = Vec::new(alloc);
+    peer.read_to_end(&mut sent)?;
+    Ok((heard, sent))
+}
+
+// The three parts of a row.
+fn parts(row: &str) -> Option<(&str, &str, &str)> {
+    let (frames, wanted) = row.split_once(" =>")?;
+    let (polls, reply) = wanted.split_once(" =>")?;
+    Some((frames, polls.trim(), reply.trim()))
+}
+
 // Whether a row of frames is heard as it says, and answered so.
 fn is_heard<R: Net<Listener = TcpListener, Stream = TcpStream> + RandomSource + Copy + Send>(
     rt: R,
@@ -154,20 +182,13 @@ fn is_heard<R: Net<Listener = TcpListener, Stream = TcpStream> + RandomSource + 
     port: u16,
     row: &str,
 ) -> Result<bool, Fail> {
-    let Some((frames, wanted)) = row.split_once(" =>") else {
-        return Ok(false);
-    };
-    let Some((polls, reply)) = wanted.split_once(" =>") else {
+    let Some((frames, polls, reply)) = parts(row) else {
         return Ok(false);
     };
     let frames = bytes(alloc, frames)?;
-    let (mut peer, mut link) = sends(rt, network, port, &frames)?;
-    let heard = heard(alloc, &mut link)?;
-    drop(link);
-    let mut sent = Vec::new(alloc);
-    peer.read_to_end(&mut sent)?;
-    let reply = bytes(alloc, reply.trim())?;
-    Ok(heard.as_str() == polls.trim() && is_answered(&sent, &reply))
+    let reply = bytes(alloc, reply)?;
+    let (heard, sent) = exchange(rt, alloc, network, port, &frames)?;
+    Ok(heard.as_str() == polls && is_answered(&sent, &reply))
 }
 
 // Whether a link fails at its first poll and its second where its peer sends this.
@@ -191,46 +212,71 @@ fn add(wrong: &mut String, row: &str) -> Result<(), Fail> {
     Ok(())
 }
 
-// The rows that aren't as they say, of frames and of heads; a link that stands beside them all then still gives its text.
+// Adds the rows of frames that aren't as they say.
+fn add_wrong_frames<
+    R: Net<Listener = TcpListener, Stream = TcpStream> + RandomSource + Copy + Send,
+>(
+    rt: R,
+    alloc: Global,
+    network: &mut SocketNetwork<R>,
+    port: u16,
+    wrong: &mut String,
+) -> Result<(), Fail> {
+    for row in FRAMES.lines() {
+        if !is_heard(rt, alloc, network, port, row)? {
+            add(wrong, row)?;
+        }
+    }
+    Ok(())
+}
+
+// Adds the heads that aren't refused.
+fn add_wrong_heads<R: Net<Listener = TcpListener, Stream = TcpStream> + RandomSource + Copy + Send>(
+    rt: R,
+    alloc: Global,
+    network: &mut SocketNetwork<R>,
+    port: u16,
+    wrong: &mut String,
+) -> Result<(), Fail> {
+    for head in HEADS.lines() {
+        if !is_refused(rt, alloc, network, port, head)? {
+            add(wrong, head)?;
+        }
+    }
+    Ok(())
+}
+
+// The rows that aren't as they say; a link that stands beside them all then still gives its text.
 fn wrong_rows<R: Net<Listener = TcpListener, Stream = TcpStream> + RandomSource + Copy + Send>(
     rt: R,
     alloc: Global,
     network: &mut SocketNetwork<R>,
     port: u16,
-) -> Result<String, Fail> {
-    let mut wrong = String::new(alloc);
+    wrong: &mut String,
+) -> Result<bool, Fail> {
     let text = bytes(alloc, "8182000000006869")?;
     let (_peer, mut standing) = sends(rt, network, port, &text)?;
-    for row in FRAMES.lines() {
-        if !is_heard(rt, alloc, network, port, row)? {
-            add(&mut wrong, row)?;
-        }
-    }
-    for head in HEADS.lines() {
-        if !is_refused(rt, alloc, network, port, head)? {
-            add(&mut wrong, head)?;
-        }
-    }
-    if heard(alloc, &mut standing)?.as_str() != "[hi] failed" {
-        add(&mut wrong, "the link beside them")?;
-    }
-    Ok(wrong)
+    add_wrong_frames(rt, alloc, network, port, wrong)?;
+    add_wrong_heads(rt, alloc, network, port, wrong)?;
+    Ok(heard(alloc, &mut standing)?.as_str() == "[hi] failed")
 }
 
-fn all_wrong_rows<R: Net<Listener = TcpListener, Stream = TcpStream> + RandomSource + Copy + Send>(
+fn all_are_right<R: Net<Listener = TcpListener, Stream = TcpStream> + RandomSource + Copy + Send>(
     rt: R,
     alloc: Global,
-) -> Result<String, Fail> {
+    wrong: &mut String,
+) -> Result<bool, Fail> {
     let mut network = SocketNetwork::new(rt, alloc);
     match listening(&mut network) {
-        Some(port) => wrong_rows(rt, alloc, &mut network, port),
-        None => Ok(String::from_str(alloc, "no port is free")?),
+        Some(port) => wrong_rows(rt, alloc, &mut network, port, wrong),
+        None => Ok(false),
     }
 }
 
 #[test]
 fn links_fail_alone(rt: HostRuntime) -> Result<(), Fail> {
-    let wrong = all_wrong_rows(rt, rt.alloc())?;
+    let mut wrong = String::new(rt.alloc());
+    assert!(rt; all_are_right(rt, rt.alloc(), &mut wrong)?);
     assert_eq!(rt; wrong.as_str(), "");
     Ok(())
 }

@@ -1,3 +1,5 @@
+ghost use Rattle.std.specs.Prelude.{◌≤◌, length};
+
 use ddp_socket::{READS, SocketLink, TRIES, accept, connect};
 use duct::{Link, NetFault, Polled, SendFault};
 use ejson_value::Text;
@@ -23,29 +25,35 @@ enum Then {
 #[derive(Drop)]
 struct Stream<'a> {
     parts: &'a [&'a [u8]],
+    at: usize,
     then: Then,
     reads: &'a mut u32,
     writes: u32,
     refused: ErrorKind,
 }
 
+// Puts as many bytes at the front as there is room for.
+fn give(bytes: &[u8], into: &mut [u8]) -> usize
+    ensures { result ≤ length into.new }
+{
+    let n = bytes.len().min(into.len());
+    into[..n].copy_from_slice(&bytes[..n]);
+    n
+}
+
 impl Read for Stream<'_> {
     fn read(&mut self, into: &mut [u8]) -> io::Result<usize> {
         *self.reads = self.reads.saturating_add(1);
-        let given: &[u8] = match self.parts.split_first() {
-            Some((first, rest)) => {
-                self.parts = rest;
-                first
-            }
+        let at = self.at;
+        self.at = at.saturating_add(1);
+        match self.parts.get(at) {
+            Some(part) => Ok(give(part, into)),
             None => match &self.then {
-                Then::Blocks => return Err(io::Error::from(ErrorKind::WouldBlock)),
-                Then::Ends => &[],
-                Then::Repeats(bytes) => bytes,
+                Then::Blocks => Err(io::Error::from(ErrorKind::WouldBlock)),
+                Then::Ends => Ok(0),
+                Then::Repeats(bytes) => Ok(give(bytes, into)),
             },
-        };
-        let n = given.len().min(into.len());
-        into[..n].copy_from_slice(&given[..n]);
-        Ok(n)
+        }
     }
 }
 
@@ -89,6 +97,7 @@ fn link<'a>(
         alloc,
         Stream {
             parts,
+            at: 0,
             then,
             reads,
             writes,
@@ -129,6 +138,7 @@ fn fails_to_connect(alloc: Global, then: Then, wanted: u32) -> bool {
     let mut reads = 0;
     let stream = Stream {
         parts: &[],
+        at: 0,
         then,
         reads: &mut reads,
         writes: 9,

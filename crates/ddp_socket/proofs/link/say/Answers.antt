@@ -1,4 +1,3 @@
-use Rattle.std.proofs.Common.{rules}
 use Rattle.ddp_socket.proofs.link.say.Goals as goal
 use Rattle.ddp_socket.proofs.link.say.Goals.{in-Nothing-error_turn, in-Memory, in_default-error_turn-2}
 

@@ -1,4 +1,4 @@
-use Rattle.std.proofs.Common.{rules, refl, inl}
+use Rattle.std.proofs.Common.{refl, inl}
 use Rattle.ddp_socket.proofs.link.SocketLink.offer.Goals as goal
 
 pub returns-in-Taken-clause-taken : goal.returns-in-Taken-clause-taken

@@ -1,4 +1,3 @@
-use Rattle.std.proofs.Common.{rules}
 use Rattle.ddp_socket.proofs.link.SocketLinkLink.poll.Goals as goal
 
 pub returns-in-Open-clause-listens : goal.returns-in-Open-clause-listens
