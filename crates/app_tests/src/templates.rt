@@ -55,17 +55,24 @@ fn is_filled(
     }
 }
 
+// Whether the template is filled so with the parameters and the made ids.
+fn is_filled_with(
+    alloc: Global,
+    template: &Template,
+    given: &str,
+    wanted: &str,
+) -> Result<bool, Fail> {
+    let (params, made) = first(given);
+    let params = list(alloc, params)?;
+    let made = names(alloc, made)?;
+    is_filled(alloc, template, &params, &made, wanted)
+}
+
 fn is_right(alloc: Global, row: &str) -> Result<bool, Fail> {
     let (input, wanted) = halves(row);
-    let (written, more) = first(input);
-    let (params, made) = first(more);
-    is_filled(
-        alloc,
-        &template(alloc, written)?,
-        &list(alloc, params)?,
-        &names(alloc, made)?,
-        wanted,
-    )
+    let (written, given) = first(input);
+    let template = template(alloc, written)?;
+    is_filled_with(alloc, &template, given, wanted)
 }
 
 #[test]
@@ -87,40 +94,73 @@ fn nested(alloc: Global, levels: u32) -> Result<Value, Fail> {
     Ok(value)
 }
 
-fn filled_with(alloc: Global, written: &str, param: Value) -> Result<&'static str, Fail> {
-    let mut params = Items::new(alloc);
-    params.push(param)?;
-    Ok(
-        match template(alloc, written)?.fill(alloc, &params, &Names::new(alloc)) {
-            Ok(_) => "filled",
-            Err(fault) => number(fault),
-        },
-    )
-}
-
-fn with_levels(alloc: Global, written: &str, levels: u32) -> Result<&'static str, Fail> {
-    filled_with(alloc, written, nested(alloc, levels)?)
-}
-
-fn with_length(alloc: Global, written: &str, length: u32) -> Result<&'static str, Fail> {
+fn long(alloc: Global, length: u32) -> Result<Value, Fail> {
     let text = Text::from_string(long_text(alloc, length)?);
-    filled_with(alloc, written, Value::Text(text))
+    Ok(Value::Text(text))
 }
+
+// A parameter of so many levels, or a text of so many bytes.
+fn param(alloc: Global, kind: &str, size: u32) -> Result<Value, Fail> {
+    match kind {
+        "levels" => nested(alloc, size),
+        _ => long(alloc, size),
+    }
+}
+
+fn alone(alloc: Global, value: Value) -> Result<Items, Fail> {
+    let mut items = Items::new(alloc);
+    items.push(value)?;
+    Ok(items)
+}
+
+fn comes_of(alloc: Global, template: &Template, params: &Items) -> &'static str {
+    match template.fill(alloc, params, &Names::new(alloc)) {
+        Ok(filled) => {
+            drop(filled);
+            "filled"
+        }
+        Err(fault) => number(fault),
+    }
+}
+
+fn comes_of_param(alloc: Global, template: &Template, param: Value) -> Result<&'static str, Fail> {
+    let params = alone(alloc, param)?;
+    Ok(comes_of(alloc, template, &params))
+}
+
+fn comes_of_size(
+    alloc: Global,
+    template: &Template,
+    kind: &str,
+    size: u32,
+) -> Result<&'static str, Fail> {
+    let param = param(alloc, kind, size)?;
+    comes_of_param(alloc, template, param)
+}
+
+fn is_limited(alloc: Global, row: &str) -> Result<bool, Fail> {
+    let (input, wanted) = halves(row);
+    let (written, given) = first(input);
+    let (size, kind) = given.split_once(' ').unwrap_or((given, ""));
+    let size = size.parse::<u32>()?;
+    let template = template(alloc, written)?;
+    Ok(comes_of_size(alloc, &template, kind, size)? == wanted)
+}
+
+// Each row: a template, the size of the one parameter, and what comes of it.
+const LIMITS: &str = r#"[{"$param":0}] ; 31 levels => filled
+[{"$param":0}] ; 32 levels => !2
+[{"$param":0}] ; 1048572 bytes => filled
+[{"$param":0}] ; 1048573 bytes => !3
+[{"$param":0},{"$param":0}] ; 524284 bytes => filled
+[{"$param":0},{"$param":0}] ; 524285 bytes => !3
+[{"$param":0},{"$param":1}] ; 1048573 bytes => !1
+"#;
 
 #[test]
 fn filled_templates_are_limited(rt: HostRuntime) -> Result<(), Fail> {
-    let alloc = rt.alloc();
-    let one = r#"[{"$param":0}]"#;
-    let two = r#"[{"$param":0},{"$param":0}]"#;
-    assert_eq!(rt; with_levels(alloc, one, 31)?, "filled");
-    assert_eq!(rt; with_levels(alloc, one, 32)?, "!2");
-    assert_eq!(rt; with_length(alloc, one, 1_048_572)?, "filled");
-    assert_eq!(rt; with_length(alloc, one, 1_048_573)?, "!3");
-    assert_eq!(rt; with_length(alloc, two, 524_284)?, "filled");
-    assert_eq!(rt; with_length(alloc, two, 524_285)?, "!3");
-    assert_eq!(rt;
-        with_length(alloc, r#"[{"$param":0},{"$param":1}]"#, 1_048_573)?,
-        "!1"
-    );
+    for row in LIMITS.lines() {
+        assert!(rt; is_limited(rt.alloc(), row)?, "at {row}");
+    }
     Ok(())
 }

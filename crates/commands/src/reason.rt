@@ -56,8 +56,15 @@ fn wrong_part(alloc: Global, fault: &AppFault) -> Result<Text, Mem> {
 
 fn wrong_application(alloc: Global, value: &Value) -> Result<Text, Mem> {
     match App::read(alloc, value) {
-        Ok(_) => Ok(Text::new(alloc)),
-        Err(fault) => wrong_part(alloc, &fault),
+        Ok(app) => {
+            drop(app);
+            Ok(Text::new(alloc))
+        }
+        Err(fault) => {
+            let what = wrong_part(alloc, &fault);
+            drop(fault);
+            what
+        }
     }
 }
 
@@ -78,20 +85,36 @@ fn wrong_event(alloc: Global, value: &Value) -> Result<Text, Mem> {
     }
 }
 
+// What is wrong with the value of the line of this number.
+fn wrong_content(alloc: Global, value: Value, number: u64) -> Result<Text, Mem> {
+    let what = if number == 1 {
+        wrong_application(alloc, &value)
+    } else {
+        wrong_event(alloc, &value)
+    };
+    drop(value);
+    what
+}
+
+fn wrong_text(alloc: Global, line: Text, number: u64) -> Result<Text, Mem> {
+    let parsed = parse(alloc, &line);
+    drop(line);
+    match parsed {
+        Ok(value) => wrong_content(alloc, value, number),
+        Err(ParseFault::NotJson) => Text::from_str(alloc, "it is not JSON"),
+        Err(ParseFault::Ejson(fault)) => wrong_value(alloc, fault),
+        Err(ParseFault::Memory) => Err(Mem),
+    }
+}
+
 // What is wrong with the line of this number.
 fn wrong_line(alloc: Global, line: &[u8], number: u64) -> Result<Text, Mem> {
     if line.is_empty() {
         return Text::from_str(alloc, "it is empty");
     }
-    let Ok(line) = str::from_utf8(line) else {
-        return Text::from_str(alloc, "it is not UTF-8");
-    };
-    match parse(alloc, &Text::from_str(alloc, line)?) {
-        Ok(value) if number == 1 => wrong_application(alloc, &value),
-        Ok(value) => wrong_event(alloc, &value),
-        Err(ParseFault::NotJson) => Text::from_str(alloc, "it is not JSON"),
-        Err(ParseFault::Ejson(fault)) => wrong_value(alloc, fault),
-        Err(ParseFault::Memory) => Err(Mem),
+    match str::from_utf8(line) {
+        Ok(line) => wrong_text(alloc, Text::from_str(alloc, line)?, number),
+        Err(_) => Text::from_str(alloc, "it is not UTF-8"),
     }
 }
 

@@ -1,7 +1,8 @@
 //! The command `replay`.
 ghost use Rattle.std.specs.Prelude.{◌≡◌, ◌≤◌, ◌<◌, ◌+◌, ◌++◌, ◌∷◌, [], List, length, flat_map, map, Some, None, IfOk, IfSome, OnOk};
 ghost use Rattle.world_model.specs.World.{start};
-ghost use Rattle.world_model.specs.Lines.{line_text, lines_of};
+ghost use Rattle.value_model.specs.Val.{list, vals_of};
+ghost use Rattle.world_model.specs.Lines.{line_text, lines_of, value_line};
 ghost use Rattle.world_model.specs.Run.{step, AreEvents};
 ghost use Rattle.commands.specs.Input.{line_feed, lines_in};
 ghost use Rattle.commands.specs.Replay.{input_limit, app_of, events_of, bad_line, first_bad, rest_of, replay_text, printed, printed_by, all_bytes, bad_value, bad_lines};
@@ -29,7 +30,9 @@ fn read_app(alloc: Global, line: &[u8]) -> Result<Option<App>, Mem>
     let Some(value) = value_in(alloc, line)? else {
         return Ok(None);
     };
-    match App::read(alloc, &value) {
+    let read = App::read(alloc, &value);
+    drop(value);
+    match read {
         Ok(app) => Ok(Some(app)),
         Err(AppFault::Bad { .. }) => Ok(None),
         Err(AppFault::Memory) => Err(Mem),
@@ -43,7 +46,9 @@ fn event_in(alloc: Global, line: &[u8]) -> Result<Option<Event>, Mem>
     let Some(value) = value_in(alloc, line)? else {
         return Ok(None);
     };
-    match Event::read(alloc, &value) {
+    let read = Event::read(alloc, &value);
+    drop(value);
+    match read {
         Ok(event) => {
             event.known();
             Ok(Some(event))
@@ -71,6 +76,16 @@ fn add_lines(output: &mut Vec<u8>, lines: &Lines) -> Result<(), Mem>
     Ok(())
 }
 
+// Adds the line of the list of these values. It takes them, so that no caller has to drop them.
+fn add_list(alloc: Global, output: &mut Vec<u8>, items: Items) -> Result<(), Mem>
+    ensures { OnOk result (output.new.items ≡ output.old.items ++ all_bytes (value_line (list (vals_of items)) ∷ [])) }
+{
+    let value = Value::List(items);
+    let line = text(alloc, &value);
+    drop(value);
+    add_line(output, &line?)
+}
+
 // Adds the line that names a bad line.
 fn add_bad(alloc: Global, output: &mut Vec<u8>, number: u64) -> Result<(), Mem>
     requires { number ≤ input_limit + 2 }
@@ -82,7 +97,7 @@ fn add_bad(alloc: Global, output: &mut Vec<u8>, number: u64) -> Result<(), Mem>
     let mut items = Items::new(alloc);
     items.push(Value::Text(Text::from_str(alloc, "bad")?))?;
     items.push(Value::Int(number))?;
-    add_line(output, &text(alloc, &Value::List(items))?)
+    add_list(alloc, output, items)
 }
 
 fn add_bad_line(alloc: Global, output: &mut Vec<u8>, bad: Option<u64>) -> Result<(), Mem>
@@ -95,11 +110,13 @@ fn add_bad_line(alloc: Global, output: &mut Vec<u8>, bad: Option<u64>) -> Result
     }
 }
 
-// Runs an event, and answers what it prints.
-fn run_event(world: &mut World, event: &Event) -> Result<Option<Lines>, Mem>
-    ensures { IfOk result (λ lines. (world.new ≡ step world.old event.now) × (lines ≡ Some (map line_text (lines_of world.old event.now)))) }
+// Runs an event, and answers what it prints. It takes the event, so that no caller has to drop one.
+fn run_event(world: &mut World, event: Event) -> Result<Option<Lines>, Mem>
+    ensures { IfOk result (λ lines. (world.new ≡ step world.old event) × (lines ≡ Some (map line_text (lines_of world.old event)))) }
 {
-    Ok(Some(world.event(event)?))
+    let lines = world.event(&event);
+    drop(event);
+    Ok(Some(lines?))
 }
 
 // Runs a line, if it is an event, and answers what it prints.
@@ -108,7 +125,7 @@ fn step(alloc: Global, world: &mut World, line: &[u8]) -> Result<Option<Lines>, 
 {
     match event_in(alloc, line)? {
         None => Ok(None),
-        Some(event) => run_event(world, &event),
+        Some(event) => run_event(world, event),
     }
 }
 

@@ -18,35 +18,48 @@ fn words(rt: &(impl Env + AllocGlobal)) -> io::Result<Vec<Text>> {
     Ok(words)
 }
 
+fn run_words(rt: &HostRuntime, words: &[Text], reason: &mut Text) -> Status {
+    let mut source = StdSource::new(rt.stdin());
+    let mut sink = StdSink::new(rt.stdout());
+    run_plain(rt.alloc(), words, &mut source, &mut sink, reason)
+}
+
+// What it comes to where the words can't be had.
+fn status_of(fault: io::Error) -> Status {
+    if fault.kind() == io::ErrorKind::OutOfMemory {
+        Status::Memory
+    } else {
+        Status::Usage
+    }
+}
+
 fn run(rt: &HostRuntime, reason: &mut Text) -> Status {
     match words(rt) {
-        Ok(words) => run_plain(
-            rt.alloc(),
-            words.as_slice(),
-            &mut StdSource::new(rt.stdin()),
-            &mut StdSink::new(rt.stdout()),
-            reason,
-        ),
-        Err(fault) if fault.kind() == io::ErrorKind::OutOfMemory => Status::Memory,
-        Err(_) => Status::Usage,
+        Ok(words) => run_words(rt, words.as_slice(), reason),
+        Err(fault) => status_of(fault),
+    }
+}
+
+fn tell_message(rt: &(impl Eprint + AllocGlobal), status: Status) -> io::Result<()> {
+    eprintln!(rt; "ddp: {}", status.message())
+}
+
+// Tells the usage, if there is memory for it.
+fn tell_usage(rt: &(impl Eprint + AllocGlobal)) -> io::Result<()> {
+    match usage_text(rt.alloc()) {
+        Ok(text) => eprint!(rt; "{}", text.as_str()),
+        Err(_) => tell_message(rt, Status::Usage),
     }
 }
 
 // Tells on standard error how the run ended.
 fn tell(rt: &(impl Eprint + AllocGlobal), status: Status, reason: &Text) -> io::Result<()> {
     match status {
-        Status::Ok => return Ok(()),
-        Status::Usage => {
-            if let Ok(text) = usage_text(rt.alloc()) {
-                return eprint!(rt; "{}", text.as_str());
-            }
-        }
-        Status::BadInput if !reason.is_empty() => {
-            return eprintln!(rt; "ddp: {}", reason.as_str());
-        }
-        _ => {}
+        Status::Ok => Ok(()),
+        Status::Usage => tell_usage(rt),
+        Status::BadInput if !reason.is_empty() => eprintln!(rt; "ddp: {}", reason.as_str()),
+        _ => tell_message(rt, status),
     }
-    eprintln!(rt; "ddp: {}", status.message())
 }
 
 fn main(rt: HostRuntime) -> ExitCode {

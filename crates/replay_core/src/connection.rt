@@ -1,5 +1,5 @@
 //! A client with its session and the links between them.
-ghost use Rattle.std.specs.Prelude.{◌≡◌, ◌∷◌, [], IfOk, OnOk, OnErr, Some, None};
+ghost use Rattle.std.specs.Prelude.{◌≡◌, ◌∷◌, [], codes, IfOk, OnOk, OnErr, Some, None};
 ghost use Rattle.map_model.specs.Differences.{with_fields, without, all_taken, changed as changes};
 ghost use Rattle.value_model.specs.Order.{text_cmp};
 ghost use Rattle.ejson_value.specs.Key.{key_cmp};
@@ -151,14 +151,21 @@ fn pong(alloc: Global, id: &Option<Text>) -> Result<Text, Mem>
     text_of(alloc, FromClient::Pong { id })
 }
 
+// The versions that a client speaks.
+fn support(alloc: Global) -> Result<Names, Mem>
+    ensures { IfOk result (λ names. names ≡ codes "1" ∷ []) }
+{
+    let mut names = Names::new(alloc);
+    names.push(Text::from_str(alloc, "1")?)?;
+    Ok(names)
+}
+
 // A client's first text.
 fn connect(alloc: Global) -> Result<Text, Mem>
     ensures { IfOk result (λ text. text ≡ connect_text) }
 {
+    let support = Some(support(alloc)?);
     let version = Text::from_str(alloc, "1")?;
-    let mut support = Names::new(alloc);
-    support.push(Text::from_str(alloc, "1")?)?;
-    let support = Some(support);
     text_of(alloc, FromClient::Connect { version, support })
 }
 

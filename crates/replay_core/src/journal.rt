@@ -1,7 +1,7 @@
 //! The lines of a session's journal.
 ghost use Rattle.std.specs.Prelude.{◌≡◌, ◌++◌, ◌∷◌, [], map, codes, IfOk, OnOk, option_map};
 ghost use Rattle.value_model.specs.Val.{text, list, vals_of};
-ghost use Rattle.session_model.specs.Journal.{live_after, shown, loaded, moved, advanced};
+ghost use Rattle.session_model.specs.Journal.{live_after, shown, opened, loaded, moved, advanced};
 ghost use Rattle.session_model.specs.Publication.{making, cursors_in};
 ghost use Rattle.session_model.specs.Out.{texts_of, session_name};
 ghost use Rattle.world_model.specs.Lines.{line, number, value_line, out_line, line_text, item_line, journal_lines};
@@ -166,6 +166,19 @@ fn copied(live: Option<&Live>) -> Result<Option<Live>, Mem>
     }
 }
 
+// The subscription that a `sub` opened.
+fn opened(store: &Store, sub: u64, id: &Text, name: &Text, params: &Items) -> Result<Live, Mem>
+    ensures { IfOk result (λ l. as_live l ≡ opened sub id.now (cursors_in (making store.now.app name.now params.now))) }
+{
+    let cursors = cursors_of(store, name, params)?;
+    Ok(Live {
+        sub,
+        id: id.copy()?,
+        cursors,
+        cursor: None,
+    })
+}
+
 // The live subscription after one more item.
 fn live_after(store: &Store, live: Option<&Live>, item: &Item) -> Result<Option<Live>, Mem>
     ensures { IfOk result (λ l. option_map as_live l ≡ live_after store.now.app (option_map (λ l. as_live l.now) live.entry) item.now) }
@@ -176,12 +189,7 @@ fn live_after(store: &Store, live: Option<&Live>, item: &Item) -> Result<Option<
             id,
             name,
             params,
-        } => Ok(Some(Live {
-            sub: *sub,
-            id: id.copy()?,
-            cursors: cursors_of(store, name, params)?,
-            cursor: None,
-        })),
+        } => Ok(Some(opened(store, *sub, id, name, params)?)),
         Item::Load { at, .. } => Ok(loaded(copied(live)?, *at)),
         Item::Advance { count, .. } => advanced(copied(live)?, *count),
         Item::Connect

@@ -20,10 +20,20 @@ pub(crate) fn worded(alloc: Global, word: &str) -> Result<Items, Mem>
     Ok(items)
 }
 
+// The text of the list of these values. It takes them, so that no caller has to drop them.
+fn list_text(alloc: Global, items: Items) -> Result<Text, Mem>
+    ensures { IfOk result (λ text. text ≡ line_text (value_line (list (vals_of items)))) }
+{
+    let value = Value::List(items);
+    let text = text(alloc, &value);
+    drop(value);
+    text
+}
+
 pub(crate) fn push_line(alloc: Global, lines: &mut Lines, items: Items) -> Result<(), Mem>
     ensures { OnOk result (lines.new ≡ lines.old ++ line_text (value_line (list (vals_of items))) ∷ []) }
 {
-    lines.push(text(alloc, &Value::List(items))?)
+    lines.push(list_text(alloc, items)?)
 }
 
 /// The number behind other words.

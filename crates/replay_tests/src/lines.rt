@@ -24,81 +24,6 @@ fn is_event_line(alloc: Global, line: &str) -> Result<bool, Fail> {
     is_event(alloc, line)
 }
 
-const EVENTS: &str = r#"["client","a"]
-["sub","a","1","all"]
-["sub","a","1","all",[]]
-["sub","","","all"]
-["sub","a","1","none"]
-["sub","a","1","all",[1,{"$date":0},[{}]]]
-["admin",["insert","none",{"_id":"t1"}]]
-["admin",["insert","tasks",{"_id":"t1","n":{"a":[1,{"$date":0}]}}]]
-["settle"]
-["show",""]
-["up","a"]
-["recv","a"]
-["handle","a"]
-["send","a"]
-["take","a"]
-["load","a","1"]
-["load","a","1",0]
-["load","a","1",-9007199254740991]
-["advance","a","1"]
-["advance","a","1",9007199254740991]
-["journal","a"]
-"#;
-
-#[test]
-fn lines_that_are_events(rt: HostRuntime) -> Result<(), Fail> {
-    for line in EVENTS.lines() {
-        assert!(rt; is_event_line(rt.alloc(), line)?, "{line}");
-    }
-    Ok(())
-}
-
-const NO_EVENTS: &str = r#"{}
-[]
-null
-"settle"
-["client"]
-["client",1]
-["client","a","b"]
-["sub","a","1"]
-["sub","a","1","all",{}]
-["sub","a","1","all",[],[]]
-["sub","a",1,"all"]
-["admin",["insert","tasks",{"n":1}]]
-["admin",["insert","tasks",{"_id":""}]]
-["admin",["insert","tasks",{"_id":1}]]
-["admin",["insert","tasks",[]]]
-["admin",["insert","tasks",{"_id":"t1"},1]]
-["admin",["remove","tasks",{}]]
-["admin",[]]
-["admin",{}]
-["raw","a"]
-["raw","a",{}]
-["raw","a","","b"]
-["settle",1]
-["show"]
-["up"]
-["up",1]
-["load","a"]
-["load","a","1",{}]
-["load","a","1","0"]
-["load","a","1",0,0]
-["advance","a"]
-["advance","a","1",[1]]
-["journal"]
-["journal","a","1"]
-"#;
-
-#[test]
-fn lines_that_are_none(rt: HostRuntime) -> Result<(), Fail> {
-    for line in NO_EVENTS.lines() {
-        assert!(rt; !is_event_line(rt.alloc(), line)?, "{line}");
-    }
-    Ok(())
-}
-
 // Whether the line `["raw","a",message]` describes an event.
 fn is_sent(alloc: Global, message: &str) -> Result<bool, Fail> {
     let message = text(alloc, message)?;
@@ -106,48 +31,105 @@ fn is_sent(alloc: Global, message: &str) -> Result<bool, Fail> {
     is_event(alloc, line)
 }
 
-const ASKING: &str = r#"{"msg":"sub","id":"1","name":"all"}
-{"msg":"sub","id":"1","name":"none","params":[1,{}]}
- {"id":"1","x":0,"msg":"sub","name":""} 
-{"msg":"unsub","id":"1"}
-{"msg":"unsub","id":"","x":0}
-{"msg":"method","id":"1","method":"m"}
-{"msg":"method","id":"1","method":"m","params":[1],"randomSeed":"s"}
+// Each row: `event` and a line that is one, `none` and a line that is none, `asks` and a text that
+// no `raw` sends, since it asks for a subscription, its end or a method, or `sends` and a text that
+// asks for nothing.
+const LINES: &str = r#"event ["client","a"]
+event ["sub","a","1","all"]
+event ["sub","a","1","all",[]]
+event ["sub","","","all"]
+event ["sub","a","1","none"]
+event ["sub","a","1","all",[1,{"$date":0},[{}]]]
+event ["admin",["insert","none",{"_id":"t1"}]]
+event ["admin",["insert","tasks",{"_id":"t1","n":{"a":[1,{"$date":0}]}}]]
+event ["settle"]
+event ["show",""]
+event ["up","a"]
+event ["recv","a"]
+event ["handle","a"]
+event ["send","a"]
+event ["take","a"]
+event ["load","a","1"]
+event ["load","a","1",0]
+event ["load","a","1",-9007199254740991]
+event ["advance","a","1"]
+event ["advance","a","1",9007199254740991]
+event ["journal","a"]
+none {}
+none []
+none null
+none "settle"
+none ["client"]
+none ["client",1]
+none ["client","a","b"]
+none ["sub","a","1"]
+none ["sub","a","1","all",{}]
+none ["sub","a","1","all",[],[]]
+none ["sub","a",1,"all"]
+none ["admin",["insert","tasks",{"n":1}]]
+none ["admin",["insert","tasks",{"_id":""}]]
+none ["admin",["insert","tasks",{"_id":1}]]
+none ["admin",["insert","tasks",[]]]
+none ["admin",["insert","tasks",{"_id":"t1"},1]]
+none ["admin",["remove","tasks",{}]]
+none ["admin",[]]
+none ["admin",{}]
+none ["raw","a"]
+none ["raw","a",{}]
+none ["raw","a","","b"]
+none ["settle",1]
+none ["show"]
+none ["up"]
+none ["up",1]
+none ["load","a"]
+none ["load","a","1",{}]
+none ["load","a","1","0"]
+none ["load","a","1",0,0]
+none ["advance","a"]
+none ["advance","a","1",[1]]
+none ["journal"]
+none ["journal","a","1"]
+asks {"msg":"sub","id":"1","name":"all"}
+asks {"msg":"sub","id":"1","name":"none","params":[1,{}]}
+asks  {"id":"1","x":0,"msg":"sub","name":""} 
+asks {"msg":"unsub","id":"1"}
+asks {"msg":"unsub","id":"","x":0}
+asks {"msg":"method","id":"1","method":"m"}
+asks {"msg":"method","id":"1","method":"m","params":[1],"randomSeed":"s"}
+sends no JSON
+sends null
+sends [{"msg":"unsub","id":"1"}]
+sends {"id":"1","name":"all"}
+sends {"msg":"Sub","id":"1","name":"all"}
+sends {"msg":"sub"}
+sends {"msg":"sub","id":"1"}
+sends {"msg":"sub","id":1,"name":"all"}
+sends {"msg":"sub","id":"1","name":"all","params":{}}
+sends {"msg":"sub","id":"1","name":"all"
+sends {"msg":"unsub"}
+sends {"msg":"unsub","id":null}
+sends {"msg":"method","id":"1"}
+sends {"msg":"method","id":"1","method":"m","params":1}
+sends {"msg":"connect","version":"1"}
+sends {"msg":"connect","version":"2","support":["2"]}
+sends {"msg":"ping"}
+sends {"msg":"pong","id":"1"}
 "#;
 
-// What asks for a subscription, its end or a method is sent by no `raw`.
-#[test]
-fn texts_that_ask(rt: HostRuntime) -> Result<(), Fail> {
-    for message in ASKING.lines() {
-        assert!(rt; !is_sent(rt.alloc(), message)?, "{message}");
+fn is_right(alloc: Global, row: &str) -> Result<bool, Fail> {
+    let (kind, line) = row.split_once(' ').unwrap_or((row, ""));
+    match kind {
+        "event" => is_event_line(alloc, line),
+        "none" => Ok(!is_event_line(alloc, line)?),
+        "asks" => Ok(!is_sent(alloc, line)?),
+        _ => is_sent(alloc, line),
     }
-    Ok(())
 }
 
-const NOT_ASKING: &str = r#"no JSON
-null
-[{"msg":"unsub","id":"1"}]
-{"id":"1","name":"all"}
-{"msg":"Sub","id":"1","name":"all"}
-{"msg":"sub"}
-{"msg":"sub","id":"1"}
-{"msg":"sub","id":1,"name":"all"}
-{"msg":"sub","id":"1","name":"all","params":{}}
-{"msg":"sub","id":"1","name":"all"
-{"msg":"unsub"}
-{"msg":"unsub","id":null}
-{"msg":"method","id":"1"}
-{"msg":"method","id":"1","method":"m","params":1}
-{"msg":"connect","version":"1"}
-{"msg":"connect","version":"2","support":["2"]}
-{"msg":"ping"}
-{"msg":"pong","id":"1"}
-"#;
-
 #[test]
-fn texts_that_ask_for_nothing(rt: HostRuntime) -> Result<(), Fail> {
-    for message in NOT_ASKING.lines() {
-        assert!(rt; is_sent(rt.alloc(), message)?, "{message}");
+fn lines(rt: HostRuntime) -> Result<(), Fail> {
+    for row in LINES.lines() {
+        assert!(rt; is_right(rt.alloc(), row)?, "{row}");
     }
     Ok(())
 }
@@ -197,48 +179,59 @@ fn is_parameter(alloc: Global, levels: u64) -> Result<bool, Fail> {
     is_event(alloc, line)
 }
 
-// Documents and parameters have at most 32 levels.
-#[test]
-fn levels_are_limited(rt: HostRuntime) -> Result<(), Fail> {
-    for levels in [1, 31, 32, 33, 34] {
-        assert_eq!(rt;
-            is_inserted(rt.alloc(), levels)?,
-            levels <= 32,
-            "{levels} levels"
-        );
-        assert_eq!(rt;
-            is_parameter(rt.alloc(), levels)?,
-            levels <= 32,
-            "{levels} levels"
-        );
-    }
-    Ok(())
-}
-
 // Whether the line with a text of this length between its two parts describes an event.
 fn is_event_with(alloc: Global, before: &str, length: u64, after: &str) -> Result<bool, Fail> {
     let line = repeated(alloc, before, "x", length, after)?;
     is_event_line(alloc, line.as_str())
 }
 
-// An id has at most 256 bytes, and a document's at least one.
-#[test]
-fn ids_are_limited(rt: HostRuntime) -> Result<(), Fail> {
-    let alloc = rt.alloc();
-    for length in [0, 1, 256, 257] {
-        let is_sub = is_event_with(alloc, r#"["sub","a",""#, length, r#"","all"]"#)?;
-        assert_eq!(rt; is_sub, length <= 256, "sub, {length} bytes");
-        let is_insert = is_event_with(
+// Each row: a document or a parameter of so many levels, or a `sub` or an `insert` with an id of so
+// many bytes, and whether it is an event.
+const LIMITS: &str = "document 1 => event
+document 31 => event
+document 32 => event
+document 33 => none
+document 34 => none
+parameter 1 => event
+parameter 31 => event
+parameter 32 => event
+parameter 33 => none
+parameter 34 => none
+sub 0 => event
+sub 1 => event
+sub 256 => event
+sub 257 => none
+insert 0 => none
+insert 1 => event
+insert 256 => event
+insert 257 => none
+";
+
+fn is_event_of(alloc: Global, kind: &str, size: u64) -> Result<bool, Fail> {
+    match kind {
+        "document" => is_inserted(alloc, size),
+        "parameter" => is_parameter(alloc, size),
+        "sub" => is_event_with(alloc, r#"["sub","a",""#, size, r#"","all"]"#),
+        _ => is_event_with(
             alloc,
             r#"["admin",["insert","tasks",{"_id":""#,
-            length,
+            size,
             r#""}]]"#,
-        )?;
-        assert_eq!(rt;
-            is_insert,
-            0 < length && length <= 256,
-            "insert, {length} bytes"
-        );
+        ),
+    }
+}
+
+fn is_limited(alloc: Global, row: &str) -> Result<bool, Fail> {
+    let (input, wanted) = row.split_once(" => ").unwrap_or((row, ""));
+    let (kind, size) = input.split_once(' ').unwrap_or((input, ""));
+    let size = size.parse::<u64>()?;
+    Ok(is_event_of(alloc, kind, size)? == (wanted == "event"))
+}
+
+#[test]
+fn levels_and_ids_are_limited(rt: HostRuntime) -> Result<(), Fail> {
+    for row in LIMITS.lines() {
+        assert!(rt; is_limited(rt.alloc(), row)?, "{row}");
     }
     Ok(())
 }

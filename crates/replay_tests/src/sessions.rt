@@ -127,8 +127,6 @@ fn transcripts(rt: HostRuntime) -> Result<(), Fail> {
 
 const CONNECT: &str = r#"{"msg":"connect","version":"1"}"#;
 
-const BAD: &str = r#"{"msg":"error","reason":"Bad request"}"#;
-
 fn connect_and_answer(session: &mut Session, store: &Store, text: &str) -> Result<Text, Fail>
     requires { IsTrueTo store.now session.old }
 {
@@ -157,30 +155,15 @@ fn refusal_of_sub(alloc: Global, length: u64) -> Result<String, Fail> {
     repeated(alloc, before, "x", length, after)
 }
 
-#[test]
-fn ids_are_limited(rt: HostRuntime) -> Result<(), Fail> {
-    let alloc = rt.alloc();
-    assert_eq!(rt; answer_to_sub(alloc, 256)?.as_str(), "");
-    let refusal = refusal_of_sub(alloc, 257)?;
-    assert_eq!(rt; answer_to_sub(alloc, 257)?.as_str(), refusal.as_str());
-    Ok(())
+fn is_shown(alloc: Global, length: u64) -> Result<bool, Fail> {
+    let refusal = refusal_of_sub(alloc, length)?;
+    Ok(answer_to_sub(alloc, length)?.as_str() == refusal.as_str())
 }
 
 // What it sends for a `ping` behind as many blanks, which has 14 bytes itself.
 fn answer_to_ping(alloc: Global, blanks: u64) -> Result<Text, Fail> {
     let text = repeated(alloc, "", " ", blanks, r#"{"msg":"ping"}"#)?;
     answer_connected(alloc, text.as_str())
-}
-
-#[test]
-fn lengths_are_limited(rt: HostRuntime) -> Result<(), Fail> {
-    let alloc = rt.alloc();
-    assert_eq!(rt;
-        answer_to_ping(alloc, 2_097_152 - 14)?.as_str(),
-        r#"{"msg":"pong"}"#
-    );
-    assert_eq!(rt; answer_to_ping(alloc, 2_097_152 - 13)?.as_str(), BAD);
-    Ok(())
 }
 
 // What it sends for as many lists in one another.
@@ -190,13 +173,35 @@ fn answer_to_lists(alloc: Global, levels: u64) -> Result<Text, Fail> {
     answer_connected(alloc, text.as_str())
 }
 
+// Each row: the bytes of the id of a `sub`, the blanks before a `ping` or how many lists stand in
+// one another, and what is sent.
+const LIMITS: &str = r#"sub 256 => 
+blanks 2097138 => {"msg":"pong"}
+blanks 2097139 => {"msg":"error","reason":"Bad request"}
+lists 127 => {"msg":"error","reason":"Bad request"}
+lists 128 => {"msg":"error","reason":"Parse error"}
+"#;
+
+fn answer_to(alloc: Global, kind: &str, size: u64) -> Result<Text, Fail> {
+    match kind {
+        "sub" => answer_to_sub(alloc, size),
+        "blanks" => answer_to_ping(alloc, size),
+        _ => answer_to_lists(alloc, size),
+    }
+}
+
+fn is_right(alloc: Global, row: &str) -> Result<bool, Fail> {
+    let (input, wanted) = row.split_once(" => ").unwrap_or((row, ""));
+    let (kind, size) = input.split_once(' ').unwrap_or((input, ""));
+    let size = size.parse::<u64>()?;
+    Ok(answer_to(alloc, kind, size)?.as_str() == wanted)
+}
+
 #[test]
-fn levels_are_limited(rt: HostRuntime) -> Result<(), Fail> {
-    let alloc = rt.alloc();
-    assert_eq!(rt;
-        answer_to_lists(alloc, 128)?.as_str(),
-        r#"{"msg":"error","reason":"Parse error"}"#
-    );
-    assert_eq!(rt; answer_to_lists(alloc, 127)?.as_str(), BAD);
+fn texts_are_limited(rt: HostRuntime) -> Result<(), Fail> {
+    for row in LIMITS.lines() {
+        assert!(rt; is_right(rt.alloc(), row)?, "{row}");
+    }
+    assert!(rt; is_shown(rt.alloc(), 257)?);
     Ok(())
 }

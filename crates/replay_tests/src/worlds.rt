@@ -2,6 +2,7 @@
 //! printed follows from the rules of events, not from the program.
 use crate::values::{app, value};
 use ejson_codec::Lines;
+use ejson_value::Mem;
 use replay_core::World;
 use replay_events::Event;
 use std::alloc::Global;
@@ -12,15 +13,17 @@ fn event(alloc: Global, line: &str) -> Result<Event, Fail> {
     Ok(Event::read(alloc, &line)?)
 }
 
-fn happens(world: &mut World, event: Event) -> Result<Lines, Fail> {
+fn happens(world: &mut World, event: Event) -> Result<Lines, Mem> {
     event.known();
-    Ok(world.event(&event)?)
+    let lines = world.event(&event);
+    drop(event);
+    lines
 }
 
 // The lines that the event of the line prints.
 fn printed(alloc: Global, world: &mut World, line: &str) -> Result<Lines, Fail> {
     let event = event(alloc, line)?;
-    happens(world, event)
+    Ok(happens(world, event)?)
 }
 
 // Adds the line, and behind it each line that was printed, after `> `.

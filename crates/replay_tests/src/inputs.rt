@@ -1,3 +1,4 @@
+//! Inputs of the command `replay`, and what comes of each: the status, what was written and the reason.
 use commands::{INPUT_LIMIT, Status, run_plain};
 use ejson_value::{Bytes, Mem, Text};
 use io_edge::{Calls, MemorySink, MemorySource};
@@ -36,29 +37,32 @@ const INPUTS: &str = r#"@ => 0; ;
 {"collections":["a"],"publications":{"p":[{"collection":"b"}]}} => 3; ["bad",1]|; line 1 is no application: a collection that is not listed, at "publications/p/0/collection"
 "#;
 
-// Each row: which call of `read` and of `write` fails, ` => `, and what comes of it.
-const FAULTS: &str = r#"1 9 => 4; ; 
-2 9 => 4; ; 
-9 1 => 5; ; 
-9 9 => 0; ["idle"]|; 
+// Each row: `calls` and which call of `read` and of `write` fails, `words` and words that name no
+// command, or `bytes` and how many an input has, ` => `, and what comes of it.
+const RUNS: &str = r#"calls 1 9 => 4; ; 
+calls 2 9 => 4; ; 
+calls 9 1 => 5; ; 
+calls 9 9 => 0; ["idle"]|; 
+words  => 2; ; 
+words replay x => 2; ; 
+words replay  => 2; ; 
+words  replay => 2; ; 
+words -- replay => 2; ; 
+words replay -- => 2; ; 
+words -- => 2; ; 
+words --help => 2; ; 
+words -h => 2; ; 
+words --version => 2; ; 
+words help => 2; ; 
+words Replay => 2; ; 
+words check => 2; ; 
+words serve 3000 1 => 2; ; 
+bytes 65536 => 0; ; 
+bytes 65537 => 6; ; 
 "#;
 
-// Each row: words that name no command.
-const WORDS: &str = r#"
-replay x
-replay 
- replay
--- replay
-replay --
---
---help
--h
---version
-help
-Replay
-check
-serve 3000 1
-"#;
+// An input that shows one line.
+const SHOWN: &str = "@|[\"show\",\"zz\"]";
 
 fn add(bytes: &mut Vec<u8>, byte: u8) -> Result<(), Mem> {
     match byte {
@@ -113,12 +117,22 @@ fn ran(
     shown(alloc, status, sink.written(), &reason)
 }
 
+// What these words come to over the source, where this write fails.
+fn ran_over(
+    alloc: Global,
+    words: &str,
+    source: &mut MemorySource,
+    write: u64,
+) -> Result<String, Fail> {
+    let words = words_of(alloc, words)?;
+    let mut sink = MemorySink::new(alloc, 4096, call(alloc, write)?)?;
+    ran(alloc, words.as_slice(), source, &mut sink)
+}
+
 // What these words come to on the input of a row, where this read and this write fail.
 fn outcome(alloc: Global, words: &str, row: &str, read: u64, write: u64) -> Result<String, Fail> {
-    let words = words_of(alloc, words)?;
     let mut source = source(alloc, row, read)?;
-    let mut sink = MemorySink::new(alloc, 4096, call(alloc, write)?)?;
-    ran(alloc, words.as_slice(), &mut source, &mut sink)
+    ran_over(alloc, words, &mut source, write)
 }
 
 fn is_right(alloc: Global, row: &str) -> Result<bool, Fail> {
@@ -128,35 +142,38 @@ fn is_right(alloc: Global, row: &str) -> Result<bool, Fail> {
     }
 }
 
-fn fails_right(alloc: Global, row: &str) -> Result<bool, Fail> {
-    let Some((calls, wanted)) = row.split_once(" => ") else {
-        return Ok(false);
-    };
-    let Some((read, write)) = calls.split_once(' ') else {
-        return Ok(false);
-    };
+fn of_calls(alloc: Global, calls: &str) -> Result<String, Fail> {
+    let (read, write) = calls.split_once(' ').unwrap_or((calls, ""));
     let (read, write) = (read.parse::<u64>()?, write.parse::<u64>()?);
-    let ran = outcome(alloc, "replay", "@|[\"show\",\"zz\"]", read, write)?;
-    Ok(ran.as_str() == wanted)
+    outcome(alloc, "replay", SHOWN, read, write)
 }
 
-fn is_usage(alloc: Global, words: &str) -> Result<bool, Fail> {
-    Ok(outcome(alloc, words, "@|[\"show\",\"zz\"]", 1, 1)?.as_str() == "2; ; ")
-}
-
-// What comes of the application and spaces, so many bytes in all.
-fn of_length(alloc: Global, length: u64) -> Result<String, Fail> {
+// The application and spaces, so many bytes in all.
+fn spaced(alloc: Global, length: u64) -> Result<Vec<u8>, Mem> {
     let mut bytes = Vec::from_slice(alloc, APPLICATION.as_bytes())?;
     bytes.push(b'\n')?;
     bytes.resize(length as usize, b' ')?;
-    let mut source = MemorySource::new(Bytes::from_vec(bytes), Calls::new(alloc));
-    let mut sink = MemorySink::new(alloc, 16, Calls::new(alloc))?;
-    let words = words_of(alloc, "replay")?;
-    ran(alloc, words.as_slice(), &mut source, &mut sink)
+    Ok(bytes)
 }
 
-fn comes_of_length(alloc: Global, length: u64, wanted: &str) -> Result<bool, Fail> {
-    Ok(of_length(alloc, length)?.as_str() == wanted)
+fn of_length(alloc: Global, length: &str) -> Result<String, Fail> {
+    let bytes = spaced(alloc, length.parse::<u64>()?)?;
+    let mut source = MemorySource::new(Bytes::from_vec(bytes), Calls::new(alloc));
+    ran_over(alloc, "replay", &mut source, 9)
+}
+
+fn comes_of(alloc: Global, kind: &str, given: &str) -> Result<String, Fail> {
+    match kind {
+        "calls" => of_calls(alloc, given),
+        "words" => outcome(alloc, given, SHOWN, 1, 1),
+        _ => of_length(alloc, given),
+    }
+}
+
+fn comes_right(alloc: Global, row: &str) -> Result<bool, Fail> {
+    let (run, wanted) = row.split_once(" => ").unwrap_or((row, ""));
+    let (kind, given) = run.split_once(' ').unwrap_or((run, ""));
+    Ok(comes_of(alloc, kind, given)?.as_str() == wanted)
 }
 
 #[test]
@@ -168,25 +185,10 @@ fn inputs(rt: HostRuntime) -> Result<(), Fail> {
 }
 
 #[test]
-fn calls_that_fail(rt: HostRuntime) -> Result<(), Fail> {
-    for row in FAULTS.lines() {
-        assert!(rt; fails_right(rt.alloc(), row)?, "at {row}");
+fn runs(rt: HostRuntime) -> Result<(), Fail> {
+    assert!(rt; INPUT_LIMIT == 65536 && Status::TooLong.message().contains("65536"));
+    for row in RUNS.lines() {
+        assert!(rt; comes_right(rt.alloc(), row)?, "at {row}");
     }
-    Ok(())
-}
-
-#[test]
-fn words_that_name_no_command(rt: HostRuntime) -> Result<(), Fail> {
-    for words in WORDS.lines() {
-        assert!(rt; is_usage(rt.alloc(), words)?, "at {words}");
-    }
-    Ok(())
-}
-
-#[test]
-fn lengths(rt: HostRuntime) -> Result<(), Fail> {
-    assert!(rt; comes_of_length(rt.alloc(), INPUT_LIMIT, "0; ; ")?);
-    assert!(rt; comes_of_length(rt.alloc(), INPUT_LIMIT + 1, "6; ; ")?);
-    assert!(rt; Status::TooLong.message().contains("65536"));
     Ok(())
 }
