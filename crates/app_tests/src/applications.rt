@@ -389,17 +389,28 @@ fn methods_are_found(rt: HostRuntime) -> Result<(), Fail> {
     Ok(())
 }
 
-fn count_rules(alloc: Global, app: &App, collection: &str) -> Result<usize, Fail> {
+// How many allow rules a collection has, and how many deny rules.
+fn count_rules(alloc: Global, app: &App, collection: &str) -> Result<(usize, usize), Fail> {
     Ok(match app.rules(&Text::from_str(alloc, collection)?) {
-        Some(rules) => 10 + rules.deny.len() + 100 * rules.allow.len(),
-        None => 0,
+        Some(rules) => (rules.allow.len(), rules.deny.len()),
+        None => (0, 0),
     })
+}
+
+fn has_rules(
+    alloc: Global,
+    app: &App,
+    collection: &str,
+    wanted: (usize, usize),
+) -> Result<bool, Fail> {
+    let (allow, deny) = count_rules(alloc, app, collection)?;
+    Ok(allow == wanted.0 && deny == wanted.1)
 }
 
 // Whether the copy of the application has two deny rules for `t`, and none for `u`.
 fn rules_are_copied(alloc: Global) -> Result<bool, Fail> {
     let app = read(alloc, PROGRAMS)??.copy()?;
-    Ok(count_rules(alloc, &app, "t")? == 12 && count_rules(alloc, &app, "u")? == 0)
+    Ok(has_rules(alloc, &app, "t", (0, 2))? && has_rules(alloc, &app, "u", (0, 0))?)
 }
 
 #[test]

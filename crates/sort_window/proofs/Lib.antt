@@ -1,1 +1,10 @@
 pub mod Reaching
+pub mod Ordered
+pub mod Counting
+pub mod ById
+pub mod Placed
+pub mod Inside
+pub mod Crossing
+pub mod Drafting
+pub mod Telling
+pub mod Staying
