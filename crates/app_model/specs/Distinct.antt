@@ -17,11 +17,9 @@ use Rattle.program_reading.specs.declared.fault.Flaw.{Flaw}
 use Rattle.program_reading.specs.declared.fault.Flaw.TheVariants as flaw
 use Rattle.app_model.specs.declared.publication.CursorRule.{CursorRule}
 use Rattle.program_reading.specs.Faults.{Place, below, element, Reading, bad}
-use Rattle.app_model.specs.Fields.{projection_reading}
 use Rattle.app_model.specs.Rules.{Rules, publishes, HaveDistinctNames}
-use Rattle.app_model.specs.Sorting.{window_reading}
 use Rattle.program_reading.specs.Names.{has_name, is_valid_name, name_reading, if_known, known_reading}
-use Rattle.app_model.specs.Reading.{is_cursor, published_as, is_published, alias_reading, selector_of, names_reading, parts_reading, rule_reading, rules_behind}
+use Rattle.app_model.specs.Reading.{is_cursor, published_as, is_published, alias_reading, selector_of, names_reading, shown_reading, parts_reading, rule_reading, rules_behind}
 
 flipped : (a b : List ℕ) → Decides (bytes_eq a b) (a ≡ b) → Decides (bytes_eq a b) (b ≡ a)
 flipped a b d = (λ e. sym (d.0 e), λ p. d.1 (sym p))
@@ -94,13 +92,10 @@ named collections place fs names e =
 parts_published : (collections : List (List ℕ)) (place : Place) (fs : Fields) (rule : CursorRule) → parts_reading collections place fs ≡ Ok rule →
     published_as (field_of fs (codes "as")) (field_of fs (codes "collection")) ≡ Some (text rule.name)
 parts_published collections place fs rule e =
-    let rule_of = λ (names : List ℕ × List ℕ) (fields : Projection) (window : Option ℕ × List SortKey). let r : CursorRule = record { collection = names.0; name = names.1; selector = selector_of (field_of fs (codes "selector")); fields = fields; sort = window.1; limit = window.0 } in r in
-    let projected = projection_reading (below place (codes "fields")) (field_of fs (codes "fields")) in
-    let windowed = window_reading place fs in
-    let by_names = and_then-ok (names_reading collections place fs) (λ names. and_then projected (λ fields. and_then windowed (λ window. Ok (rule_of names fields window)))) rule e in
-    let by_fields = and_then-ok projected (λ fields. and_then windowed (λ window. Ok (rule_of by_names.0 fields window))) rule by_names.2 in
-    let by_window = and_then-ok windowed (λ window. Ok (rule_of by_names.0 by_fields.0 window)) rule by_fields.2 in
-    named collections place fs by_names.0 by_names.1 ∙ ap (λ (r : CursorRule). Some (text r.name)) (ok_is (rule_of by_names.0 by_fields.0 by_window.0) rule by_window.2)
+    let rule_of = λ (names : List ℕ × List ℕ) (shown : Projection × (Option ℕ × List SortKey)). let r : CursorRule = record { collection = names.0; name = names.1; selector = selector_of (field_of fs (codes "selector")); fields = shown.0; sort = shown.1.1; limit = shown.1.0 } in r in
+    let by_names = and_then-ok (names_reading collections place fs) (λ names. and_then (shown_reading place fs) (λ shown. Ok (rule_of names shown))) rule e in
+    let by_shown = and_then-ok (shown_reading place fs) (λ shown. Ok (rule_of by_names.0 shown)) rule by_names.2 in
+    named collections place fs by_names.0 by_names.1 ∙ ap (λ (r : CursorRule). Some (text r.name)) (ok_is (rule_of by_names.0 by_shown.0) rule by_shown.2)
 
 rule_fresh : (collections : List (List ℕ)) (place : Place) (rules : Rules) (v : Val) (rule : CursorRule) → rule_reading collections place rules v ≡ Ok rule → publishes rules rule.name ≡ false
 rule_fresh collections place rules (object fs) rule e =

@@ -10,6 +10,8 @@ use Rattle.value_model.specs.Branches.{field_of}
 use Rattle.ejson_value.specs.Results.{made, and_then}
 use Rattle.program_reading.specs.declared.fault.Flaw.TheVariants as flaw
 use Rattle.program_reading.specs.declared.names.Shape.TheVariants as shape
+use Rattle.ejson_value.specs.declared.sort.SortKey.{SortKey}
+use Rattle.app_model.specs.declared.publication.Projection.{Projection}
 use Rattle.app_model.specs.declared.publication.CursorRule.{CursorRule}
 use Rattle.app_model.specs.Rules.{Rules, publishes}
 use Rattle.program_steps.specs.declared.rules.Action.{Action}
@@ -85,12 +87,17 @@ names_reading collections place fs =
     and_then (known_reading collections (below place (codes "collection")) (field_of fs (codes "collection"))) (λ collection.
     Ok (collection, unwrap_or alias collection)))
 
+-- the projection, the limit and the sort keys of a cursor
+abbrev pub shown_reading : Place → Fields → Reading (Projection × (Option ℕ × List SortKey))
+shown_reading place fs =
+    and_then (projection_reading (below place (codes "fields")) (field_of fs (codes "fields"))) (λ fields.
+    and_then (window_reading place fs) (λ window. Ok (fields, window)))
+
 abbrev pub parts_reading : List (List ℕ) → Place → Fields → Reading CursorRule
 parts_reading collections place fs =
     and_then (names_reading collections place fs) (λ names.
-    and_then (projection_reading (below place (codes "fields")) (field_of fs (codes "fields"))) (λ fields.
-    and_then (window_reading place fs) (λ window.
-    Ok (record { collection = names.0; name = names.1; selector = selector_of (field_of fs (codes "selector")); fields = fields; sort = window.1; limit = window.0 }))))
+    and_then (shown_reading place fs) (λ shown.
+    Ok (record { collection = names.0; name = names.1; selector = selector_of (field_of fs (codes "selector")); fields = shown.0; sort = shown.1.1; limit = shown.1.0 })))
 
 -- a cursor behind others
 abbrev pub rule_reading : List (List ℕ) → Place → Rules → Val → Reading CursorRule

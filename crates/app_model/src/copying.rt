@@ -2,7 +2,8 @@
 ghost use Rattle.std.specs.Prelude.{◌≡◌, IfOk};
 
 use crate::publication::{CursorRule, Projection, Publication};
-use ejson_value::{Copied, Mem, Text};
+use ejson_value::{Copied, Mem, SortKeys, Text};
+use program_steps::Template;
 
 impl Projection {
     /// A projection equal to this one.
@@ -23,18 +24,29 @@ fn copy_both(one: &Text, other: &Text) -> Result<(Text, Text), Mem>
     Ok((one.copy()?, other.copy()?))
 }
 
+type Shown = (Template, Projection, SortKeys);
+
+fn copy_shown(rule: &CursorRule) -> Result<Shown, Mem>
+    ensures { IfOk result (λ shown. shown ≡ (rule.now.selector, rule.now.fields, rule.now.sort)) }
+{
+    let selector = rule.selector.copy()?;
+    let fields = rule.fields.copy()?;
+    Ok((selector, fields, rule.sort.copy()?))
+}
+
 impl CursorRule {
     /// A cursor equal to this one.
     pub fn copy(&self) -> Result<CursorRule, Mem>
         ensures { IfOk result (λ rule. rule ≡ self.now) }
     {
         let (collection, name) = copy_both(&self.collection, &self.name)?;
+        let (selector, fields, sort) = copy_shown(self)?;
         Ok(CursorRule {
             collection,
             name,
-            selector: self.selector.copy()?,
-            fields: self.fields.copy()?,
-            sort: self.sort.copy()?,
+            selector,
+            fields,
+            sort,
             limit: self.limit,
         })
     }

@@ -7,12 +7,12 @@ ghost use Rattle.app_model.specs.Rules.{publishes};
 ghost use Rattle.program_reading.specs.Faults.{below, element, Gives};
 ghost use Rattle.program_reading.specs.Names.{known_reading};
 ghost use Rattle.app_model.specs.Fields.{projection_reading};
-ghost use Rattle.app_model.specs.Reading.{is_cursor, is_published, published_as, alias_reading, selector_of, names_reading, parts_reading, rule_reading, rules_behind, cursors_reading, named_reading, publication_reading};
+ghost use Rattle.app_model.specs.Reading.{is_cursor, is_published, published_as, alias_reading, selector_of, names_reading, shown_reading, parts_reading, rule_reading, rules_behind, cursors_reading, named_reading, publication_reading};
 
 use crate::fields::read_projection;
 use crate::publication::{CursorRule, CursorRules, Projection, Publication};
 use crate::sorting::read_window;
-use ejson_value::{Doc, Items, Mem, Names, Text, Value, copy};
+use ejson_value::{Doc, Items, Mem, Names, SortKeys, Text, Value, copy};
 use program_reading::{
     AppFault, Flaw, Shape, bad, below, element, has_more_items, has_only_keys, is_valid_name,
     member, read_known, read_name,
@@ -139,6 +139,17 @@ fn read_published(alloc: Global, place: &Text, fields: &Doc) -> Result<Projectio
     read_projection(alloc, &at_fields, member(alloc, fields, "fields")?)
 }
 
+type Shown = (Projection, (Option<u32>, SortKeys));
+
+// The projection, the limit and the sort keys of a cursor.
+fn read_shown(alloc: Global, place: &Text, fields: &Doc) -> Result<Shown, AppFault>
+    ensures { Gives (λ shown. shown) result (shown_reading place.now (fields_of fields.now)) }
+{
+    let projection = read_published(alloc, place, fields)?;
+    let window = read_window(alloc, place, fields)?;
+    Ok((projection, window))
+}
+
 fn read_template(alloc: Global, fields: &Doc) -> Result<Template, Mem>
     ensures { IfOk result (λ t. t ≡ selector_of (field_of (fields_of fields.now) (codes "selector"))) }
 {
@@ -154,8 +165,7 @@ fn read_parts(
     ensures { Gives (λ rule. rule) result (parts_reading collections.now place.now (fields_of fields.now)) }
 {
     let (collection, name) = read_names(alloc, collections, place, fields)?;
-    let projection = read_published(alloc, place, fields)?;
-    let (limit, sort) = read_window(alloc, place, fields)?;
+    let (projection, (limit, sort)) = read_shown(alloc, place, fields)?;
     let selector = read_template(alloc, fields)?;
     Ok(CursorRule {
         collection,

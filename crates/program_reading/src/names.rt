@@ -82,24 +82,38 @@ pub fn member<'a>(alloc: Global, fields: &'a Doc, key: &str) -> Result<Option<&'
     Ok(fields.get(&key))
 }
 
+fn is_application_key(key: &str) -> bool
+    ensures { result ≡ is_key Shape.Application key.now }
+{
+    key == "collections" || key == "methods" || key == "publications" || key == "rules"
+}
+
+fn is_cursor_key(key: &str) -> bool
+    ensures { result ≡ is_key Shape.Cursor key.now }
+{
+    key == "collection"
+        || key == "as"
+        || key == "selector"
+        || key == "fields"
+        || key == "sort"
+        || key == "limit"
+}
+
+fn is_rule_key(key: &str) -> bool
+    ensures { result ≡ is_key Shape.Rule key.now }
+{
+    key == "on" || key == "selector" || key == "fields"
+}
+
 fn is_key(shape: Shape, key: &str) -> bool
     ensures { result ≡ is_key shape key.now }
 {
     match shape {
-        Shape::Application => {
-            key == "collections" || key == "methods" || key == "publications" || key == "rules"
-        }
-        Shape::Cursor => {
-            key == "collection"
-                || key == "as"
-                || key == "selector"
-                || key == "fields"
-                || key == "sort"
-                || key == "limit"
-        }
+        Shape::Application => is_application_key(key),
+        Shape::Cursor => is_cursor_key(key),
         Shape::Program => key == "steps" || key == "stub",
         Shape::Rules => key == "allow" || key == "deny",
-        Shape::Rule => key == "on" || key == "selector" || key == "fields",
+        Shape::Rule => is_rule_key(key),
     }
 }
 
