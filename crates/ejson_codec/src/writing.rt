@@ -49,7 +49,8 @@ pub fn put_member(
     key: &str,
     tree: Json,
 ) -> Result<(), Mem>
-    ensures { OnOk result (members_view members.new.entries ≡ put key.now (json_view tree) (members_view members.old.entries)) }
+    ensures ok { OnOk result (members_view members.new.entries ≡ put key.now (json_view tree) (members_view members.old.entries)) }
+    ensures err { OnErr result (members.new.entries ≡ members.old.entries) }
 {
     drop(members.insert(String::from_str(alloc, key)?, tree)?);
     Ok(())

@@ -154,6 +154,7 @@ impl MergeBox {
     /// takes no memory.
     pub fn commit(&mut self, plan: MergePlan) -> DataList
         ensures kept { self.new.kept ≡ self.old.planned }
+        ensures planned { self.new.planned ≡ self.new.kept }
         ensures messages { map said result ≡ plan }
     {
         let changes = mem::replace(&mut self.changes, BTreeMap::new(self.alloc));

@@ -10,5 +10,5 @@ use Rattle.ddp_messages.proofs.writing.method.Goals as goal
 pub returns : goal.returns
 returns c =
     c.in_ok-put_if.ensures ∙ ap₂ (put_if (codes "randomSeed")) c.in_ok-optional_value_tree.ensures
-    (c.in_ok-put_member.ensures ∙ ap₂ (put (codes "params")) c.in_ok-values_tree.ensures (c.in_ok-put_text.ensures ∙ ap (put (codes "method") (string c.args.method.now)) c.in_ok-members.ensures))
+    (c.in_ok-put_member.ensures.ok ∙ ap₂ (put (codes "params")) c.in_ok-values_tree.ensures (c.in_ok-put_text.ensures ∙ ap (put (codes "method") (string c.args.method.now)) c.in_ok-members.ensures))
     ∙ method_built c.args.id.now c.args.method.now c.args.params.now (option_map view c.args.random_seed.now)

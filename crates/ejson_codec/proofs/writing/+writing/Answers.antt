@@ -31,7 +31,7 @@ members-loop-name-preserved t c =
       done ++ (name, value) ∷ [],
       all ∙ sym (append_assoc done ((name, value) ∷ []) c.next.new.self),
       member_more c.into_iter-name-iterator.result done name _ value c.next.new.self (json_view c.in_ok-tree.field-0) (members_view c.loop-name.members.entries) (members_view c.put_member.new.members.entries)
-          all sorted c.as_str.ensures c.in_ok-tree.ensures c.in_ok-put_member.ensures c.loop-name.invariant.2,
+          all sorted c.as_str.ensures c.in_ok-tree.ensures c.in_ok-put_member.ensures.ok c.loop-name.invariant.2,
     )
 
 pub trees-tree-requires : goal.trees-tree-requires

@@ -4,7 +4,7 @@ use Rattle.serde_json.specs.View.{view as json_view, members_view}
 use Rattle.serde_json.proofs.Views.{members_view-insert_entry}
 use Rattle.ejson_codec.proofs.writing.put_member.Goals as goal
 
-pub returns : goal.returns
-returns c =
+pub returns-clause-ok : goal.returns-clause-ok
+returns-clause-ok c =
     ap members_view c.in_ok-insert.ensures.entries ∙ members_view-insert_entry c.args.members.now.entries c.in_ok-from_str.field-0 c.args.tree
     ∙ ap (λ (key : List ℕ). put key (json_view c.args.tree) (members_view c.args.members.now.entries)) c.in_ok-from_str.ensures.ok

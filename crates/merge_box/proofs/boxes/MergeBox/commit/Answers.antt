@@ -4,7 +4,7 @@ use Rattle.ejson_value.specs.declared.key.Key.{Key}
 use Rattle.ejson_value.specs.Key.{key_cmp}
 use Rattle.merge_box.specs.Held.{SameDoc}
 use Rattle.merge_box.specs.Index.{lists_of}
-use Rattle.merge_box.specs.Inside.{after_at}
+use Rattle.merge_box.specs.Inside.{docs_of, carried_out, after_at}
 use Rattle.merge_box.specs.State.{KeptDocs}
 use Rattle.merge_box.proofs.MakePlan.{carried_is}
 use Rattle.merge_box.proofs.boxes.MergeBox.commit.Goals as goal
@@ -17,3 +17,6 @@ returns-clause-kept c =
     carried_is kept c.self.inside.changes.entries (lists_of c.self.inside.index.entries) c.self.invariant new c.len-len.ensures.ordered c.take_all.ensures.held
     (subst Same (ap (λ m. m.entries) c.replace-changes.ensures.value) c.take_all.ensures.same)
     ∙ ap (λ b. b.planned) c.self.view_is
+
+pub returns-clause-planned : goal.returns-clause-planned
+returns-clause-planned c = ap (λ changes. docs_of (carried_out changes c.take_all.new.kept.entries)) c.new.ensures.empty
