@@ -19,4 +19,5 @@ returns-clause-kept c =
     ∙ ap (λ b. b.planned) c.self.view_is
 
 pub returns-clause-planned : goal.returns-clause-planned
-returns-clause-planned c = ap (λ changes. docs_of (carried_out changes c.take_all.new.kept.entries)) c.new.ensures.empty
+returns-clause-planned c =
+    ap (λ (changes : KeptDocs). docs_of (carried_out changes c.take_all.new.kept.entries)) (ap (λ m. m.entries) c.replace-changes.ensures.after ∙ c.new.ensures.empty)
