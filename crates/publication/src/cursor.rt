@@ -42,36 +42,17 @@ impl Model for Cursors {
     ghost invariant = { λ a. HaveDistinctNames a.cursors.items };
 }
 
-// Copies of the names of a cursor.
-pub(crate) fn copy_names(collection: &Text, name: &Text) -> Result<(Text, Text), Mem>
-    ensures { IfOk result (λ names. names ≡ (collection.now, name.now)) }
-{
-    Ok((collection.copy()?, name.copy()?))
-}
-
-// Copies of what a cursor shows of its documents.
-pub(crate) fn copy_shown(
-    fields: &Projection,
-    sort: &SortKeys,
-) -> Result<(Projection, SortKeys), Mem>
-    ensures { IfOk result (λ shown. shown ≡ (fields.now, sort.now)) }
-{
-    Ok((fields.copy()?, sort.copy()?))
-}
-
 impl Cursor {
     /// A cursor equal to this one.
     pub fn copy(&self) -> Result<Cursor, Mem>
         ensures { IfOk result (λ cursor. cursor ≡ self.now) }
     {
-        let (collection, name) = copy_names(&self.collection, &self.name)?;
-        let (fields, sort) = copy_shown(&self.fields, &self.sort)?;
         Ok(Cursor {
-            collection,
-            name,
+            collection: self.collection.copy()?,
+            name: self.name.copy()?,
             selector: self.selector.copy()?,
-            fields,
-            sort,
+            fields: self.fields.copy()?,
+            sort: self.sort.copy()?,
             limit: self.limit,
         })
     }
