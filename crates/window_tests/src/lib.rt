@@ -5,7 +5,7 @@
 mod tests {
     use ejson_codec::parse;
     use ejson_value::{Doc, ListOf, Path, SortKey, SortKeys, Text, Value};
-    use sort_window::{Row, RowNews, Rows, ShownList, Window, before};
+    use sort_window::before;
     use std::alloc::Global;
     use std::test::Fail;
 
@@ -79,82 +79,6 @@ a.b:1 | b {"a":5} | a {} => false
     fn rows(rt: HostRuntime) -> Result<(), Fail> {
         for row in ROWS.lines() {
             assert!(rt; is_right(rt.alloc(), row)?, "at {row}");
-        }
-        Ok(())
-    }
-
-    // Each line: what there is at some ids now, and what readers of the first two are told.
-    const NEWS: &str = r#"t1={"n":1} => t1={"n":1}
-t3={"n":3};t2={"n":2} => t1=-;t2={"n":2};t3={"n":3}
-t3=- => t1={"n":1};t3=-
-t0={"n":0} => 
-t1=-;t0={"n":9} => t0={"n":9};t1=-
-t5={"n":1};t6={"n":1} => 
-t0=-;t2=- => t0=-;t2=-;t5={"n":1};t6={"n":1}
-"#;
-
-    fn row(alloc: Global, written: &str) -> Result<Option<Row>, Fail> {
-        if written == "-" {
-            return Ok(None);
-        }
-        let whole = document(alloc, written)?;
-        Ok(Some(Row {
-            whole,
-            projected: document(alloc, written)?,
-        }))
-    }
-
-    fn one_news(alloc: Global, written: &str) -> Result<RowNews, Fail> {
-        let (id, written) = written.split_once("=").ok_or("no id")?;
-        let id = text(alloc, id)?;
-        Ok(RowNews {
-            id,
-            row: row(alloc, written)?,
-        })
-    }
-
-    fn news(alloc: Global, written: &str) -> Result<Rows, Fail> {
-        let mut rows = ListOf::new(alloc);
-        for one in written.split(';') {
-            rows.push(one_news(alloc, one)?)?;
-        }
-        Ok(rows)
-    }
-
-    fn written(alloc: Global, doc: &Doc) -> Result<Text, Fail> {
-        let value = Value::Object(doc.copy()?);
-        Ok(ejson_codec::text(alloc, &value)?)
-    }
-
-    fn told(alloc: Global, shown: &ShownList) -> Result<String, Fail> {
-        let mut told = String::new(alloc);
-        for one in shown.as_slice() {
-            if !told.is_empty() {
-                told.push(';')?;
-            }
-            told.push_str(one.id.as_str())?;
-            told.push('=')?;
-            match &one.doc {
-                None => told.push('-')?,
-                Some(doc) => told.push_str(written(alloc, doc)?.as_str())?,
-            }
-        }
-        Ok(told)
-    }
-
-    fn step(alloc: Global, window: &mut Window, line: &str) -> Result<bool, Fail> {
-        let (written, wanted) = line.split_once(" => ").ok_or("no answer")?;
-        let moves = window.plan(&news(alloc, written)?)?;
-        let is_right = told(alloc, moves.shown())?.as_str() == wanted;
-        window.commit(moves);
-        Ok(is_right)
-    }
-
-    #[test]
-    fn windows(rt: HostRuntime) -> Result<(), Fail> {
-        let mut window = Window::new(rt.alloc(), sort_keys(rt.alloc(), "n:-1")?, 2);
-        for line in NEWS.lines() {
-            assert!(rt; step(rt.alloc(), &mut window, line)?, "at {line}");
         }
         Ok(())
     }
