@@ -40,7 +40,7 @@ use Rattle.program_steps.specs.declared.step.ProgramStep.TheVariants as step
 use Rattle.program_steps.specs.Runs.{done as ended_with}
 use Rattle.program_model.specs.declared.verdict.Verdict.{Verdict}
 use Rattle.program_model.specs.declared.verdict.Verdict.TheVariants as verdict
-use Rattle.program_model.specs.Guarded.{removes, judged, id_of}
+use Rattle.program_model.specs.Guarded.{removes, judged, or_none, id_of}
 use Rattle.program_model.specs.Run.{Run, gone_on, ended, New, new_by, new_of, next_id, is_id, inserted, if_ok, drawn_for, filled_in, selector_in, modifier_in, new_in}
 use Rattle.program_model.specs.Steps.{Setting, Stepped, by_answer, if_made, if_found, Writing, insert_writing, writing, writing_in, update_of, operation_of, by_verdict, by_rules, done_step, stepped_by, stepped}
 use Rattle.history_model.specs.declared.entry.Entry.{Entry}
@@ -246,8 +246,7 @@ verdict_stored s rows run collection w verdict.BadRule good all = all
 guarded_stored : (s : Setting) (rows : Rows) (run : Run) (collection : List ℕ) (rules : Option Rules) (o : Option Writing) → IsWriting collection o → AreStored rows →
     AreStored (if_made rows run o (λ w. by_rules s rows run collection rules w)).rows
 guarded_stored s rows run collection rules None good all = all
-guarded_stored s rows run collection None (Some w) good all = all
-guarded_stored s rows run collection (Some rules) (Some w) good all = verdict_stored s rows run collection w (judged rules w.0 (at key_cmp rows (key_of collection (id_of w.0)))) good all
+guarded_stored s rows run collection rules (Some w) good all = verdict_stored s rows run collection w (judged (or_none rules) w.0 (at key_cmp rows (key_of collection (id_of w.0)))) good all
 
 step_stored : (s : Setting) (rows : Rows) (run : Run) (step : ProgramStep) → AreStored rows → AreStored (done_step s rows run step).rows
 step_stored s rows run (step.Insert collection doc) all = insert_stored s rows run collection (new_in run collection doc) (filled_is run collection (filled_in run doc)) all

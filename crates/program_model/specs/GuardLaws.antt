@@ -14,16 +14,15 @@ use Rattle.program_steps.specs.declared.step.ProgramStep.TheVariants as step
 use Rattle.program_steps.specs.Guards.{Rule}
 use Rattle.program_model.specs.declared.verdict.Verdict.{Verdict}
 use Rattle.program_model.specs.declared.verdict.Verdict.TheVariants as verdict
-use Rattle.program_model.specs.Guarded.{Write, action_of, judged_document, are_read, denies, allows, first_denial, unless_denied, on_document, judged, id_of}
+use Rattle.program_model.specs.Guarded.{Write, action_of, judged_document, are_read, denies, allows, first_denial, unless_denied, on_document, judged, or_none, id_of}
 use Rattle.program_model.specs.Run.{Run, fails}
 use Rattle.program_model.specs.Steps.{Setting, by_answer, if_made, Writing, writing_in, operation_of, by_verdict, by_rules, done_step}
 use Rattle.program_model.specs.Faults.{denied_by}
 
--- what the rules of the step's collection answer to its write; None where there is no such write, or where the collection has no rules
+-- what the rules of the step's collection answer to its write; None where there is no such write
 abbrev pub verdict_by : Rows → List ℕ → Option Rules → Option Writing → Option Verdict
 verdict_by rows collection rules None = None
-verdict_by rows collection None w = None
-verdict_by rows collection (Some rules) (Some w) = Some (judged rules w.0 (at key_cmp rows (key_of collection (id_of w.0))))
+verdict_by rows collection rules (Some w) = Some (judged (or_none rules) w.0 (at key_cmp rows (key_of collection (id_of w.0))))
 
 abbrev pub verdict_of : Setting → Rows → Run → List ℕ → Action → Option Verdict
 verdict_of s rows run collection a = verdict_by rows collection (s.rules collection) (writing_in collection run a run.params)
@@ -56,8 +55,7 @@ verdict_rows s rows run collection w verdict.BadRule = refl
 writing_rows : (s : Setting) (rows : Rows) (run : Run) (collection : List ℕ) (rules : Option Rules) (w : Option Writing) →
     (if_made rows run w (λ w. by_rules s rows run collection rules w)).rows ≡ rows_by s rows collection w (verdict_by rows collection rules w)
 writing_rows s rows run collection rules None = refl
-writing_rows s rows run collection None (Some w) = refl
-writing_rows s rows run collection (Some rules) (Some w) = verdict_rows s rows run collection w (judged rules w.0 (at key_cmp rows (key_of collection (id_of w.0))))
+writing_rows s rows run collection rules (Some w) = verdict_rows s rows run collection w (judged (or_none rules) w.0 (at key_cmp rows (key_of collection (id_of w.0))))
 
 pub guarded_rows : (s : Setting) (rows : Rows) (run : Run) (collection : List ℕ) (a : Action) →
     (done_step s rows run (step.Guarded collection a)).rows ≡ rows_by s rows collection (writing_in collection run a run.params) (verdict_of s rows run collection a)
@@ -67,9 +65,8 @@ guarded_rows s rows run collection a = writing_rows s rows run collection (s.rul
 denial_by : (s : Setting) (rows : Rows) (run : Run) (collection : List ℕ) (place : ℕ) (rules : Option Rules) (w : Option Writing) → verdict_by rows collection rules w ≡ Some (verdict.Denied place) →
     (if_made rows run w (λ w. by_rules s rows run collection rules w)).run ≡ fails (denied_by place) run
 denial_by s rows run collection place rules None is = absurd (cc is)
-denial_by s rows run collection place None (Some w) is = absurd (cc is)
-denial_by s rows run collection place (Some rules) (Some w) is =
-    let v : judged rules w.0 (at key_cmp rows (key_of collection (id_of w.0))) ≡ verdict.Denied place = cc is in
+denial_by s rows run collection place rules (Some w) is =
+    let v : judged (or_none rules) w.0 (at key_cmp rows (key_of collection (id_of w.0))) ≡ verdict.Denied place = cc is in
     ap (λ (v : Verdict). (by_verdict s rows run collection w v).run) v
 
 pub guarded_denial : (s : Setting) (rows : Rows) (run : Run) (collection : List ℕ) (a : Action) (place : ℕ) → verdict_of s rows run collection a ≡ Some (verdict.Denied place) →

@@ -27,7 +27,7 @@ use Rattle.program_steps.specs.declared.step.Program.{Program}
 use Rattle.program_steps.specs.Runs.{done}
 use Rattle.program_model.specs.declared.verdict.Verdict.{Verdict}
 use Rattle.program_model.specs.declared.verdict.Verdict.TheVariants as verdict
-use Rattle.program_model.specs.Guarded.{judged, id_of}
+use Rattle.program_model.specs.Guarded.{judged, or_none, id_of}
 use Rattle.program_model.specs.Run.{Run, begun, gone_on, ended, inserted, new_in, selector_in, modifier_in, filled_in}
 use Rattle.program_model.specs.Steps.{Setting, Stepped, unchanged, by_answer, if_made, if_found, Writing, writing_in, operation_of, by_verdict, by_rules, done_step, stepped_by, stepped, further, all_stepped, whole_run, client_setting, stub_of, simulated}
 use Rattle.program_model.specs.Kept.{LeadsOn, StepDoes}
@@ -57,8 +57,7 @@ by_verdict_does s rows run collection w verdict.NotAllowed sorted = nothing_done
 by_verdict_does s rows run collection w verdict.BadRule sorted = nothing_done rows s.room _
 
 by_rules_does : (s : Setting) (rows : Rows) (run : Run) (collection : List ℕ) (rules : Option Rules) (w : Writing) → IsSorted key_cmp rows → StepDoes rows s.room (by_rules s rows run collection rules w)
-by_rules_does s rows run collection None w sorted = nothing_done rows s.room _
-by_rules_does s rows run collection (Some rules) w sorted = by_verdict_does s rows run collection w (judged rules w.0 (at key_cmp rows (key_of collection (id_of w.0)))) sorted
+by_rules_does s rows run collection rules w sorted = by_verdict_does s rows run collection w (judged (or_none rules) w.0 (at key_cmp rows (key_of collection (id_of w.0)))) sorted
 
 done_step_does : (s : Setting) (rows : Rows) (run : Run) (step : ProgramStep) → IsSorted key_cmp rows → StepDoes rows s.room (done_step s rows run step)
 done_step_does s rows run (step.Insert collection doc) sorted = if_made_does rows s.room run (new_in run collection doc) _ (λ new. by_answer_does s.collections s.room rows run (operation.Insert collection new.id new.doc) (λ a. gone_on (inserted collection new run)) sorted (applied s.collections rows (operation.Insert collection new.id new.doc) s.room) refl)

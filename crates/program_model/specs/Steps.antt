@@ -24,7 +24,7 @@ use Rattle.program_steps.specs.Runs.{done}
 use Rattle.program_model.specs.declared.verdict.Verdict.{Verdict}
 use Rattle.program_model.specs.declared.verdict.Verdict.TheVariants as verdict
 use Rattle.program_model.specs.Faults.{bad_parameters, fault_of, denied_by, not_allowed}
-use Rattle.program_model.specs.Guarded.{Write, inserts, updates, removes, id_of, judged}
+use Rattle.program_model.specs.Guarded.{Write, inserts, updates, removes, id_of, judged, or_none}
 use Rattle.program_model.specs.Run.{Run, gone_on, ended, fails, New, new_of, next_id, is_id, inserted, filled_in, selector_in, modifier_in, new_in, begun}
 
 -- what steps work on: the collections, the rules of those that clients write to by themselves, and how many bytes new documents may have
@@ -107,8 +107,7 @@ by_verdict s rows run collection w verdict.NotAllowed = refused rows run not_all
 by_verdict s rows run collection w verdict.BadRule = refused rows run bad_parameters
 
 abbrev pub by_rules : Setting → Rows → Run → List ℕ → Option Rules → Writing → Stepped
-by_rules s rows run collection None w = refused rows run not_allowed
-by_rules s rows run collection (Some rules) w = by_verdict s rows run collection w (judged rules w.0 (at key_cmp rows (key_of collection (id_of w.0))))
+by_rules s rows run collection rules w = by_verdict s rows run collection w (judged (or_none rules) w.0 (at key_cmp rows (key_of collection (id_of w.0))))
 
 -- ---- one step
 
