@@ -17,7 +17,7 @@ use Rattle.program_steps.specs.declared.step.ProgramStep.TheVariants as step
 use Rattle.program_steps.specs.Runs.{Outcome, done}
 use Rattle.program_model.specs.declared.verdict.Verdict.{Verdict}
 use Rattle.program_model.specs.declared.verdict.Verdict.TheVariants as verdict
-use Rattle.program_model.specs.Guarded.{Write, removes, judged, id_of}
+use Rattle.program_model.specs.Guarded.{Write, removes, judged, or_none, id_of}
 use Rattle.program_model.specs.Run.{Run, seed_text, if_over, gone_on, begun, ended, New, inserted, new_of, next_id, is_id, filled_in, selector_in, modifier_in, new_in}
 use Rattle.program_model.specs.Steps.{Setting, Stepped, by_answer, if_made, if_found, Writing, insert_writing, writing, writing_in, update_of, operation_of, by_verdict, by_rules, done_step, stepped_by, stepped}
 use Rattle.program_model.specs.Kept.{is_over, IsRun, Follows}
@@ -99,8 +99,7 @@ by_verdict_follows s rows run collection w verdict.NotAllowed f = follows_ended 
 by_verdict_follows s rows run collection w verdict.BadRule f = follows_ended run _
 
 by_rules_follows : (s : Setting) (rows : Rows) (run : Run) (collection : List ℕ) (rules : Option Rules) (w : Writing) → ((outcome : Outcome) → Follows run (ended outcome w.1)) → Follows run (by_rules s rows run collection rules w).run
-by_rules_follows s rows run collection None w f = follows_ended run _
-by_rules_follows s rows run collection (Some rules) w f = by_verdict_follows s rows run collection w (judged rules w.0 (at key_cmp rows (key_of collection (id_of w.0)))) f
+by_rules_follows s rows run collection rules w f = by_verdict_follows s rows run collection w (judged (or_none rules) w.0 (at key_cmp rows (key_of collection (id_of w.0)))) f
 
 guarded_follows : (s : Setting) (rows : Rows) (run : Run) (collection : List ℕ) (w : Option Writing) → Wrote run w → Follows run (if_made rows run w (λ w. by_rules s rows run collection (s.rules collection) w)).run
 guarded_follows s rows run collection None f = follows_ended run _
