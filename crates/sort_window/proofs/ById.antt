@@ -1,5 +1,5 @@
 -- Entries by key: what stands at the place of a key.
-use Rattle.std.proofs.Common.{◌≡◌, ℕ, zero, suc, ◌+◌, ◌<◌, ◌≤◌, Bool, true, false, cond, List, [], ◌∷◌, ◌++◌, length, take, drop, Option, None, Some, slice_get, refl, ap, sym, ◌∙◌, arith}
+use Rattle.std.proofs.Common.{◌≡◌, ℕ, zero, suc, ◌<◌, true, false, cond, List, [], ◌∷◌, length, Option, None, Some, slice_get, refl, ap, sym, ◌∙◌, arith}
 use Rattle.std.specs.Prelude.{count_by}
 use Rattle.std.specs.List.{AllByRecursion, insert, remove}
 use Rattle.std.specs.List.Sorted.{IsStrictlySortedBy}
@@ -10,8 +10,8 @@ use Rattle.std.specs.Map.{keys_of, remove_entry}
 use Rattle.std.specs.BTreeMap.{is_at, insert_entry}
 use Rattle.std.proofs.lemmas.Map.Keys.{sorted_head, sorted_tail}
 use Rattle.std.proofs.lemmas.Option.{none-some}
-use Rattle.map_model.specs.Maps.{at, set, IsSorted, IsKeyOrder}
-use Rattle.sort_window.proofs.Ordered.{count_yes, count_no, none_before}
+use Rattle.map_model.specs.Maps.{at, IsSorted, IsKeyOrder}
+use Rattle.sort_window.proofs.Ordered.{count_yes, none_before}
 use Rattle.sort_window.proofs.Counting.{none_below, less_all}
 
 module _ {K : Type 0} {R : K → K → Ordering} (o : IsKeyOrder R) where

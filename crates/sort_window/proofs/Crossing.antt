@@ -1,7 +1,6 @@
 -- How many rows stand before a row once changes are carried out.
-use Rattle.std.proofs.Common.{◌≡◌, ℕ, ◌+◌, ◌-◌, ◌<◌, ◌≤◌, Bool, true, false, cond, List, [], ◌∷◌, length, Option, None, Some, refl, ap, sym, ◌∙◌, arith, inl, inr}
+use Rattle.std.proofs.Common.{◌≡◌, ℕ, ◌+◌, ◌-◌, ◌<◌, ◌≤◌, Bool, List, [], ◌∷◌, Option, None, Some, refl, ap, arith, inl, inr}
 use Rattle.std.specs.Prelude.{count_by, ◌⊎◌, nat_lt}
-use Rattle.std.specs.Ordering.{eq_by_cmp}
 use Rattle.std.proofs.lemmas.Bool.Decides.{nat_tests}
 use Rattle.map_model.specs.Maps.{at, set, keyed, IsSorted}
 use Rattle.map_model.specs.MapLaws.{sorted-set}

@@ -1,8 +1,13 @@
 -- Drafts with one more change.
-use Rattle.std.proofs.Common.{◌≡◌, ℕ, zero, suc, ◌+◌, ◌<◌, length, get_or, take, subst, Bool, true, false, cond, List, [], ◌∷◌, ◌++◌, map, option_map, Option, None, Some, refl, ap, sym, ◌∙◌, arith}
+use Rattle.std.proofs.Common.{◌≡◌, ℕ, ◌+◌, subst, Bool, true, false, List, [], ◌∷◌, ◌++◌, map, option_map, Option, None, Some, refl, ap, sym, ◌∙◌, arith}
 use Rattle.std.specs.Prelude.{count_by, ◌||◌, IfSome}
 use Rattle.std.specs.List.{list_any, AllByRecursion, IsDistinct}
+use Rattle.std.specs.declared.cmp.Ordering.TheVariants.{Less, Equal}
 use Rattle.std.specs.Ordering.{is_eq}
+use Rattle.std.specs.Map.{keys_of}
+use Rattle.std.proofs.lemmas.Cmp.{tied_itself, nat_list_cmp_total}
+use Rattle.std.proofs.lemmas.Map.Keys.{sorted_head, sorted_tail}
+use Rattle.map_model.specs.Maps.{IsSorted}
 use Rattle.std.proofs.lemmas.Slice.Eq.{bytes_eq-Decides}
 use Rattle.std.proofs.lemmas.Map.Lookups.{exact_bytes}
 use Rattle.map_model.specs.MapLaws.{sorted-nil}
@@ -12,9 +17,8 @@ use Rattle.value_model.specs.Size.{is_name}
 use Rattle.value_model.specs.Order.{text_cmp}
 use Rattle.ejson_value.specs.Key.{name_order}
 use Rattle.sort_window.specs.declared.rows.Row.{Row}
-use Rattle.sort_window.specs.Shown.{RowMap}
+use Rattle.sort_window.specs.Shown.{RowMap, NewsMap}
 use Rattle.sort_window.specs.Inside.{row_cmp, has_id, AreSameRows}
-use Rattle.sort_window.specs.declared.rows.RowNews.{RowNews}
 use Rattle.ejson_value.specs.declared.sort.SortKey.{SortKey}
 use Rattle.sort_window.specs.Drafts.{befores, afters, HasMoreIf, AreDrafted}
 use Rattle.sort_window.specs.Windows.{change_to}
@@ -86,12 +90,6 @@ drafted_nothing sort changes going coming a b c =
     let none : AreDrafted sort [] [] [] = record { going_order = sorted-nil (row_cmp sort); coming_order = sorted-nil (row_cmp sort); going_same = λ test. refl; coming_same = λ test. refl } in
     subst (λ (cs : List (Change (List ℕ) Row)). AreDrafted sort cs going coming) (sym a) (subst (λ (rows : RowMap). AreDrafted sort [] rows coming) (sym b) (subst (λ (rows : RowMap). AreDrafted sort [] [] rows) (sym c) none))
 
--- what holds of all ids holds of one
-all_at : (P : List ℕ → Type 0) (news : List RowNews) (i : ℕ) (one : RowNews) → AllByRecursion P (map (λ (news : RowNews). news.id) news) → i < length news → one ≡ get_or news i one → P one.id
-all_at P [] i one all within is = absurd (omega (arith, within))
-all_at P (x ∷ news) zero one all within is = subst (λ (n : RowNews). P n.id) (sym is) all.0
-all_at P (x ∷ news) (suc i) one all within is = let here : i < length news = omega (arith, within) in all_at P news i one all.1 here is
-
 pub other_way : (a b : List ℕ) → is_name a b ≡ false → is_name b a ≡ false
 other_way a b e =
     elim (is_name b a) as (λ t. is_name b a ≡ t → t ≡ false) [
@@ -106,15 +104,49 @@ both_no : (a b : Bool) → a ≡ false → b ≡ false → (a || b) ≡ false
 both_no true b e f = cc
 both_no false b e f = f
 
--- an id differs from all before it
-differs : (rows : RowMap) (news : List RowNews) (i : ℕ) (one : RowNews) → IsDistinct is_name (map (λ (news : RowNews). news.id) news) → i < length news → one ≡ get_or news i one → list_any (λ (other : Change (List ℕ) Row). is_name one.id other.key) (map (λ (n : RowNews). change_to rows n) (take i news)) ≡ false
-unfolding IsDistinct
-differs rows [] i one d within is = absurd (omega (arith, within))
-differs rows (x ∷ news) zero one d within is = refl
-differs rows (x ∷ news) (suc i) one d within is =
-    let here : i < length news = omega (arith, within) in
-    let first = other_way x.id one.id (all_at (λ y. is_name x.id y ≡ false) news i one d.0 here is) in
-    both_no (is_name one.id x.id) (list_any (λ (other : Change (List ℕ) Row). is_name one.id other.key) (map (λ (n : RowNews). change_to rows n) (take i news))) first (differs rows news i one d.1 here is)
+-- the news of an id is among the news that changes were made of
+among : (rows : RowMap) (P : List ℕ → Type 0) (all rest : NewsMap) (changes : List (Change (List ℕ) Row)) (id : List ℕ) (row : Option Row) →
+    changes ++ change_to rows (id, row) ∷ map (λ (one : List ℕ × Option Row). change_to rows one) rest ≡ map (λ (one : List ℕ × Option Row). change_to rows one) all →
+    AllByRecursion P (keys_of all) → P id
+among rows P [] rest [] id row e ps = cc
+among rows P [] rest (c ∷ changes) id row e ps = cc
+among rows P (x ∷ all) rest [] id row e ps =
+    let one : change_to rows (id, row) ≡ change_to rows x = cc in
+    subst P (sym (ap (λ (c : Change (List ℕ) Row). c.key) one)) ps.0
+among rows P (x ∷ all) rest (c ∷ changes) id row e ps =
+    let tail : changes ++ change_to rows (id, row) ∷ map (λ (one : List ℕ × Option Row). change_to rows one) rest ≡ map (λ (one : List ℕ × Option Row). change_to rows one) all = cc in
+    among rows P all rest changes id row tail ps.1
 
-pub new_id : (rows : RowMap) (news : List RowNews) (i : ℕ) (one : RowNews) (changes : List (Change (List ℕ) Row)) → IsDistinct is_name (map (λ (news : RowNews). news.id) news) → i < length news → one ≡ get_or news i one → changes ≡ map (λ (n : RowNews). change_to rows n) (take i news) → list_any (λ (other : Change (List ℕ) Row). is_name one.id other.key) changes ≡ false
-new_id rows news i one changes d within is all = ap (list_any (λ (other : Change (List ℕ) Row). is_name one.id other.key)) all ∙ differs rows news i one d within is
+-- a lower id is another one
+less_apart : (a b : List ℕ) → text_cmp a b ≡ Less → is_name a b ≡ false
+less_apart a b less =
+    elim (is_name a b) as (λ t. is_name a b ≡ t → t ≡ false) [
+      | true ↦ λ t.
+          let same : a ≡ b = (bytes_eq-Decides a b).0 t in
+          let tie : text_cmp a b ≡ Equal = ap (text_cmp a) (sym same) ∙ tied_itself nat_list_cmp_total a in
+          cc
+      | false ↦ λ t. refl
+    ] refl
+
+-- the id that comes next is none of those before it
+pub new_id : (rows : RowMap) (all rest : NewsMap) (changes : List (Change (List ℕ) Row)) (id : List ℕ) (row : Option Row) → IsSorted text_cmp all →
+    changes ++ change_to rows (id, row) ∷ map (λ (one : List ℕ × Option Row). change_to rows one) rest ≡ map (λ (one : List ℕ × Option Row). change_to rows one) all →
+    list_any (λ (other : Change (List ℕ) Row). is_name id other.key) changes ≡ false
+new_id rows all rest [] id row s e = refl
+new_id rows [] rest (c ∷ changes) id row s e = cc
+new_id rows (x ∷ all) rest (c ∷ changes) id row s e =
+    let one : c ≡ change_to rows x = cc in
+    let tail : changes ++ change_to rows (id, row) ∷ map (λ (one : List ℕ × Option Row). change_to rows one) rest ≡ map (λ (one : List ℕ × Option Row). change_to rows one) all = cc in
+    let less = among rows (λ q. text_cmp x.0 q ≡ Less) all rest changes id row tail (sorted_head text_cmp _ _ s) in
+    let first = ap (is_name id) (ap (λ (c : Change (List ℕ) Row). c.key) one) ∙ other_way x.0 id (less_apart x.0 id less) in
+    both_no (is_name id c.key) (list_any (λ (other : Change (List ℕ) Row). is_name id other.key) changes) first (new_id rows all rest changes id row (sorted_tail text_cmp _ _ s) tail)
+
+all_apart : (id : List ℕ) (news : NewsMap) → AllByRecursion (λ q. text_cmp id q ≡ Less) (keys_of news) → AllByRecursion (λ y. is_name id y ≡ false) (map (λ (one : List ℕ × Option Row). one.0) news)
+all_apart id [] all = tt
+all_apart id (x ∷ news) all = (less_apart id x.0 all.0, all_apart id news all.1)
+
+-- the ids of news are distinct
+pub distinct_ids : (news : NewsMap) → IsSorted text_cmp news → IsDistinct is_name (map (λ (one : List ℕ × Option Row). one.0) news)
+unfolding IsDistinct
+distinct_ids [] s = tt
+distinct_ids (x ∷ news) s = (all_apart x.0 news (sorted_head text_cmp _ _ s), distinct_ids news (sorted_tail text_cmp _ _ s))

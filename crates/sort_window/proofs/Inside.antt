@@ -1,8 +1,7 @@
 -- Both lists of a window after a row is taken or put.
-use Rattle.std.proofs.Common.{◌≡◌, ℕ, suc, ◌+◌, ◌<◌, ◌≤◌, Bool, true, false, cond, List, [], ◌∷◌, length, Option, None, Some, refl, ap, sym, ◌∙◌, arith, zero-add}
+use Rattle.std.proofs.Common.{◌≡◌, ℕ, suc, ◌<◌, Bool, true, false, cond, List, [], ◌∷◌, length, Option, None, Some, refl, ap, sym, ◌∙◌, arith}
 use Rattle.std.specs.Prelude.{count_by}
-use Rattle.std.specs.declared.cmp.Ordering.{Ordering}
-use Rattle.std.specs.Ordering.{is_eq, eq_by_cmp}
+use Rattle.std.specs.Ordering.{eq_by_cmp}
 use Rattle.std.specs.Cmp.{eq_by_cmp_equiv}
 use Rattle.std.proofs.lemmas.Cmp.{nat_list_cmp_total}
 use Rattle.std.proofs.lemmas.Option.{none-some}
@@ -10,10 +9,9 @@ use Rattle.map_model.specs.Maps.{at, set, IsSorted}
 use Rattle.map_model.specs.MapLaws.{at-set, set-at, sorted-set, same_maps, eq_by_cmp-self}
 use Rattle.value_model.specs.Order.{text_cmp}
 use Rattle.ejson_value.specs.Key.{name_order}
-use Rattle.ejson_value.specs.declared.sort.SortKey.{SortKey}
 use Rattle.sort_window.specs.declared.rows.Row.{Row}
 use Rattle.sort_window.specs.Shown.{RowMap}
-use Rattle.sort_window.specs.Inside.{has_id, is_row, AreInOrder, AreSameRows, HasOneMore, IsInside}
+use Rattle.sort_window.specs.Inside.{has_id, is_row, AreSameRows, HasOneMore}
 use Rattle.sort_window.proofs.Ordered.{count-cons, count_yes, count_no}
 use Rattle.sort_window.proofs.Counting.{one, passing, count_set}
 use Rattle.sort_window.proofs.Placed.{row_itself}

@@ -1,11 +1,10 @@
 -- Rows among rows in order.
-use Rattle.std.proofs.Common.{◌≡◌, ℕ, zero, suc, ◌+◌, ◌<◌, ◌≤◌, Bool, true, false, cond, ◌&&◌, List, [], ◌∷◌, ◌++◌, length, get_or, slice_get, Option, None, Some, take, drop, drop-cons, refl, ap, sym, subst, ◌∙◌, arith}
+use Rattle.std.proofs.Common.{◌≡◌, ℕ, zero, suc, ◌+◌, ◌<◌, Bool, true, false, cond, ◌&&◌, List, [], ◌∷◌, ◌++◌, length, get_or, slice_get, Some, take, drop, drop-cons, refl, ap, sym, subst, ◌∙◌, arith}
 use Rattle.std.specs.Prelude.{count_by}
 use Rattle.std.specs.List.{AllByRecursion, insert, remove}
 use Rattle.std.specs.List.Sorted.{IsStrictlySortedBy}
-use Rattle.std.specs.declared.cmp.Ordering.{Ordering}
 use Rattle.std.specs.declared.cmp.Ordering.TheVariants.{Less, Equal, Greater}
-use Rattle.std.specs.Ordering.{is_lt, is_eq, ordering_reverse, on}
+use Rattle.std.specs.Ordering.{is_lt, is_eq, ordering_reverse}
 use Rattle.std.specs.Cmp.{IsTotalOrder, tied_itself}
 use Rattle.std.proofs.lemmas.Cmp.{on_total, nat_list_cmp_total}
 use Rattle.std.proofs.lemmas.List.{take-append-drop}
@@ -15,11 +14,11 @@ use Rattle.std.proofs.lemmas.Option.{none-some, same_Some, slice_get_read}
 use Rattle.value_model.specs.Val.{Entries, object, fields_of, entries_of}
 use Rattle.value_model.specs.ValLaws.{entries_of-fields_of}
 use Rattle.value_model.specs.TruthLaws.{both_true, equal_of}
-use Rattle.value_model.specs.Order.{text_cmp, compare, fields_cmp}
+use Rattle.value_model.specs.Order.{text_cmp}
 use Rattle.value_model.specs.OrderLaws.{fields_ties, compare_itself}
 use Rattle.ejson_value.specs.declared.sort.SortKey.{SortKey}
 use Rattle.sort_window.specs.declared.rows.Row.{Row}
-use Rattle.sort_window.specs.Sorting.{id_doc_cmp, docs_cmp}
+use Rattle.sort_window.specs.Sorting.{id_doc_cmp}
 use Rattle.sort_window.specs.SortingLaws.{pair_total, tie_ids}
 use Rattle.sort_window.specs.Shown.{RowMap}
 use Rattle.sort_window.specs.Inside.{row_cmp, stands_before, has_id, is_doc, is_row, AreInOrder, HasOneMore}

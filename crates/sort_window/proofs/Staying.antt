@@ -1,5 +1,5 @@
 -- What changes of distinct ids leave, and what readers see of rows that stay.
-use Rattle.std.proofs.Common.{◌≡◌, ℕ, zero, suc, ◌+◌, ◌-◌, ◌<◌, ◌≤◌, Bool, true, false, cond, List, [], ◌∷◌, length, get_or, take, drop, map, option_map, Option, None, Some, refl, ap, sym, subst, ◌∙◌, arith, inl, inr}
+use Rattle.std.proofs.Common.{◌≡◌, ℕ, zero, suc, ◌+◌, ◌<◌, ◌≤◌, Bool, true, false, cond, List, [], ◌∷◌, length, get_or, take, drop, map, Option, None, Some, refl, ap, sym, subst, ◌∙◌, arith, inl, inr}
 use Rattle.std.specs.Prelude.{count_by, ◌⊎◌, ◌||◌, nat_lt, if◌then◌else◌, Result, Ok, Err, IfOk}
 use Rattle.std.specs.List.{AllByRecursion, IsDistinct, list_any}
 use Rattle.std.specs.Ordering.{eq_by_cmp}
@@ -16,25 +16,24 @@ use Rattle.value_model.specs.Order.{text_cmp}
 use Rattle.ejson_value.specs.Key.{name_order}
 use Rattle.ejson_value.specs.declared.sort.SortKey.{SortKey}
 use Rattle.sort_window.specs.declared.rows.Row.{Row}
-use Rattle.sort_window.specs.declared.rows.RowNews.{RowNews}
-use Rattle.sort_window.specs.Shown.{RowMap, shown_at}
+use Rattle.sort_window.specs.Shown.{RowMap, NewsMap, shown_at}
 use Rattle.sort_window.specs.Inside.{stands_before, is_row, AreInOrder, AreSameRows}
-use Rattle.sort_window.specs.Drafts.{befores, afters, Stand, End, AreRowsOf}
-use Rattle.sort_window.specs.Telling.{ToldMap, seen, IsRight, IsQuiet, AreTold, RowsAreTold}
-use Rattle.sort_window.specs.Windows.{change_to}
+use Rattle.sort_window.specs.Drafts.{befores, afters, Stand, End, AreRowsOf, AreDrafted}
+use Rattle.sort_window.specs.Telling.{IsDraftOf, ToldMap, IsRight, IsQuiet, AreTold, RowsAreTold}
+use Rattle.sort_window.specs.Windows.{WindowState, change_to}
 use Rattle.sort_window.proofs.Ordered.{count-cons, count_yes, count_no}
 use Rattle.sort_window.proofs.Counting.{one, passing}
 use Rattle.sort_window.proofs.Placed.{row_is, row_itself, row_place}
 use Rattle.sort_window.proofs.Inside.{is_there}
 use Rattle.sort_window.proofs.Crossing.{count_keyed, count_changed, far_from_limit}
-use Rattle.sort_window.proofs.Drafting.{apart, other_way, neither}
+use Rattle.sort_window.proofs.Drafting.{apart, other_way, neither, distinct_ids}
 use Rattle.sort_window.proofs.Telling.{shown_is}
 
-abbrev pub all_changes : RowMap → List RowNews → List (Change (List ℕ) Row)
-all_changes rows news = map (λ (one : RowNews). change_to rows one) news
+abbrev pub all_changes : RowMap → NewsMap → List (Change (List ℕ) Row)
+all_changes rows news = map (λ (one : List ℕ × Option Row). change_to rows one) news
 
-abbrev ids_of : List RowNews → List (List ℕ)
-ids_of news = map (λ (one : RowNews). one.id) news
+abbrev ids_of : NewsMap → List (List ℕ)
+ids_of news = map (λ (one : List ℕ × Option Row). one.0) news
 
 no_tie : (a b : List ℕ) → is_name a b ≡ false → eq_by_cmp text_cmp a b ≡ false
 no_tie a b e = apart b a (other_way a b e)
@@ -48,44 +47,57 @@ unnamed rows (c ∷ changes) id s none =
     ∙ at-set name_order rows c.key c.after id s
     ∙ ap (λ b. cond b c.after (at text_cmp rows id)) (no_tie id c.key both.0)
 
-pub kept : (m rows : RowMap) (news : List RowNews) (id : List ℕ) → IsSorted text_cmp m → AllByRecursion (λ y. is_name id y ≡ false) (ids_of news) → at text_cmp (changed text_cmp m (all_changes rows news)) id ≡ at text_cmp m id
+pub kept : (m rows : RowMap) (news : NewsMap) (id : List ℕ) → IsSorted text_cmp m → AllByRecursion (λ y. is_name id y ≡ false) (ids_of news) → at text_cmp (changed text_cmp m (all_changes rows news)) id ≡ at text_cmp m id
 kept m rows [] id s others = refl
 kept m rows (x ∷ news) id s others =
-    kept (set text_cmp m x.id x.row) rows news id (sorted-set name_order m x.id x.row s) others.1
-    ∙ at-set name_order m x.id x.row id s
-    ∙ ap (λ b. cond b x.row (at text_cmp m id)) (no_tie id x.id others.0)
+    kept (set text_cmp m x.0 x.1) rows news id (sorted-set name_order m x.0 x.1 s) others.1
+    ∙ at-set name_order m x.0 x.1 id s
+    ∙ ap (λ b. cond b x.1 (at text_cmp m id)) (no_tie id x.0 others.0)
 
-pub stand_all : (rows : RowMap) (news : List RowNews) → Stand rows (all_changes rows news)
+pub stand_all : (rows : RowMap) (news : NewsMap) → Stand rows (all_changes rows news)
 stand_all rows [] = tt
 stand_all rows (x ∷ news) = (refl, stand_all rows news)
 
-pub same_all : (rows : RowMap) (news : List RowNews) → AllByRecursion (λ id. at text_cmp rows id ≡ at text_cmp rows id) (ids_of news)
+pub same_all : (rows : RowMap) (news : NewsMap) → AllByRecursion (λ id. at text_cmp rows id ≡ at text_cmp rows id) (ids_of news)
 same_all rows [] = tt
 same_all rows (x ∷ news) = (refl, same_all rows news)
 
-still : (rows m : RowMap) (x : RowNews) (news : List RowNews) → IsSorted text_cmp m → AllByRecursion (λ y. is_name x.id y ≡ false) (ids_of news) → AllByRecursion (λ id. at text_cmp m id ≡ at text_cmp rows id) (ids_of news) → AllByRecursion (λ id. at text_cmp (set text_cmp m x.id x.row) id ≡ at text_cmp rows id) (ids_of news)
+still : (rows m : RowMap) (x : List ℕ × Option Row) (news : NewsMap) → IsSorted text_cmp m → AllByRecursion (λ y. is_name x.0 y ≡ false) (ids_of news) → AllByRecursion (λ id. at text_cmp m id ≡ at text_cmp rows id) (ids_of news) → AllByRecursion (λ id. at text_cmp (set text_cmp m x.0 x.1) id ≡ at text_cmp rows id) (ids_of news)
 still rows m x [] s others same = tt
 still rows m x (y ∷ news) s others same =
-    (at-set name_order m x.id x.row y.id s ∙ ap (λ b. cond b x.row (at text_cmp m y.id)) (no_tie y.id x.id (other_way x.id y.id others.0)) ∙ same.0, still rows m x news s others.1 same.1)
+    (at-set name_order m x.0 x.1 y.0 s ∙ ap (λ b. cond b x.1 (at text_cmp m y.0)) (no_tie y.0 x.0 (other_way x.0 y.0 others.0)) ∙ same.0, still rows m x news s others.1 same.1)
 
-pub fits : (rows m : RowMap) (news : List RowNews) → IsSorted text_cmp m → IsDistinct is_name (ids_of news) → AllByRecursion (λ id. at text_cmp m id ≡ at text_cmp rows id) (ids_of news) → Fit text_cmp m (all_changes rows news)
+pub fits : (rows m : RowMap) (news : NewsMap) → IsSorted text_cmp m → IsDistinct is_name (ids_of news) → AllByRecursion (λ id. at text_cmp m id ≡ at text_cmp rows id) (ids_of news) → Fit text_cmp m (all_changes rows news)
 unfolding IsDistinct
 fits rows m [] s d same = tt
-fits rows m (x ∷ news) s d same = (same.0, fits rows (set text_cmp m x.id x.row) news (sorted-set name_order m x.id x.row s) d.1 (still rows m x news s d.0 same.1))
+fits rows m (x ∷ news) s d same = (same.0, fits rows (set text_cmp m x.0 x.1) news (sorted-set name_order m x.0 x.1 s) d.1 (still rows m x news s d.0 same.1))
 
-pub ends : (rows m : RowMap) (news : List RowNews) → IsSorted text_cmp m → IsDistinct is_name (ids_of news) → End (changed text_cmp m (all_changes rows news)) (all_changes rows news)
+pub ends : (rows m : RowMap) (news : NewsMap) → IsSorted text_cmp m → IsDistinct is_name (ids_of news) → End (changed text_cmp m (all_changes rows news)) (all_changes rows news)
 unfolding IsDistinct
 ends rows m [] s d = tt
 ends rows m (x ∷ news) s d =
-    let next = set text_cmp m x.id x.row in
-    let t = sorted-set name_order m x.id x.row s in (
-      kept next rows news x.id t d.0 ∙ at-set name_order m x.id x.row x.id s ∙ ap (λ b. cond b x.row (at text_cmp m x.id)) (eq_by_cmp-self name_order x.id),
+    let next = set text_cmp m x.0 x.1 in
+    let t = sorted-set name_order m x.0 x.1 s in (
+      kept next rows news x.0 t d.0 ∙ at-set name_order m x.0 x.1 x.0 s ∙ ap (λ b. cond b x.1 (at text_cmp m x.0)) (eq_by_cmp-self name_order x.0),
       ends rows next news t d.1,
     )
 
-pub says_of : (rows : RowMap) (news : List RowNews) → map {B = List ℕ × Option Row} (λ (c : Change (List ℕ) Row). (c.key, c.after)) (all_changes rows news) ≡ map {B = List ℕ × Option Row} (λ (one : RowNews). (one.id, one.row)) news
+pub says_of : (rows : RowMap) (news : NewsMap) → map {B = List ℕ × Option Row} (λ (c : Change (List ℕ) Row). (c.key, c.after)) (all_changes rows news) ≡ news
 says_of rows [] = refl
-says_of rows (x ∷ news) = ap (λ rest. (x.id, x.row) ∷ rest) (says_of rows news)
+says_of rows (x ∷ news) = ap (λ rest. x ∷ rest) (says_of rows news)
+
+-- the changes of news are a draft
+pub draft_of : (window : WindowState) (news : NewsMap) (changes : List (Change (List ℕ) Row)) (going coming : RowMap) → IsSorted text_cmp window.rows → IsSorted text_cmp news → changes ≡ all_changes window.rows news →
+    AreDrafted window.sort changes going coming → IsDraftOf window changes going coming
+draft_of window news changes going coming s t are drafted =
+    let rows = window.rows in
+    let d = distinct_ids news t in
+    record {
+      fit = subst (λ (cs : List (Change (List ℕ) Row)). Fit text_cmp rows cs) (sym are) (fits rows rows news s d (same_all rows news));
+      drafted = drafted;
+      stand = subst (λ (cs : List (Change (List ℕ) Row)). Stand rows cs) (sym are) (stand_all rows news);
+      end = subst (λ (cs : List (Change (List ℕ) Row)). End (changed text_cmp rows cs) cs) (sym are) (ends rows rows news s d);
+    }
 
 -- a row of the list stands at its id
 in_map : (rows : RowMap) (row : List ℕ × Row) → IsSorted text_cmp rows → 0 < count_by (is_row row) rows → at text_cmp rows row.0 ≡ Some row.1

@@ -1,6 +1,6 @@
 -- Telling of one id keeps what was told right.
-use Rattle.std.proofs.Common.{◌≡◌, ℕ, zero, suc, ◌+◌, ◌<◌, length, get_or, take, option_map, arith, Bool, true, false, cond, List, [], ◌∷◌, Option, None, Some, refl, ap, sym, subst, ◌∙◌, inl, inr}
-use Rattle.std.specs.Prelude.{Result, Ok, Err, OnOk, ◌⊎◌, count_by, option_and_then, if◌then◌else◌, nat_lt}
+use Rattle.std.proofs.Common.{◌≡◌, ℕ, zero, suc, ◌+◌, ◌<◌, length, get_or, take, option_map, arith, true, false, cond, List, [], ◌∷◌, Option, None, Some, refl, ap, sym, subst, ◌∙◌, inl, inr}
+use Rattle.std.specs.Prelude.{count_by, option_and_then, if◌then◌else◌, nat_lt}
 use Rattle.std.specs.List.{AllByRecursion}
 use Rattle.std.specs.Ordering.{eq_by_cmp}
 use Rattle.std.proofs.lemmas.Option.{none-some, same_Some}
@@ -92,11 +92,6 @@ gone_told before after told id (c ∷ changes) all some =
 pub shown_is : (sort : List SortKey) (limit : ℕ) (rows : RowMap) (id : List ℕ) (w : Option Row) → at text_cmp rows id ≡ w → shown_at sort limit rows id ≡ seen sort limit rows (option_map (λ row. (id, row)) w)
 shown_is sort limit rows id None e = ap (option_and_then (λ (row : Row). if nat_lt (rows_before sort rows id row.whole) limit then Some row.projected else None)) e
 shown_is sort limit rows id (Some row) e = ap (option_and_then (λ (row : Row). if nat_lt (rows_before sort rows id row.whole) limit then Some row.projected else None)) e
-
--- from what holds where the call succeeds
-pub then_ok : {T E : Type 0} (r : Result T E) {P Q : Type 0} → (P → Q) → OnOk r P → OnOk r Q
-then_ok (Ok t) f p = f p
-then_ok (Err e) f p = tt
 
 -- told of, by what readers see there
 pub told_with : (old new : ToldMap) (id key : List ℕ) (b before a after : Option Entries) → id ≡ key → b ≡ before → a ≡ after → IsOneTold old id b a new → IsOneTold old key before after new

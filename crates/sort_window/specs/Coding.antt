@@ -6,7 +6,7 @@ use Rattle.value_model.specs.Val.{Entries}
 use Rattle.value_model.specs.Coding.{entries_code}
 use Rattle.ejson_value.specs.declared.sort.SortKey.{SortKey}
 use Rattle.sort_window.specs.declared.rows.Row.{Row}
-use Rattle.sort_window.specs.Shown.{RowMap}
+use Rattle.sort_window.specs.Shown.{RowMap, NewsMap}
 use Rattle.sort_window.specs.Windows.{WindowState, MovesState}
 
 abbrev pub id_code : Coded (List ℕ)
@@ -17,6 +17,9 @@ row_code = code_by (Entries × Entries) (coded× entries_code entries_code) (λ 
 
 abbrev pub held_code : Coded (List ℕ × Row)
 held_code = coded× id_code row_code
+
+abbrev pub news_code : Coded NewsMap
+news_code = coded_list (coded× id_code (coded_option row_code))
 
 abbrev pub change_code : Coded (Change (List ℕ) Row)
 change_code =

@@ -11,6 +11,10 @@ use Rattle.sort_window.specs.Sorting.{is_before}
 abbrev pub RowMap : Type 0
 RowMap = List (List ℕ × Row)
 
+-- what there is at some ids now, by rising id: a row, or none
+abbrev pub NewsMap : Type 0
+NewsMap = List (List ℕ × Option Row)
+
 -- how many rows stand before this document
 abbrev pub rows_before : List SortKey → RowMap → List ℕ → Entries → ℕ
 rows_before sort rows id doc = count_by (λ row. is_before sort row.0 row.1.whole id doc) rows

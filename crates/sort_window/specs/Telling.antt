@@ -2,13 +2,22 @@
 use Rattle.std.specs.Prelude.{◌≡◌, ℕ, List, Option, None, Some, option_and_then, if◌then◌else◌, nat_lt, count_by, ◌⊎◌}
 use Rattle.std.specs.List.{AllByRecursion}
 use Rattle.map_model.specs.Maps.{at, set}
-use Rattle.map_model.specs.Changes.{Change}
+use Rattle.map_model.specs.Changes.{Change, changed, Fit}
 use Rattle.value_model.specs.Val.{Entries}
 use Rattle.value_model.specs.Order.{text_cmp}
 use Rattle.ejson_value.specs.declared.sort.SortKey.{SortKey}
 use Rattle.sort_window.specs.declared.rows.Row.{Row}
 use Rattle.sort_window.specs.Shown.{RowMap}
 use Rattle.sort_window.specs.Inside.{stands_before}
+use Rattle.sort_window.specs.Drafts.{Stand, End, AreDrafted}
+use Rattle.sort_window.specs.Windows.{WindowState}
+
+-- The changes can be made of the window's rows, and each begins and ends with what stands at its id then. The rows that go and come are theirs.
+pub record IsDraftOf (window : WindowState) (changes : List (Change (List ℕ) Row)) (going coming : RowMap) : Type 0 where
+  pub fit : Fit text_cmp window.rows changes
+  pub drafted : AreDrafted window.sort changes going coming
+  pub stand : Stand window.rows changes
+  pub end : End (changed text_cmp window.rows changes) changes
 
 -- what is told so far
 abbrev pub ToldMap : Type 0

@@ -6,8 +6,7 @@ use Rattle.value_model.specs.Val.{Entries}
 use Rattle.value_model.specs.Order.{text_cmp}
 use Rattle.ejson_value.specs.declared.sort.SortKey.{SortKey}
 use Rattle.sort_window.specs.declared.rows.Row.{Row}
-use Rattle.sort_window.specs.declared.rows.RowNews.{RowNews}
-use Rattle.sort_window.specs.Shown.{RowMap, shown_at, IsTold}
+use Rattle.sort_window.specs.Shown.{RowMap, NewsMap, shown_at, IsTold}
 
 -- all rows that match, of which the first ones are shown
 pub record WindowState : Type 0 where
@@ -29,8 +28,8 @@ abbrev pub after : WindowState → List (Change (List ℕ) Row) → List ℕ →
 after window changes id = shown_at window.sort window.limit (changed text_cmp window.rows changes) id
 
 -- what becomes of the row at the id that there is news of
-abbrev pub change_to : RowMap → RowNews → Change (List ℕ) Row
-change_to rows news = record { key = news.id; before = at text_cmp rows news.id; after = news.row }
+abbrev pub change_to : RowMap → List ℕ × Option Row → Change (List ℕ) Row
+change_to rows news = record { key = news.0; before = at text_cmp rows news.0; after = news.1 }
 
 -- the rows once the moves are carried out
 abbrev pub rows_after : WindowState → MovesState → RowMap
@@ -42,7 +41,7 @@ pub record AreMovesOf (window : WindowState) (moves : MovesState) : Type 0 where
   pub room : length window.rows + length moves.changes ≤ moves.room
 
 -- the moves say what there is at these ids now, and what readers of the window see of it
-pub record IsPlan (window : WindowState) (news : List RowNews) (moves : MovesState) : Type 0 where
-  pub says : map {B = List ℕ × Option Row} (λ change. (change.key, change.after)) moves.changes ≡ map {B = List ℕ × Option Row} (λ one. (one.id, one.row)) news
+pub record IsPlan (window : WindowState) (news : NewsMap) (moves : MovesState) : Type 0 where
+  pub says : map {B = List ℕ × Option Row} (λ change. (change.key, change.after)) moves.changes ≡ news
   pub carries : AreMovesOf window moves
   pub tells : IsTold (shown_at window.sort window.limit window.rows) (shown_at window.sort window.limit (rows_after window moves)) moves.told

@@ -7,7 +7,7 @@ ghost use Rattle.sort_window.specs.Inside.{IsInside};
 
 use crate::held::Held;
 use crate::lists::{put_by_id, put_in_order, take_by_id, take_in_order};
-use crate::rows::{Row, RowNews};
+use crate::rows::Row;
 use ejson_value::{Mem, SortKeys, Text};
 use std::alloc::Global;
 use std::marker::Model;
@@ -83,15 +83,20 @@ fn share(held: Option<&Held>) -> Result<Option<Held>, Mem>
 
 impl RowChange {
     /// The change from this row, which has the id, to what there is there now.
-    pub(crate) fn of(alloc: Global, news: &RowNews, before: Option<&Held>) -> Result<RowChange, Mem>
-        requires { IfSome before (λ held. held.now.0 ≡ news.now.id) }
+    pub(crate) fn of(
+        alloc: Global,
+        id: &Text,
+        row: &Option<Row>,
+        before: Option<&Held>,
+    ) -> Result<RowChange, Mem>
+        requires { IfSome before (λ held. held.now.0 ≡ id.now) }
         ensures { IfOk result (λ change. change ≡
-            record { key = news.now.id; before = option_map (λ held. held.now.1) before.entry; after = news.now.row }) }
+            record { key = id.now; before = option_map (λ held. held.now.1) before.entry; after = row.now }) }
     {
-        let id = news.id.copy()?;
+        let id = id.copy()?;
         let before = share(before)?;
         Ok(RowChange {
-            after: twice(alloc, &id, &news.row)?,
+            after: twice(alloc, &id, row)?,
             id,
             before,
         })

@@ -10,6 +10,6 @@ mod sorting;
 mod told;
 mod window;
 
-pub use rows::{Row, RowNews, Rows, Shown, ShownList};
+pub use rows::{Row, Rows, Shown, ShownList};
 pub use sorting::{before, before_is_a_strict_total_order};
 pub use window::{Moves, Window};

@@ -2,33 +2,14 @@
 ghost use Rattle.std.specs.Prelude.{◌≡◌, true, false, option_map, map, IfOk, OnOk};
 ghost use Rattle.map_model.specs.Maps.{IsSorted};
 ghost use Rattle.value_model.specs.Order.{text_cmp};
-ghost use Rattle.sort_window.specs.Inside.{is_doc};
 ghost use Rattle.sort_window.specs.Telling.{IsOneTold};
 
 use crate::rows::{Shown, ShownList};
-use ejson_value::{Doc, ListOf, Mem, Text, compare};
+use ejson_value::{Doc, ListOf, Mem, Text, same_documents};
 use std::alloc::Global;
 use std::collections::BTreeMap;
 
 pub(crate) type Told = BTreeMap<Text, Option<Doc>>;
-
-fn same_docs(a: &Doc, b: &Doc) -> bool
-    ensures { result ≡ is_doc a.now b.now }
-{
-    let mut others = b.iter();
-    for (name, value) in a.iter() {
-        match others.next() {
-            None => return false,
-            Some((other_name, other)) => {
-                let order = name.cmp(other_name).then(compare(value, other));
-                if order.is_ne() {
-                    return false;
-                }
-            }
-        }
-    }
-    others.next().is_none()
-}
 
 fn same_shown(before: Option<&Doc>, after: Option<&Doc>) -> bool
     ensures same { result ≡ true → option_map (λ doc. doc.now) before.entry ≡ option_map (λ doc. doc.now) after.entry }
@@ -36,7 +17,7 @@ fn same_shown(before: Option<&Doc>, after: Option<&Doc>) -> bool
 {
     match (before, after) {
         (None, None) => true,
-        (Some(before), Some(after)) => same_docs(before, after),
+        (Some(before), Some(after)) => same_documents(before, after),
         _ => false,
     }
 }

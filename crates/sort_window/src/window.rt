@@ -1,24 +1,24 @@
 //! Windows and their moves.
 ghost use Rattle.std.specs.Prelude.{◌≡◌, ℕ, List, Option, ◌∷◌, ◌++◌, false, OnOk, ◌+◌, ◌-◌, ◌<◌, ◌≤◌, [], length, map, count_by, nat_lt, option_map, vec_len, vec_capacity, Some, None, IfOk, if◌then◌else◌};
-ghost use Rattle.std.specs.List.{list_any, IsDistinct};
+ghost use Rattle.std.specs.List.{list_any};
 ghost use Rattle.value_model.specs.Size.{is_name};
 ghost use Rattle.map_model.specs.Maps.{at};
 ghost use Rattle.map_model.specs.Changes.{Change, changed, Fit};
 ghost use Rattle.sort_window.specs.declared.rows.Row.{Row};
 ghost use Rattle.value_model.specs.Order.{text_cmp};
 ghost use Rattle.sort_window.specs.Inside.{stands_before, AreInOrder};
-ghost use Rattle.sort_window.specs.Drafts.{AreRowsOf, Stand, End, AreDrafted};
+ghost use Rattle.sort_window.specs.Drafts.{AreRowsOf, AreDrafted};
 ghost use Rattle.sort_window.specs.Shown.{IsTold};
-ghost use Rattle.sort_window.specs.Telling.{seen, IsQuiet, IsToldMore, AreTold, RowsAreTold};
+ghost use Rattle.sort_window.specs.Telling.{IsDraftOf, seen, IsQuiet, IsToldMore, AreTold, RowsAreTold};
 ghost use Rattle.sort_window.specs.Windows.{before, after, change_to, rows_after, AreMovesOf, IsPlan};
 
 use crate::changes::{RowChange, carry_all};
 use crate::draft::Draft;
 use crate::held::Held;
 use crate::lists::{contains, find, place};
-use crate::rows::{RowNews, Rows, ShownList};
+use crate::rows::{Row, Rows, ShownList};
 use crate::told::{Told, listed, tell};
-use ejson_value::{Doc, Mem, SortKeys};
+use ejson_value::{Doc, Mem, SortKeys, Text};
 use std::alloc::Global;
 use std::collections::BTreeMap;
 use std::marker::Model;
@@ -113,31 +113,30 @@ impl Window {
     }
 
     // What becomes of the row at one id.
-    fn change(&self, news: &RowNews) -> Result<RowChange, Mem>
-        ensures { IfOk result (λ change. change ≡ change_to self.now.rows news.now) }
+    fn change(&self, id: &Text, row: &Option<Row>) -> Result<RowChange, Mem>
+        ensures { IfOk result (λ change. change ≡ change_to self.now.rows (id.now, row.now)) }
     {
-        RowChange::of(self.alloc, news, find(self.by_id.as_slice(), &news.id))
+        RowChange::of(self.alloc, id, row, find(self.by_id.as_slice(), id))
     }
 
     // Drafts what becomes of the row at one more id.
-    fn draft_one(&self, draft: &mut Draft, news: &RowNews) -> Result<(), Mem>
+    fn draft_one(&self, draft: &mut Draft, id: &Text, row: &Option<Row>) -> Result<(), Mem>
         requires drafted { AreDrafted self.now.sort draft.old.changes.items draft.old.going.items draft.old.coming.items }
-        requires new { list_any (λ other. is_name news.now.id other.key) draft.old.changes.items ≡ false }
-        ensures changes { OnOk result (draft.new.changes.items ≡ draft.old.changes.items ++ (change_to self.now.rows news.now) ∷ []) }
+        requires new { list_any (λ other. is_name id.now other.key) draft.old.changes.items ≡ false }
+        ensures changes { OnOk result (draft.new.changes.items ≡ draft.old.changes.items ++ (change_to self.now.rows (id.now, row.now)) ∷ []) }
         ensures drafted { OnOk result (AreDrafted self.now.sort draft.new.changes.items draft.new.going.items draft.new.coming.items) }
     {
-        let change = self.change(news)?;
+        let change = self.change(id, row)?;
         draft.add(&self.sort, change)
     }
 
-    fn draft(&self, news: &[RowNews]) -> Result<Draft, Mem>
-        requires { IsDistinct is_name (map (λ one. one.id) news.now) }
+    fn draft(&self, news: &Rows) -> Result<Draft, Mem>
         ensures changes { IfOk result (λ draft. draft.changes.items ≡ map {B = Change (List ℕ) Row} (λ one. change_to self.now.rows one) news.now) }
-        ensures drafted { IfOk result (λ draft. AreDrafted self.now.sort draft.changes.items draft.going.items draft.coming.items) }
+        ensures drafted { IfOk result (λ draft. IsDraftOf self.now draft.changes.items draft.going.items draft.coming.items) }
     {
         let mut draft = Draft::new(self.alloc);
-        for one in news {
-            self.draft_one(&mut draft, one)?;
+        for (id, row) in news.iter() {
+            self.draft_one(&mut draft, id, row)?;
         }
         Ok(draft)
     }
@@ -152,8 +151,7 @@ impl Window {
 
     // How many rows will stand before this one.
     fn rank_after(&self, draft: &Draft, held: &Held) -> usize
-        requires fit { Fit text_cmp self.now.rows draft.now.changes.items }
-        requires drafted { AreDrafted self.now.sort draft.now.changes.items draft.now.going.items draft.now.coming.items }
+        requires { IsDraftOf self.now draft.now.changes.items draft.now.going.items draft.now.coming.items }
         ensures { result ≡ count_by (stands_before self.now.sort held.now.0 held.now.1.whole) (changed text_cmp self.now.rows draft.now.changes.items) }
     {
         let stand = self.rank(self.in_order.as_slice(), held);
@@ -185,8 +183,7 @@ impl Window {
 
     // The row as readers will see it.
     fn seen_after<'a>(&self, draft: &Draft, held: Option<&'a Held>) -> Option<&'a Doc>
-        requires fit { Fit text_cmp self.now.rows draft.now.changes.items }
-        requires drafted { AreDrafted self.now.sort draft.now.changes.items draft.now.going.items draft.now.coming.items }
+        requires { IsDraftOf self.now draft.now.changes.items draft.now.going.items draft.now.coming.items }
         ensures { option_map (λ doc. doc.now) result ≡
             seen self.now.sort self.now.limit (changed text_cmp self.now.rows draft.now.changes.items) (option_map (λ held. held.now) held.entry) }
     {
@@ -198,8 +195,7 @@ impl Window {
 
     // Tells of the id of a change.
     fn tell_change(&self, told: &mut Told, draft: &Draft, change: &RowChange) -> Result<(), Mem>
-        requires fit { Fit text_cmp self.now.rows draft.now.changes.items }
-        requires drafted { AreDrafted self.now.sort draft.now.changes.items draft.now.going.items draft.now.coming.items }
+        requires drafted { IsDraftOf self.now draft.now.changes.items draft.now.going.items draft.now.coming.items }
         requires stands { at text_cmp self.now.rows change.now.key ≡ change.now.before }
         requires ends { at text_cmp (changed text_cmp self.now.rows draft.now.changes.items) change.now.key ≡ change.now.after }
         ensures more { OnOk result (IsToldMore (before self.now) (after self.now draft.now.changes.items) told.old.entries told.new.entries) }
@@ -214,10 +210,7 @@ impl Window {
     }
 
     fn tell_changes(&self, told: &mut Told, draft: &Draft) -> Result<(), Mem>
-        requires fit { Fit text_cmp self.now.rows draft.now.changes.items }
-        requires drafted { AreDrafted self.now.sort draft.now.changes.items draft.now.going.items draft.now.coming.items }
-        requires stand { Stand self.now.rows draft.now.changes.items }
-        requires end { End (changed text_cmp self.now.rows draft.now.changes.items) draft.now.changes.items }
+        requires { IsDraftOf self.now draft.now.changes.items draft.now.going.items draft.now.coming.items }
         ensures more { OnOk result (IsToldMore (before self.now) (after self.now draft.now.changes.items) told.old.entries told.new.entries) }
         ensures all { OnOk result (AreTold (before self.now) (after self.now draft.now.changes.items) told.new.entries draft.now.changes.items) }
     {
@@ -229,8 +222,7 @@ impl Window {
 
     // Tells of a row that stays.
     fn tell_held(&self, told: &mut Told, draft: &Draft, held: &Held) -> Result<(), Mem>
-        requires fit { Fit text_cmp self.now.rows draft.now.changes.items }
-        requires drafted { AreDrafted self.now.sort draft.now.changes.items draft.now.going.items draft.now.coming.items }
+        requires drafted { IsDraftOf self.now draft.now.changes.items draft.now.going.items draft.now.coming.items }
         requires stands { at text_cmp self.now.rows held.now.0 ≡ Some held.now.1 }
         requires stays { at text_cmp (changed text_cmp self.now.rows draft.now.changes.items) held.now.0 ≡ Some held.now.1 }
         ensures more { OnOk result (IsToldMore (before self.now) (after self.now draft.now.changes.items) told.old.entries told.new.entries) }
@@ -246,9 +238,7 @@ impl Window {
 
     // Tells of a row, whose id is told of already if it is that of a change.
     fn tell_row(&self, told: &mut Told, draft: &Draft, held: &Held) -> Result<(), Mem>
-        requires fit { Fit text_cmp self.now.rows draft.now.changes.items }
-        requires drafted { AreDrafted self.now.sort draft.now.changes.items draft.now.going.items draft.now.coming.items }
-        requires stand { Stand self.now.rows draft.now.changes.items }
+        requires drafted { IsDraftOf self.now draft.now.changes.items draft.now.going.items draft.now.coming.items }
         requires stands { at text_cmp self.now.rows held.now.0 ≡ Some held.now.1 }
         requires all { AreTold (before self.now) (after self.now draft.now.changes.items) told.old.entries draft.now.changes.items }
         ensures more { OnOk result (IsToldMore (before self.now) (after self.now draft.now.changes.items) told.old.entries told.new.entries) }
@@ -261,9 +251,7 @@ impl Window {
     }
 
     fn tell_rows(&self, told: &mut Told, draft: &Draft, rows: &[Held]) -> Result<(), Mem>
-        requires fit { Fit text_cmp self.now.rows draft.now.changes.items }
-        requires drafted { AreDrafted self.now.sort draft.now.changes.items draft.now.going.items draft.now.coming.items }
-        requires stand { Stand self.now.rows draft.now.changes.items }
+        requires drafted { IsDraftOf self.now draft.now.changes.items draft.now.going.items draft.now.coming.items }
         requires rows { AreRowsOf self.now.rows rows.now }
         requires all { AreTold (before self.now) (after self.now draft.now.changes.items) told.old.entries draft.now.changes.items }
         ensures more { OnOk result (IsToldMore (before self.now) (after self.now draft.now.changes.items) told.old.entries told.new.entries) }
@@ -277,9 +265,7 @@ impl Window {
 
     // A row that stays comes into view or leaves it only where it stands this near to the limit.
     fn tell_crossing(&self, told: &mut Told, draft: &Draft) -> Result<(), Mem>
-        requires fit { Fit text_cmp self.now.rows draft.now.changes.items }
-        requires drafted { AreDrafted self.now.sort draft.now.changes.items draft.now.going.items draft.now.coming.items }
-        requires stand { Stand self.now.rows draft.now.changes.items }
+        requires drafted { IsDraftOf self.now draft.now.changes.items draft.now.going.items draft.now.coming.items }
         requires all { AreTold (before self.now) (after self.now draft.now.changes.items) told.old.entries draft.now.changes.items }
         ensures more { OnOk result (IsToldMore (before self.now) (after self.now draft.now.changes.items) told.old.entries told.new.entries) }
         ensures rows { OnOk result ((id : List ℕ) (row : Row) → at text_cmp self.now.rows id ≡ Some row → at text_cmp (changed text_cmp self.now.rows draft.now.changes.items) id ≡ Some row →
@@ -294,10 +280,7 @@ impl Window {
 
     // What readers are told once the rows have changed.
     fn told(&self, draft: &Draft) -> Result<ShownList, Mem>
-        requires fit { Fit text_cmp self.now.rows draft.now.changes.items }
-        requires drafted { AreDrafted self.now.sort draft.now.changes.items draft.now.going.items draft.now.coming.items }
-        requires stand { Stand self.now.rows draft.now.changes.items }
-        requires end { End (changed text_cmp self.now.rows draft.now.changes.items) draft.now.changes.items }
+        requires { IsDraftOf self.now draft.now.changes.items draft.now.going.items draft.now.coming.items }
         ensures { IfOk result (λ shown. IsTold (before self.now) (after self.now draft.now.changes.items) (map (λ one. (one.id, one.doc)) shown)) }
     {
         let mut told = BTreeMap::new(self.alloc);
@@ -320,11 +303,9 @@ impl Window {
     /// Plans what the rows become where this is what there is at these ids now. The window stays as
     /// it is.
     pub fn plan(&self, news: &Rows) -> Result<Moves, Mem>
-        requires { IsDistinct is_name (map (λ one. one.id) news.now) }
         ensures { IfOk result (λ moves. IsPlan self.now news.now moves) }
     {
-        let _ = &self.limit;
-        let draft = self.draft(news.as_slice())?;
+        let draft = self.draft(news)?;
         let shown = self.told(&draft)?;
         let count = draft.changes.len();
         let by_id = self.room(count)?;

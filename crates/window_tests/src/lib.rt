@@ -5,7 +5,7 @@
 mod tests {
     use ejson_codec::parse;
     use ejson_value::{Doc, ListOf, Path, SortKey, SortKeys, Text, Value};
-    use sort_window::before;
+    use sort_window::{Row, Rows, ShownList, Window, before};
     use std::alloc::Global;
     use std::test::Fail;
 
@@ -80,6 +80,101 @@ a.b:1 | b {"a":5} | a {} => false
         for row in ROWS.lines() {
             assert!(rt; is_right(rt.alloc(), row)?, "at {row}");
         }
+        Ok(())
+    }
+
+    // Each line: what there is at some ids now, the last where an id stands twice, and what readers of
+    // the first two by falling `n` are told.
+    const NEWS: &str = r#"t1={"n":1} => t1={"n":1}
+t3={"n":3} => t3={"n":3}
+t2={"n":2} => t1=-;t2={"n":2}
+t3=- => t1={"n":1};t3=-
+t0={"n":0} => 
+t1=- => t0={"n":0};t1=-
+t0={"n":9} => t0={"n":9}
+t5={"n":1} => 
+t6={"n":1} => 
+t0=- => t0=-;t5={"n":1}
+t2=- => t2=-;t6={"n":1}
+t5={"n":1} => 
+t5={"n":0} => t5={"n":0}
+t9=- => 
+t7={"n":8};t8={"n":8} => t5=-;t6=-;t7={"n":8};t8={"n":8}
+t8=-;t7=- => t5={"n":0};t6={"n":1};t7=-;t8=-
+t5={"n":7};t5={"n":0} => 
+t5={"n":0};t5={"n":7} => t5={"n":7}
+t4={"n":7} => t4={"n":7};t6=-
+t3={"n":7} => t3={"n":7};t5=-
+"#;
+
+    fn row(alloc: Global, written: &str) -> Result<Option<Row>, Fail> {
+        if written == "-" {
+            return Ok(None);
+        }
+        let whole = document(alloc, written)?;
+        Ok(Some(Row {
+            whole,
+            projected: document(alloc, written)?,
+        }))
+    }
+
+    fn news(alloc: Global, written: &str) -> Result<Rows, Fail> {
+        let mut rows = Rows::new(alloc);
+        for one in written.split(';') {
+            let (id, written) = one.split_once("=").ok_or("no id")?;
+            rows.push(text(alloc, id)?, row(alloc, written)?)?;
+        }
+        Ok(rows)
+    }
+
+    fn written(alloc: Global, doc: &Doc) -> Result<Text, Fail> {
+        let value = Value::Object(doc.copy()?);
+        Ok(ejson_codec::text(alloc, &value)?)
+    }
+
+    fn told(alloc: Global, shown: &ShownList) -> Result<String, Fail> {
+        let mut told = String::new(alloc);
+        for one in shown.as_slice() {
+            if !told.is_empty() {
+                told.push(';')?;
+            }
+            told.push_str(one.id.as_str())?;
+            told.push('=')?;
+            match &one.doc {
+                None => told.push('-')?,
+                Some(doc) => told.push_str(written(alloc, doc)?.as_str())?,
+            }
+        }
+        Ok(told)
+    }
+
+    // Whether readers of the window are told what the line says.
+    fn step(alloc: Global, window: &mut Window, line: &str) -> Result<bool, Fail> {
+        let (written, wanted) = line.split_once(" => ").ok_or("no answer")?;
+        let moves = window.plan(&news(alloc, written)?)?;
+        let is_right = told(alloc, moves.shown())?.as_str() == wanted;
+        window.commit(moves);
+        Ok(is_right)
+    }
+
+    // The first line at which readers are told something else.
+    fn wrong(alloc: Global, window: &mut Window) -> Result<Option<&'static str>, Fail> {
+        for line in NEWS.lines() {
+            if !step(alloc, window, line)? {
+                return Ok(Some(line));
+            }
+        }
+        Ok(None)
+    }
+
+    fn wrong_line(alloc: Global) -> Result<Option<&'static str>, Fail> {
+        let mut window = Window::new(alloc, sort_keys(alloc, "n:-1")?, 2);
+        wrong(alloc, &mut window)
+    }
+
+    #[test]
+    fn windows(rt: HostRuntime) -> Result<(), Fail> {
+        assert_eq!(rt; wrong_line(rt.alloc())?, None);
         Ok(())
     }
 }

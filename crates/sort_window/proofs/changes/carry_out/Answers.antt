@@ -1,4 +1,4 @@
-use Rattle.std.proofs.Common.{◌≡◌, List, ℕ, option_map, ap, sym, ◌∙◌}
+use Rattle.std.proofs.Common.{List, ℕ, option_map, ap, ◌∙◌}
 use Rattle.map_model.specs.Maps.{at, set}
 use Rattle.map_model.specs.Changes.{Change}
 use Rattle.value_model.specs.Order.{text_cmp}

@@ -1,4 +1,4 @@
-use Rattle.std.proofs.Common.{◌≡◌, option_map, ap, sym, ◌∙◌}
+use Rattle.std.proofs.Common.{option_map, ap, sym, ◌∙◌}
 use Rattle.map_model.specs.Maps.{set}
 use Rattle.value_model.specs.Order.{text_cmp}
 use Rattle.sort_window.specs.declared.changes.Both.{Both}

@@ -1,4 +1,4 @@
-use Rattle.std.proofs.Common.{◌≡◌, option_map, ap, ◌∙◌}
+use Rattle.std.proofs.Common.{option_map, ap, ◌∙◌}
 use Rattle.sort_window.specs.declared.held.Held.{Held}
 use Rattle.sort_window.specs.declared.rows.Row.{Row}
 use Rattle.sort_window.proofs.Inside.{none_set}

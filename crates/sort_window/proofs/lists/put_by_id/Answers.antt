@@ -1,4 +1,4 @@
-use Rattle.std.proofs.Common.{if◌then◌else◌, ap, sym, ◌∙◌}
+use Rattle.std.proofs.Common.{if◌then◌else◌, ap, ◌∙◌}
 use Rattle.std.specs.Prelude.{count_by}
 use Rattle.std.specs.List.{insert}
 use Rattle.ejson_value.specs.Key.{name_order}

@@ -1,4 +1,4 @@
-use Rattle.std.proofs.Common.{ap, sym, subst, ◌∙◌}
+use Rattle.std.proofs.Common.{sym, subst, ◌∙◌}
 use Rattle.std.specs.Prelude.{◌≡◌, List, ℕ, Option, count_by, IfSome}
 use Rattle.map_model.specs.Changes.{Change}
 use Rattle.sort_window.specs.declared.rows.Row.{Row}

@@ -1,13 +1,12 @@
-use Rattle.std.proofs.Common.{◌≡◌, ℕ, ◌+◌, ◌-◌, ◌<◌, ◌≤◌, length, take, drop, ap, sym, subst, ◌∙◌, arith}
+use Rattle.std.proofs.lemmas.Result.{on_ok_weaker}
+use Rattle.std.proofs.Common.{◌≡◌, ◌-◌, take, drop, ap, sym, subst, arith}
 use Rattle.map_model.specs.Maps.{IsSorted}
-use Rattle.map_model.specs.Changes.{changed}
 use Rattle.value_model.specs.Order.{text_cmp}
 use Rattle.sort_window.specs.Shown.{RowMap}
 use Rattle.sort_window.specs.Inside.{AreInOrder, AreSameRows}
 use Rattle.sort_window.specs.Drafts.{AreRowsOf}
 use Rattle.sort_window.specs.Telling.{RowsAreTold}
 use Rattle.sort_window.specs.Windows.{WindowState, before, after}
-use Rattle.sort_window.proofs.Telling.{then_ok}
 use Rattle.sort_window.proofs.Staying.{same_are, rows_take, rows_drop, quiet_anywhere}
 use Rattle.sort_window.proofs.window.Window.tell_crossing.Goals as goal
 
@@ -41,8 +40,8 @@ returns-clause-rows c =
     let more = c.saturating_add.ensures in
     let many = c.len.ensures in
     let count = c.len-count.ensures in
-    then_ok c.tell_rows.result (λ told id row there stays.
-    quiet_anywhere self.sort self.limit self.rows changes sorted c.requires.fit in_order start n new order same
+    on_ok_weaker c.tell_rows.result (λ told id row there stays.
+    quiet_anywhere self.sort self.limit self.rows changes sorted c.requires.drafted.fit in_order start n new order same
     (λ i within below. grind (arith, within, below, begins, stops, less, more, many, count))
     (λ i within behind. grind (arith, within, behind, begins, stops, less, more, many, count))
     (subst (λ (xs : RowMap). RowsAreTold (before self) (after self changes) new (take n (drop start xs))) c.deref.ensures.value told)

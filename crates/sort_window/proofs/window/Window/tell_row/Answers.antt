@@ -14,7 +14,7 @@ returns-then-contains-clause-here c =
     let draft = c.args.draft.now in
     let id = c.args.held.now.0 in
     let there = c.contains.ensures.there c.if-contains.true in
-    let gone = ap (count_by (has_id id)) c.as_slice.ensures.value ∙ c.requires.drafted.going_same (has_id id) in
+    let gone = ap (count_by (has_id id)) c.as_slice.ensures.value ∙ c.requires.drafted.drafted.going_same (has_id id) in
     gone_told (before self) (after self draft.changes.items) c.args.told.now.entries id draft.changes.items c.requires.all (subst (λ (n : ℕ). 0 < n) gone there)
 
 pub tell_held-requires-clause-stays : goal.tell_held-requires-clause-stays
@@ -24,5 +24,5 @@ tell_held-requires-clause-stays c =
     let held = c.args.held.now in
     let rows : c.self.inside.by_id.items ≡ self.rows = ap (λ (w : WindowState). w.rows) c.self.view_is in
     let sorted = subst (λ (rows : RowMap). IsSorted text_cmp rows) rows c.self.invariant.ids in
-    let none = sym (ap (count_by (is_row held)) c.as_slice.ensures.value ∙ c.requires.drafted.going_same (is_row held)) ∙ c.contains.ensures.missing c.if-contains.false in
-    stays self.rows self.rows draft.changes.items held.0 held.1 sorted c.requires.stand c.requires.stands c.requires.stands none
+    let none = sym (ap (count_by (is_row held)) c.as_slice.ensures.value ∙ c.requires.drafted.drafted.going_same (is_row held)) ∙ c.contains.ensures.missing c.if-contains.false in
+    stays self.rows self.rows draft.changes.items held.0 held.1 sorted c.requires.drafted.stand c.requires.stands c.requires.stands none
