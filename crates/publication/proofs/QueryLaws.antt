@@ -1,11 +1,9 @@
 -- Contents into which every published document was put have at each key what is published there.
 use Rattle.std.specs.Prelude.{if◌then◌else◌, map, option_and_then}
 use Rattle.std.specs.Option.{option_or}
-use Rattle.std.specs.Bool.{Decides}
-use Rattle.std.specs.Cmp.{IsTotalOrder, tied_itself}
+use Rattle.std.specs.Cmp.{tied_itself}
 use Rattle.std.specs.List.{AllByRecursion}
 use Rattle.std.specs.Map.{keys_of}
-use Rattle.std.specs.Str.{bytes_eq}
 use Rattle.std.specs.declared.cmp.Ordering.{Ordering}
 use Rattle.std.specs.declared.cmp.Ordering.TheVariants.{Less, Equal, Greater}
 use Rattle.std.specs.Ordering.{eq_by_cmp, is_eq}
@@ -13,19 +11,17 @@ use Rattle.std.proofs.Common.{◌≡◌, ℕ, Bool, true, false, cond, Option, N
 use Rattle.std.proofs.lemmas.List.{append_assoc, append-nil}
 use Rattle.std.proofs.lemmas.Slice.Eq.{bytes_eq-Decides}
 use Rattle.std.proofs.lemmas.Map.Keys.{sorted_head, sorted_tail}
-use Rattle.map_model.specs.Maps.{at, set, IsSorted}
+use Rattle.map_model.specs.Maps.{at, IsSorted}
 use Rattle.map_model.specs.MapLaws.{at-set, sorted-set, sorted-nil}
-use Rattle.value_model.specs.Val.{Entries, fields_of, entries_of}
+use Rattle.value_model.specs.Val.{Entries}
 use Rattle.value_model.specs.Size.{is_name}
 use Rattle.ejson_value.specs.declared.key.Key.{Key}
 use Rattle.ejson_value.specs.declared.change.Publish.{Publish}
 use Rattle.ejson_value.specs.Key.{key_cmp, key_total, key_exact, key_order, key_of}
 use Rattle.ejson_value.specs.Rows.{Rows, rows_of}
-use Rattle.selector_match.specs.Holds.{holds}
 use Rattle.publication.specs.declared.cursor.Cursor.{Cursor}
 use Rattle.publication.specs.Cursors.{ACursors}
 use Rattle.publication.specs.Published.{published_of, published_by, published, publish_of, IsQuery}
-use Rattle.publication.specs.Projected.{projected}
 use Rattle.publication.specs.Putting.{Publishing, row_published, put_document, put_row, put_rows, put_own, published_at, put_all, listed_behind}
 
 tie : (o : Ordering) → is_eq o ≡ true → o ≡ Equal

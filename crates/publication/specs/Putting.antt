@@ -1,5 +1,5 @@
 -- Published documents put into contents, one after another.
-use Rattle.std.specs.Prelude.{◌≡◌, ℕ, option_and_then, List, [], ◌∷◌, ◌++◌, ◌&&◌, Option, None, Some, if◌then◌else◌}
+use Rattle.std.specs.Prelude.{ℕ, option_and_then, List, [], ◌∷◌, ◌++◌, ◌&&◌, Option, None, Some, if◌then◌else◌}
 use Rattle.map_model.specs.Maps.{at, set}
 use Rattle.value_model.specs.Val.{Entries, fields_of, entries_of}
 use Rattle.value_model.specs.Size.{is_name}
