@@ -1,0 +1,4 @@
+pub mod Pending
+pub mod Views
+pub mod PendingLaws
+pub mod ViewLaws
