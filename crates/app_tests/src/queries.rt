@@ -32,7 +32,7 @@ const LEFT: &str = r#"{"a.b":1} ; {"a":[{"b":1,"c":2},5],"n":3} => {"a":[{"b":1}
 // An application with one publication `p` of these cursors.
 fn with_cursors(alloc: Global, cursors: &str) -> Result<App, Fail> {
     let text = format!(in alloc;
-        "{{\"collections\":[\"t\",\"u\"],\"publications\":{{\"p\":{cursors}}}}}"
+        "{{\"collections\":[\"t\",\"u\",\"v\"],\"publications\":{{\"p\":{cursors}}}}}"
     )?;
     Ok(App::read(alloc, &value(alloc, text.as_str())?)?)
 }
@@ -124,6 +124,34 @@ fn cursors_are_made(rt: HostRuntime) -> Result<(), Fail> {
     Ok(())
 }
 
+// Each row: cursors, and whether one has a limit.
+const LIMITED: &str = r#"[] => no
+[{"collection":"t"}] => no
+[{"collection":"t","sort":[["n",1]]}] => no
+[{"collection":"t","limit":1}] => limited
+[{"collection":"t"},{"collection":"u","limit":10000}] => limited
+"#;
+
+fn limited(alloc: Global, cursors: &str) -> Result<bool, Fail> {
+    let Some(publication) = publication(alloc, cursors)? else {
+        return Ok(false);
+    };
+    Ok(Cursors::make(alloc, &publication, &Items::new(alloc))?.limited())
+}
+
+fn is_told_limited(alloc: Global, row: &str) -> Result<bool, Fail> {
+    let (cursors, wanted) = halves(row);
+    Ok(limited(alloc, cursors)? == (wanted == "limited"))
+}
+
+#[test]
+fn limits_are_told(rt: HostRuntime) -> Result<(), Fail> {
+    for row in LIMITED.lines() {
+        assert!(rt; is_told_limited(rt.alloc(), row)?, "at {row}");
+    }
+    Ok(())
+}
+
 // Each row: cursors, parameters, and the published documents, each as its name, id and fields.
 const PUBLISHED: &str =
     r#"[{"collection":"t","fields":{"a.b":1},"selector":{"n":{"$param":0}}}] ; [3] => [["t","t1",{"a":[{"b":1}]}]]
@@ -135,15 +163,35 @@ const PUBLISHED: &str =
 [{"collection":"t","selector":{"_id":"u1"}}] ; [] => []
 [{"as":"z","collection":"t","selector":{"_id":{"$param":0}}},{"collection":"u"}] ; ["t1"] => [["u","u1",{"n":3}],["z","t1",{"a":[{"b":1,"c":2},5],"n":3}]]
 [{"collection":"t","selector":{"n":9}}] ; [] => []
+[{"collection":"v","limit":2,"sort":[["n",-1]]}] ; [] => [["v","v2",{"n":3}],["v","v4",{"n":3}]]
+[{"collection":"v","limit":1,"sort":[["n",-1]]}] ; [] => [["v","v2",{"n":3}]]
+[{"collection":"v","limit":3,"sort":[["n",-1]]}] ; [] => [["v","v1",{"m":{"k":5},"n":2}],["v","v2",{"n":3}],["v","v4",{"n":3}]]
+[{"collection":"v","limit":2,"sort":[["n",1]]}] ; [] => [["v","v3",{"m":{"k":7}}],["v","v5",{"n":1}]]
+[{"collection":"v","limit":2,"sort":[["m.k",1],["n",-1]]}] ; [] => [["v","v2",{"n":3}],["v","v4",{"n":3}]]
+[{"collection":"v","limit":2}] ; [] => [["v","v1",{"m":{"k":5},"n":2}],["v","v2",{"n":3}]]
+[{"collection":"t","limit":10,"sort":[["n",-1]]}] ; [] => [["t","t1",{"a":[{"b":1,"c":2},5],"n":3}],["t","t2",{"n":4}]]
+[{"collection":"v","fields":{"m":0},"sort":[["n",-1]]}] ; [] => [["v","v1",{"n":2}],["v","v2",{"n":3}],["v","v3",{}],["v","v4",{"n":3}],["v","v5",{"n":1}]]
+[{"collection":"v","fields":{"m":1},"limit":2,"selector":{"n":{"$gt":1}},"sort":[["n",1]]}] ; [] => [["v","v1",{"m":{"k":5}}],["v","v2",{}]]
+[{"collection":"v","limit":1,"selector":{"_id":"v5"},"sort":[["n",-1]]}] ; [] => [["v","v5",{"n":1}]]
+[{"collection":"v","limit":1,"selector":{"_id":"t1"}}] ; [] => []
+[{"collection":"u"},{"as":"z","collection":"v","limit":1,"sort":[["n",1]]}] ; [] => [["u","u1",{"n":3}],["z","v3",{"m":{"k":7}}]]
 "#;
 
-fn put(
-    alloc: Global,
-    contents: &mut Contents,
-    collection: &str,
-    id: &str,
-    doc: &str,
-) -> Result<(), Fail> {
+// Each row: a collection, an id and a document.
+const DOCUMENTS: &str = r#"s ; t2 ; {"n":3}
+t ; t1 ; {"a":[{"b":1,"c":2},5],"n":3}
+t ; t2 ; {"n":4}
+u ; u1 ; {"n":3}
+v ; v1 ; {"m":{"k":5},"n":2}
+v ; v2 ; {"n":3}
+v ; v3 ; {"m":{"k":7}}
+v ; v4 ; {"n":3}
+v ; v5 ; {"n":1}
+"#;
+
+fn put(alloc: Global, contents: &mut Contents, row: &str) -> Result<(), Fail> {
+    let (collection, rest) = first(row);
+    let (id, doc) = first(rest);
     let key = Key {
         collection: Text::from_str(alloc, collection)?,
         id: Text::from_str(alloc, id)?,
@@ -154,16 +202,9 @@ fn put(
 
 fn contents(alloc: Global) -> Result<Contents, Fail> {
     let mut contents = Contents::new(alloc);
-    put(alloc, &mut contents, "s", "t2", "{\"n\":3}")?;
-    put(
-        alloc,
-        &mut contents,
-        "t",
-        "t1",
-        "{\"a\":[{\"b\":1,\"c\":2},5],\"n\":3}",
-    )?;
-    put(alloc, &mut contents, "t", "t2", "{\"n\":4}")?;
-    put(alloc, &mut contents, "u", "u1", "{\"n\":3}")?;
+    for row in DOCUMENTS.lines() {
+        put(alloc, &mut contents, row)?;
+    }
     Ok(contents)
 }
 

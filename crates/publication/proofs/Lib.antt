@@ -1,3 +1,4 @@
 pub mod Walks
 pub mod QueryLaws
 pub mod SortedPaths
+pub mod Choosing

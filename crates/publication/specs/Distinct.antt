@@ -1,10 +1,9 @@
 -- The cursors that are made of rules with different names have different names.
-use Rattle.std.specs.Prelude.{◌≡◌, ℕ, Bool, true, false, List, [], ◌∷◌, ◌++◌, map, Ok, Err, ◌||◌, refl}
+use Rattle.std.specs.Prelude.{◌≡◌, ℕ, Bool, false, List, [], ◌∷◌, ◌++◌, map, Ok, ◌||◌, refl}
 use Rattle.std.proofs.Common.{ap, sym, ◌∙◌, subst, append-nil, append_assoc}
 use Rattle.std.specs.List.{list_any}
 use Rattle.value_model.specs.Val.{Val}
 use Rattle.value_model.specs.Size.{is_name}
-use Rattle.ejson_value.specs.Results.{and_then}
 use Rattle.ejson_value.specs.ResultLaws.{and_then-ok}
 use Rattle.selector_match.specs.Query.{Query}
 use Rattle.app_model.specs.declared.publication.CursorRule.{CursorRule}

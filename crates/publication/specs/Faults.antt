@@ -1,5 +1,5 @@
 -- Why the cursors of a publication can't be made.
-use Rattle.std.specs.Prelude.{◌≡◌, ℕ, Result, Ok, Err}
+use Rattle.std.specs.Prelude.{◌≡◌, Result, Ok, Err}
 use Rattle.selector_match.specs.declared.fault.SelectorFault.{SelectorFault}
 use Rattle.selector_match.specs.declared.fault.SelectorFault.TheVariants as selector
 use Rattle.program_steps.specs.declared.fault.FillFault.{FillFault}

@@ -4,4 +4,5 @@ pub mod Faults
 pub mod Cursors
 pub mod Distinct
 pub mod Published
+pub mod Ordered
 pub mod Putting

@@ -1,5 +1,6 @@
 //! Cursors in memory.
-ghost use Rattle.std.specs.Prelude.{◌≡◌, ◌==◌, length, slice_get, IfOk};
+ghost use Rattle.std.specs.Prelude.{◌≡◌, ◌==◌, is_some, length, slice_get, IfOk};
+ghost use Rattle.std.specs.List.{list_any};
 ghost use Rattle.std.specs.Option.{option_copied};
 
 use app_model::Projection;
@@ -42,19 +43,53 @@ impl Model for Cursors {
     ghost invariant = { λ a. HaveDistinctNames a.cursors.items };
 }
 
+// Copies of the names of a cursor's collection and of what it publishes.
+pub(crate) fn copy_names(collection: &Text, name: &Text) -> Result<(Text, Text), Mem>
+    ensures { IfOk result (λ names. names ≡ (collection.now, name.now)) }
+{
+    Ok((collection.copy()?, name.copy()?))
+}
+
+// Copies of a cursor's projection and of its sort keys.
+pub(crate) fn copy_shown(
+    fields: &Projection,
+    sort: &SortKeys,
+) -> Result<(Projection, SortKeys), Mem>
+    ensures { IfOk result (λ shown. shown ≡ (fields.now, sort.now)) }
+{
+    Ok((fields.copy()?, sort.copy()?))
+}
+
 impl Cursor {
+    // The cursor of these parts.
+    pub(crate) fn of(
+        names: (Text, Text),
+        selector: Selector,
+        shown: (Projection, SortKeys),
+        limit: Option<u32>,
+    ) -> Cursor
+        ensures { result ≡ record { collection = names.0; name = names.1; selector = selector; fields = shown.0; sort = shown.1; limit = limit } }
+    {
+        let (collection, name) = names;
+        let (fields, sort) = shown;
+        Cursor {
+            collection,
+            name,
+            selector,
+            fields,
+            sort,
+            limit,
+        }
+    }
+
     /// A cursor equal to this one.
     pub fn copy(&self) -> Result<Cursor, Mem>
         ensures { IfOk result (λ cursor. cursor ≡ self.now) }
     {
-        Ok(Cursor {
-            collection: self.collection.copy()?,
-            name: self.name.copy()?,
-            selector: self.selector.copy()?,
-            fields: self.fields.copy()?,
-            sort: self.sort.copy()?,
-            limit: self.limit,
-        })
+        let names = copy_names(&self.collection, &self.name)?;
+        let shown = copy_shown(&self.fields, &self.sort)?;
+        let selector = self.selector.copy()?;
+        Ok(Cursor::of(names, selector, shown, self.limit))
     }
 }
 
@@ -78,6 +113,13 @@ impl Cursors {
         ensures { option_copied result ≡ slice_get self.now place }
     {
         self.cursors.get(place)
+    }
+
+    /// Whether some cursor has a limit.
+    pub fn limited(&self) -> bool
+        ensures { result ≡ list_any (λ cursor. is_some cursor.limit) self.now }
+    {
+        self.cursors.iter().any(|cursor| cursor.limit.is_some())
     }
 
     /// Cursors equal to these.

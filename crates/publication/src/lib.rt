@@ -4,6 +4,7 @@
 mod cursor;
 mod fault;
 mod make;
+mod ordered;
 mod paths;
 mod projections;
 mod queries;

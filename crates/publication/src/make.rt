@@ -6,7 +6,7 @@ ghost use Rattle.program_steps.specs.Template.{filled};
 ghost use Rattle.publication.specs.Faults.{Gives, lifted, fill_fault, selector_fault};
 ghost use Rattle.publication.specs.Cursors.{selector_made, cursor_made, cursors_behind, cursors_made};
 
-use crate::cursor::{Cursor, Cursors};
+use crate::cursor::{Cursor, Cursors, copy_names, copy_shown};
 use crate::fault::CursorFault;
 use app_model::{CursorRule, CursorRules, FillFault, Publication, Template};
 use ejson_value::{Items, Names, Value};
@@ -52,14 +52,9 @@ fn make_cursor(alloc: Global, rule: &CursorRule, params: &Items) -> Result<Curso
     ensures { Gives (λ cursor. cursor) result (cursor_made params.now rule.now) }
 {
     let selector = make_selector(alloc, &rule.selector, params)?;
-    Ok(Cursor {
-        collection: rule.collection.copy()?,
-        name: rule.name.copy()?,
-        selector,
-        fields: rule.fields.copy()?,
-        sort: rule.sort.copy()?,
-        limit: rule.limit,
-    })
+    let names = copy_names(&rule.collection, &rule.name)?;
+    let shown = copy_shown(&rule.fields, &rule.sort)?;
+    Ok(Cursor::of(names, selector, shown, rule.limit))
 }
 
 fn make_each(alloc: Global, rules: &CursorRules, params: &Items) -> Result<Vec<Cursor>, CursorFault>

@@ -3,14 +3,15 @@ ghost use Rattle.std.specs.Prelude.{◌≡◌, [], Some, IfOk, OnOk};
 ghost use Rattle.map_model.specs.Maps.{set};
 ghost use Rattle.value_model.specs.Val.{fields_of, entries_of};
 ghost use Rattle.ejson_value.specs.Key.{key_cmp, key_of};
-ghost use Rattle.selector_match.specs.Holds.{holds};
 ghost use Rattle.publication.specs.Projected.{projected};
 ghost use Rattle.ejson_value.specs.Rows.{rows_of};
 ghost use Rattle.publication.specs.Parts.{paths_in, paths_of, AreSorted};
+ghost use Rattle.publication.specs.Ordered.{documents_in, IsInOrder};
 ghost use Rattle.publication.specs.Published.{published_of, IsQuery};
-ghost use Rattle.publication.specs.Putting.{put_document, put_own, published_at, put_rows, put_all, listed_behind};
+ghost use Rattle.publication.specs.Putting.{published_among, put_document, put_own, published_at, put_rows, put_all, listed_behind};
 
 use crate::cursor::{Cursor, Cursors};
+use crate::ordered::{Match, choice, is_within};
 use crate::paths::sorted_paths;
 use crate::projections::project_by;
 use app_model::Projection;
@@ -52,19 +53,22 @@ fn put_document(
     Ok(())
 }
 
-// Puts what the cursor publishes of a document of its collection, if its selector holds.
-fn put_if_held(
+// Puts what the cursor publishes of a document of its collection, if its selector holds and it is
+// one of the first among these, which are in order.
+fn put_if_shown(
     alloc: Global,
     found: &mut Found,
     cursor: &Cursor,
     paths: &[&[Part]],
+    docs: &[Match<'_>],
     id: &Text,
     doc: &Doc,
 ) -> Result<(), Mem>
-    requires { AreSorted (paths_of cursor.now.fields) (paths_in paths.now) }
-    ensures { OnOk result (found.new.entries ≡ put_document found.old.entries (key_of cursor.now.name id.now) (published_of cursor.now id.now doc.now)) }
+    requires paths { AreSorted (paths_of cursor.now.fields) (paths_in paths.now) }
+    requires order { IsInOrder cursor.now.sort (documents_in docs.now) }
+    ensures { OnOk result (found.new.entries ≡ put_document found.old.entries (key_of cursor.now.name id.now) (published_among cursor.now (documents_in docs.now) id.now doc.now)) }
 {
-    if holds(&cursor.selector, id, doc) {
+    if holds(&cursor.selector, id, doc) && is_within(cursor, docs, id, doc) {
         put_document(alloc, found, cursor, paths, id, doc)
     } else {
         Ok(())
@@ -77,13 +81,15 @@ fn put_collection(
     found: &mut Found,
     cursor: &Cursor,
     paths: &[&[Part]],
+    docs: &[Match<'_>],
     contents: &Contents,
 ) -> Result<(), Mem>
-    requires { AreSorted (paths_of cursor.now.fields) (paths_in paths.now) }
-    ensures { OnOk result (found.new.entries ≡ put_own found.old.entries cursor.now (rows_of cursor.now.collection contents.now)) }
+    requires paths { AreSorted (paths_of cursor.now.fields) (paths_in paths.now) }
+    requires order { IsInOrder cursor.now.sort (documents_in docs.now) }
+    ensures { OnOk result (found.new.entries ≡ put_own (published_among cursor.now (documents_in docs.now)) found.old.entries cursor.now (rows_of cursor.now.collection contents.now)) }
 {
     for (key, doc) in contents.of_collection(&cursor.collection)? {
-        put_if_held(alloc, found, cursor, paths, &key.id, doc)?;
+        put_if_shown(alloc, found, cursor, paths, docs, &key.id, doc)?;
     }
     Ok(())
 }
@@ -94,16 +100,18 @@ fn put_named(
     found: &mut Found,
     cursor: &Cursor,
     paths: &[&[Part]],
+    docs: &[Match<'_>],
     id: &Text,
     contents: &Contents,
 ) -> Result<(), Mem>
-    requires { AreSorted (paths_of cursor.now.fields) (paths_in paths.now) }
-    ensures { OnOk result (found.new.entries ≡ put_document found.old.entries (key_of cursor.now.name id.now) (published_at cursor.now contents.now id.now)) }
+    requires paths { AreSorted (paths_of cursor.now.fields) (paths_in paths.now) }
+    requires order { IsInOrder cursor.now.sort (documents_in docs.now) }
+    ensures { OnOk result (found.new.entries ≡ put_document found.old.entries (key_of cursor.now.name id.now) (published_at (published_among cursor.now (documents_in docs.now)) cursor.now contents.now id.now)) }
 {
     let key = Key::of(&cursor.collection, id)?;
     match contents.get(&key) {
         None => Ok(()),
-        Some(doc) => put_if_held(alloc, found, cursor, paths, id, doc),
+        Some(doc) => put_if_shown(alloc, found, cursor, paths, docs, id, doc),
     }
 }
 
@@ -115,13 +123,14 @@ fn put_rows(
     cursor: &Cursor,
     contents: &Contents,
 ) -> Result<(), Mem>
-    ensures { OnOk result (found.new.entries ≡ put_rows found.old.entries cursor.now contents.now) }
+    ensures { OnOk result (found.new.entries ≡ put_rows (published_of cursor.now contents.now) found.old.entries cursor.now contents.now) }
 {
     let paths = sorted_paths(alloc, &cursor.fields)?;
+    let docs = choice(alloc, cursor, contents)?;
     contents.known();
     match cursor.selector.named_id() {
-        None => put_collection(alloc, found, cursor, &paths, contents),
-        Some(id) => put_named(alloc, found, cursor, &paths, id, contents),
+        None => put_collection(alloc, found, cursor, &paths, &docs, contents),
+        Some(id) => put_named(alloc, found, cursor, &paths, &docs, id, contents),
     }
 }
 
@@ -153,8 +162,9 @@ fn list(alloc: Global, found: Found) -> Result<Publishes, Mem>
 }
 
 /// Every document that the cursors publish of the contents, by published name and id. For each
-/// cursor it looks once at each document of its collection, and where the selector names an id, at
-/// the document with this id alone.
+/// cursor it looks at the documents of its collection alone, and where the selector names an id, at
+/// the document with this id alone. Where there is a limit it sorts those that the selector holds
+/// of, and copies none but those that it publishes.
 pub fn query(alloc: Global, cursors: &Cursors, contents: &Contents) -> Result<Publishes, Mem>
     ensures { IfOk result (λ answer. IsQuery cursors.now contents.now answer) }
 {

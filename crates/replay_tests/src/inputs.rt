@@ -15,6 +15,7 @@ const INPUTS: &str = r#"@ => 0; ;
 @| => 0; ; 
 @|["admin",["insert","tasks",{"_id":"t1","n":1}]]|["client","a"]|["settle"]|["sub","a","1","all",[]]|["settle"]|["show","a"]| => 0; ["show","a"]|["doc","tasks","t1",{"n":1}]|["sub","1","ready"]|; 
 @|["admin",["insert","tasks",{"_id":"t1","n":1}]]|["admin",["insert","tasks",{"_id":"t1","n":1}]]|["show","a"] => 0; ["refused",409]|["idle"]|; 
+{"collections":["tasks"],"publications":{"top":[{"collection":"tasks","limit":2,"sort":[["n",-1]]}]}}|["admin",["insert","tasks",{"_id":"t1","n":1}]]|["admin",["insert","tasks",{"_id":"t2","n":2}]]|["admin",["insert","tasks",{"_id":"t3","n":3}]]|["client","a"]|["settle"]|["sub","a","1","top",[]]|["settle"]|["show","a"] => 0; ["show","a"]|["doc","tasks","t2",{"n":2}]|["doc","tasks","t3",{"n":3}]|["sub","1","ready"]|; 
 @||["show","zz"]|  |["show","a"|["show","zz"] => 3; ["idle"]|["bad",5]|; line 5 is no event: it is not JSON; the lines before it were run
 @|["show","zz"]|~|["show","zz"] => 3; ["idle"]|["bad",3]|; line 3 is no event: it is not UTF-8; the lines before it were run
 @|["show",1.5] => 3; ["bad",2]|; line 2 is no event: it is no EJSON value: a number that isn't whole within 53 bits; the lines before it were run

@@ -11,11 +11,10 @@ use Rattle.ejson_value.specs.declared.key.Key.{Key}
 use Rattle.ejson_value.specs.declared.change.Publish.{Publish}
 use Rattle.ejson_value.specs.Key.{key_cmp, key_order, key_of}
 use Rattle.ejson_value.specs.Rows.{Rows}
-use Rattle.selector_match.specs.Holds.{holds}
 use Rattle.publication.specs.declared.cursor.Cursor.{Cursor}
 use Rattle.publication.specs.Cursors.{ACursors}
 use Rattle.publication.specs.Projected.{projected}
-use Rattle.publication.specs.Published.{published_of, published_by, published, publish_of, IsQuery}
+use Rattle.publication.specs.Published.{is_shown, published_of, published_by, published, publish_of, IsQuery}
 use Rattle.publication.specs.Putting.{listed_behind}
 use Rattle.publication.proofs.QueryLaws.{IsQuery-put_all}
 use Rattle.session_model.specs.History.{IsStored, AreStored}
@@ -62,22 +61,22 @@ either_stored : (key : Key) (a b : Option Entries) → IfSome a (IsStored key) �
 either_stored key None b p q = q
 either_stored key (Some d) b p q = p
 
-stored_of : (cursor : Cursor) (key : Key) (doc : Entries) → IsStored (key_of cursor.collection key.id) doc → IfSome (published_of cursor key.id doc) (IsStored key)
-stored_of cursor key doc h = by (holds cursor.selector key.id doc)
+stored_of : (cursor : Cursor) (rows : Rows) (key : Key) (doc : Entries) → IsStored (key_of cursor.collection key.id) doc → IfSome (published_of cursor rows key.id doc) (IsStored key)
+stored_of cursor rows key doc h = by (is_shown cursor rows key.id doc)
   where
     by : (b : Bool) → IfSome (if b then Some (entries_of (projected cursor.fields (fields_of doc))) else None) (IsStored key)
     by true = let k = projected_keepable cursor.fields doc (h.1, h.2) in (h.0, k.0, k.1)
     by false = tt
 
-stored_at : (cursor : Cursor) (key : Key) (o : Option Entries) → IfSome o (IsStored (key_of cursor.collection key.id)) → IfSome (option_and_then (published_of cursor key.id) o) (IsStored key)
-stored_at cursor key None h = tt
-stored_at cursor key (Some doc) h = stored_of cursor key doc h
+stored_at : (cursor : Cursor) (rows : Rows) (key : Key) (o : Option Entries) → IfSome o (IsStored (key_of cursor.collection key.id)) → IfSome (option_and_then (published_of cursor rows key.id) o) (IsStored key)
+stored_at cursor rows key None h = tt
+stored_at cursor rows key (Some doc) h = stored_of cursor rows key doc h
 
 stored_by : (cursor : Cursor) (rows : Rows) (key : Key) → ((k : Key) → IfSome (at key_cmp rows k) (IsStored k)) → IfSome (published_by cursor rows key) (IsStored key)
 stored_by cursor rows key all = by (is_name cursor.name key.collection)
   where
-    by : (b : Bool) → IfSome (if b then option_and_then (published_of cursor key.id) (at key_cmp rows (key_of cursor.collection key.id)) else None) (IsStored key)
-    by true = stored_at cursor key (at key_cmp rows (key_of cursor.collection key.id)) (all (key_of cursor.collection key.id))
+    by : (b : Bool) → IfSome (if b then option_and_then (published_of cursor rows key.id) (at key_cmp rows (key_of cursor.collection key.id)) else None) (IsStored key)
+    by true = stored_at cursor rows key (at key_cmp rows (key_of cursor.collection key.id)) (all (key_of cursor.collection key.id))
     by false = tt
 
 stored_published : (cursors : ACursors) (rows : Rows) (key : Key) → ((k : Key) → IfSome (at key_cmp rows k) (IsStored k)) → IfSome (published cursors rows key) (IsStored key)

@@ -1,10 +1,10 @@
-use Rattle.std.proofs.Common.{◌≡◌, ℕ, ◌∷◌, [], ◌++◌, List, ap, sym, subst, refl, ◌∙◌, arith}
+use Rattle.std.proofs.Common.{◌∷◌, [], ◌++◌, ap, sym, subst, refl, ◌∙◌, arith}
 use Rattle.std.proofs.lemmas.List.{append_assoc, append-nil, drop_all}
 use Rattle.std.specs.Map.{keys_of}
 use Rattle.std.specs.List.Sorted.{IsStrictlySortedBy}
 use Rattle.value_model.specs.Val.{fields_of, vals_of}
 use Rattle.value_model.specs.Order.{text_cmp}
-use Rattle.ejson_value.specs.View.{view, views, entries}
+use Rattle.ejson_value.specs.View.{views, entries}
 use Rattle.ejson_value.proofs.Walks.{item_depth, field_depth}
 use Rattle.publication.specs.Parts.{paths_in, below, put_some}
 use Rattle.publication.specs.Projected.{elements_projected, fields_projected}
