@@ -2,6 +2,7 @@
 ghost use Rattle.std.specs.Prelude.{◌≡◌, ◌==◌, is_some, length, slice_get, IfOk};
 ghost use Rattle.std.specs.List.{list_any};
 ghost use Rattle.std.specs.Option.{option_copied};
+ghost use Rattle.publication.specs.Cursors.{HaveDistinctNames};
 
 use app_model::Projection;
 use ejson_value::{Mem, SortKeys, Text};
@@ -120,6 +121,14 @@ impl Cursors {
         ensures { result ≡ list_any (λ cursor. is_some cursor.limit) self.now }
     {
         self.cursors.iter().any(|cursor| cursor.limit.is_some())
+    }
+
+    /// The cursors in order, which have different published names.
+    pub fn as_slice(&self) -> &[Cursor]
+        ensures same { result.now ≡ self.now }
+        ensures names { HaveDistinctNames self.now }
+    {
+        self.cursors.as_slice()
     }
 
     /// Cursors equal to these.

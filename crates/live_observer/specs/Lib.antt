@@ -1,0 +1,4 @@
+pub mod Observing
+pub mod Noting
+pub mod Answering
+pub mod Coding
