@@ -7,7 +7,7 @@ use Rattle.world_model.specs.declared.events.Event.{Event}
 use Rattle.world_model.specs.World.{World}
 use Rattle.world_model.specs.Lines.{Line, line_text, lines_of}
 use Rattle.world_model.specs.Run.{step, AreEvents}
-use Rattle.commands.specs.Input.{line_feed, is_blank}
+use Rattle.checking.specs.Input.{line_feed, is_blank}
 use Rattle.commands.specs.Replay.{RunsLine, event_of, before_bad, events_of, bad_unless, bad_line, printed, line_bytes, all_bytes}
 
 -- what a world writes for these lines

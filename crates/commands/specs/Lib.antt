@@ -1,5 +1,3 @@
-pub mod Input
-pub mod InputLaws
 pub mod Replay
 pub mod ReplayLaws
 pub mod Status

@@ -1,7 +1,6 @@
 -- What the command `replay` writes for an input: the first line is the application, and each further line that isn't blank is an event. The events before the
 -- first line that isn't of the grammar are run, and what they print is written, a line each; then that line is named.
-use Rattle.std.specs.Prelude.{◌≡◌, ◌⊎◌, ℕ, suc, pos, true, false, map, List, [], ◌∷◌, ◌++◌, take, flat_map, Bool, Option, Some, None, option_and_then, Ok, Err, if◌then◌else◌, codes}
-use Rattle.value_model.specs.Val.{int}
+use Rattle.std.specs.Prelude.{◌≡◌, ◌⊎◌, ℕ, suc, true, false, map, List, [], ◌∷◌, ◌++◌, take, flat_map, Bool, Option, Some, None, option_and_then, Ok, Err, if◌then◌else◌}
 use Rattle.app_model.specs.App.{App}
 use Rattle.program_reading.specs.Faults.{Reading}
 use Rattle.app_model.specs.Reading.{app_reading}
@@ -9,13 +8,10 @@ use Rattle.world_model.specs.declared.events.Event.{Event}
 use Rattle.world_model.specs.World.{World, start}
 use Rattle.world_model.specs.declared.events.Event.TheVariants as event
 use Rattle.world_model.specs.Run.{step, run, IsEvent, AreEvents, HoldsOf, IsSettled, IsLongAlone, IsTrueWorld}
-use Rattle.world_model.specs.Lines.{Line, value_line, line_text, line, lines_of}
+use Rattle.world_model.specs.Lines.{Line, value_line, line_text, lines_of}
 use Rattle.replay_events.specs.Events.{event_in}
-use Rattle.commands.specs.Input.{line_feed, lines_in, is_blank, value_in}
-
--- how long an input may be
-abbrev pub input_limit : ℕ
-input_limit = 65536
+use Rattle.checking.specs.Input.{line_feed, lines_in, rest_of, is_blank, value_in}
+use Rattle.checking.specs.Output.{bad}
 
 abbrev pub read_as : Reading App → Option App
 read_as (Ok app) = Some app
@@ -48,10 +44,6 @@ abbrev pub bad_line : ℕ → List (List ℕ) → Option ℕ
 bad_line n [] = None
 bad_line n (l ∷ ls) = if is_blank l then bad_line (suc n) ls else bad_unless (event_of l) n (bad_line (suc n) ls)
 
-abbrev pub rest_of : List (List ℕ) → List (List ℕ)
-rest_of [] = []
-rest_of (l ∷ ls) = ls
-
 -- the number of the first line that isn't of the grammar
 abbrev pub bad_in : Option App → List (List ℕ) → Option ℕ
 bad_in None ls = Some 1
@@ -69,12 +61,9 @@ abbrev pub printed_by : Option App → List (List ℕ) → List Line
 printed_by None ls = []
 printed_by (Some app) ls = printed (start app) (events_of ls)
 
-abbrev pub bad_value : ℕ → Line
-bad_value n = value_line (line (codes "bad") (int (pos n) ∷ []))
-
 abbrev pub bad_lines : Option ℕ → List Line
 bad_lines None = []
-bad_lines (Some n) = bad_value n ∷ []
+bad_lines (Some n) = value_line (bad n) ∷ []
 
 -- a line as it is written
 abbrev pub line_bytes : Line → List ℕ

@@ -13,8 +13,8 @@ use Rattle.world_model.specs.RunLaws.{start_kept}
 use Rattle.world_model.specs.CountLaws.{run_more}
 use Rattle.world_model.specs.BrokenLaws.{reachable_is_long}
 use Rattle.world_model.specs.RestLaws.{short_world_settles, same_app as settled_app}
-use Rattle.commands.specs.Input.{line_feed, with_byte, lines_in, is_blank}
-use Rattle.commands.specs.Replay.{input_limit, app_of, event_of, before_bad, events_of, rest_of, IsTrueRun, IsTrueReplay}
+use Rattle.checking.specs.Input.{input_limit, line_feed, with_byte, lines_in, rest_of, is_blank}
+use Rattle.commands.specs.Replay.{app_of, event_of, before_bad, events_of, IsTrueRun, IsTrueReplay}
 
 pub AreEvents-take : (n : ℕ) (events : List Event) → AreEvents events → AreEvents (take n events)
 AreEvents-take zero events p = tt

@@ -1,6 +1,7 @@
 //! What is wrong with a line that isn't of the grammar, in words.
-use crate::input::first_line;
+use crate::command::Command;
 use app_model::{App, AppFault};
+use checking::first_line;
 use ejson_codec::{EjsonFault, ParseFault, parse, text};
 use ejson_value::{Mem, Text, Value};
 use std::alloc::Global;
@@ -10,7 +11,7 @@ use std::str;
 const SHOWN: usize = 100;
 
 // The line of this number, counted from 1; nothing where there are fewer.
-fn line_of(input: &[u8], number: u64) -> &[u8] {
+fn line_of(input: &[u8], number: u32) -> &[u8] {
     let mut rest = input;
     for _ in 1..number {
         if !rest.is_empty() {
@@ -86,7 +87,7 @@ fn wrong_event(alloc: Global, value: &Value) -> Result<Text, Mem> {
 }
 
 // What is wrong with the value of the line of this number.
-fn wrong_content(alloc: Global, value: Value, number: u64) -> Result<Text, Mem> {
+fn wrong_content(alloc: Global, value: Value, number: u32) -> Result<Text, Mem> {
     let what = if number == 1 {
         wrong_application(alloc, &value)
     } else {
@@ -96,7 +97,7 @@ fn wrong_content(alloc: Global, value: Value, number: u64) -> Result<Text, Mem> 
     what
 }
 
-fn wrong_text(alloc: Global, line: Text, number: u64) -> Result<Text, Mem> {
+fn wrong_text(alloc: Global, line: Text, number: u32) -> Result<Text, Mem> {
     let parsed = parse(alloc, &line);
     drop(line);
     match parsed {
@@ -108,7 +109,7 @@ fn wrong_text(alloc: Global, line: Text, number: u64) -> Result<Text, Mem> {
 }
 
 // What is wrong with the line of this number.
-fn wrong_line(alloc: Global, line: &[u8], number: u64) -> Result<Text, Mem> {
+fn wrong_line(alloc: Global, line: &[u8], number: u32) -> Result<Text, Mem> {
     if line.is_empty() {
         return Text::from_str(alloc, "it is empty");
     }
@@ -118,14 +119,36 @@ fn wrong_line(alloc: Global, line: &[u8], number: u64) -> Result<Text, Mem> {
     }
 }
 
-/// Why the line of this number of the input, which isn't of the grammar, is none: a line of text.
-pub fn reason_for(alloc: Global, input: &[u8], number: u64) -> Result<Text, Mem> {
+fn no_application(alloc: Global, input: &[u8]) -> Result<Text, Mem> {
+    let what = wrong_line(alloc, line_of(input, 1), 1)?;
+    let what = what.as_str();
+    let reason = format!(in alloc; "line 1 is no application: {what}")?;
+    Ok(Text::from_string(reason))
+}
+
+fn no_event(alloc: Global, input: &[u8], number: u32) -> Result<Text, Mem> {
     let what = wrong_line(alloc, line_of(input, number), number)?;
     let what = what.as_str();
-    let reason = if number == 1 {
-        format!(in alloc; "line 1 is no application: {what}")?
-    } else {
-        format!(in alloc; "line {number} is no event: {what}; the lines before it were run")?
-    };
+    let reason = format!(in alloc;
+        "line {number} is no event: {what}; the lines before it were run"
+    )?;
     Ok(Text::from_string(reason))
+}
+
+fn further_line(alloc: Global, number: u32) -> Result<Text, Mem> {
+    let reason = format!(in alloc;
+        "line {number} is one too many: the application stands on line 1 alone"
+    )?;
+    Ok(Text::from_string(reason))
+}
+
+/// Why the line of this number of a command's input, which isn't of the grammar, is none: a line of text.
+pub fn reason_for(alloc: Global, command: Command, input: &[u8], number: u32) -> Result<Text, Mem> {
+    if number == 1 {
+        return no_application(alloc, input);
+    }
+    match command {
+        Command::Check => further_line(alloc, number),
+        Command::Replay => no_event(alloc, input, number),
+    }
 }

@@ -1,27 +1,19 @@
 //! The command `replay`.
-ghost use Rattle.std.specs.Prelude.{◌≡◌, ◌≤◌, ◌<◌, ◌+◌, ◌++◌, ◌∷◌, [], List, length, flat_map, map, Some, None, IfOk, IfSome, OnOk};
+ghost use Rattle.std.specs.Prelude.{◌≡◌, ◌≤◌, ◌++◌, ◌∷◌, [], length, flat_map, map, Some, IfOk, OnOk};
 ghost use Rattle.world_model.specs.World.{start};
-ghost use Rattle.value_model.specs.Val.{list, vals_of};
-ghost use Rattle.world_model.specs.Lines.{line_text, lines_of, value_line};
+ghost use Rattle.world_model.specs.Lines.{line_text, lines_of};
 ghost use Rattle.world_model.specs.Run.{step, AreEvents};
-ghost use Rattle.commands.specs.Input.{line_feed, lines_in};
-ghost use Rattle.commands.specs.Replay.{input_limit, app_of, events_of, bad_line, first_bad, rest_of, replay_text, printed, printed_by, all_bytes, bad_value, bad_lines};
+ghost use Rattle.checking.specs.Input.{input_limit, line_feed, lines_in, rest_of};
+ghost use Rattle.commands.specs.Replay.{app_of, events_of, bad_line, first_bad, replay_text, printed, printed_by, all_bytes, bad_lines};
 ghost use Rattle.commands.specs.Replay.{AreReplayed, GivesEventOf, StepsLine, RunsLine};
 
-use crate::input::{first_line, is_blank, value_in};
 use app_model::{App, AppFault};
-use ejson_codec::{Lines, text};
-use ejson_value::{Items, Mem, Text, Value, Whole};
+use checking::{Outcome, add_bad, add_line, first_line, is_blank, value_in};
+use ejson_codec::Lines;
+use ejson_value::Mem;
 use replay_core::World;
 use replay_events::{Event, LineFault};
 use std::alloc::Global;
-
-/// What a replay writes, and the number of the first line that isn't of the grammar.
-#[derive(Debug, Drop)]
-pub struct Outcome {
-    pub text: Vec<u8>,
-    pub bad_line: Option<u64>,
-}
 
 // The application of the first line, if it describes one.
 fn read_app(alloc: Global, line: &[u8]) -> Result<Option<App>, Mem>
@@ -58,15 +50,6 @@ fn event_in(alloc: Global, line: &[u8]) -> Result<Option<Event>, Mem>
     }
 }
 
-// Adds a line to the output.
-fn add_line(output: &mut Vec<u8>, line: &Text) -> Result<(), Mem>
-    ensures { OnOk result (output.new.items ≡ output.old.items ++ (line.now ++ line_feed ∷ [])) }
-{
-    output.extend_from_slice(line.as_bytes())?;
-    output.push(b'\n')?;
-    Ok(())
-}
-
 fn add_lines(output: &mut Vec<u8>, lines: &Lines) -> Result<(), Mem>
     ensures { OnOk result (output.new.items ≡ output.old.items ++ flat_map (λ line. line ++ line_feed ∷ []) lines.now) }
 {
@@ -76,32 +59,8 @@ fn add_lines(output: &mut Vec<u8>, lines: &Lines) -> Result<(), Mem>
     Ok(())
 }
 
-// Adds the line of the list of these values. It takes them, so that no caller has to drop them.
-fn add_list(alloc: Global, output: &mut Vec<u8>, items: Items) -> Result<(), Mem>
-    ensures { OnOk result (output.new.items ≡ output.old.items ++ all_bytes (value_line (list (vals_of items)) ∷ [])) }
-{
-    let value = Value::List(items);
-    let line = text(alloc, &value);
-    drop(value);
-    add_line(output, &line?)
-}
-
-// Adds the line that names a bad line.
-fn add_bad(alloc: Global, output: &mut Vec<u8>, number: u64) -> Result<(), Mem>
-    requires { number ≤ input_limit + 2 }
-    ensures { OnOk result (output.new.items ≡ output.old.items ++ all_bytes (bad_value number ∷ [])) }
-{
-    let Some(number) = Whole::of(number as i64) else {
-        unreachable!()
-    };
-    let mut items = Items::new(alloc);
-    items.push(Value::Text(Text::from_str(alloc, "bad")?))?;
-    items.push(Value::Int(number))?;
-    add_list(alloc, output, items)
-}
-
-fn add_bad_line(alloc: Global, output: &mut Vec<u8>, bad: Option<u64>) -> Result<(), Mem>
-    requires { IfSome bad (λ n. n ≤ input_limit + 2) }
+// Adds the line that names a bad line, if there is one.
+fn add_bad_line(alloc: Global, output: &mut Vec<u8>, bad: Option<u32>) -> Result<(), Mem>
     ensures { OnOk result (output.new.items ≡ output.old.items ++ all_bytes (bad_lines bad)) }
 {
     match bad {
@@ -156,11 +115,10 @@ fn run_lines(
     world: &mut World,
     lines: &[u8],
     output: &mut Vec<u8>,
-) -> Result<Option<u64>, Mem>
+) -> Result<Option<u32>, Mem>
     requires { length lines.now ≤ input_limit }
     ensures text { OnOk result (output.new.items ≡ output.old.items ++ all_bytes (printed world.old (events_of (lines_in lines.now)))) }
     ensures bad { IfOk result (λ bad. bad ≡ bad_line 2 (lines_in lines.now)) }
-    ensures within { IfOk result (λ bad. IfSome bad (λ n. n ≤ input_limit + 2)) }
     ensures events { OnOk result (AreEvents (events_of (lines_in lines.now))) }
 {
     let mut rest = lines;
@@ -177,11 +135,10 @@ fn run_lines(
 }
 
 // Runs the lines of an application.
-fn run_app(alloc: Global, app: App, lines: &[u8], output: &mut Vec<u8>) -> Result<Option<u64>, Mem>
+fn run_app(alloc: Global, app: App, lines: &[u8], output: &mut Vec<u8>) -> Result<Option<u32>, Mem>
     requires { length lines.now ≤ input_limit }
     ensures text { OnOk result (output.new.items ≡ output.old.items ++ all_bytes (printed (start app) (events_of (lines_in lines.now)))) }
     ensures bad { IfOk result (λ bad. bad ≡ bad_line 2 (lines_in lines.now)) }
-    ensures within { IfOk result (λ bad. IfSome bad (λ n. n ≤ input_limit + 2)) }
     ensures events { OnOk result (AreEvents (events_of (lines_in lines.now))) }
 {
     let mut world = World::new(alloc, app);
@@ -189,11 +146,10 @@ fn run_app(alloc: Global, app: App, lines: &[u8], output: &mut Vec<u8>) -> Resul
 }
 
 // Runs an input up to its first bad line, and answers the number of that.
-fn run_input(alloc: Global, input: &[u8], output: &mut Vec<u8>) -> Result<Option<u64>, Mem>
+fn run_input(alloc: Global, input: &[u8], output: &mut Vec<u8>) -> Result<Option<u32>, Mem>
     requires { length input.now ≤ input_limit }
     ensures text { OnOk result (output.new.items ≡ output.old.items ++ all_bytes (printed_by (app_of (lines_in input.now)) (rest_of (lines_in input.now)))) }
     ensures bad { IfOk result (λ bad. bad ≡ first_bad input.now) }
-    ensures within { IfOk result (λ bad. IfSome bad (λ n. n ≤ input_limit + 2)) }
     ensures events { OnOk result (AreReplayed input.now) }
 {
     if input.is_empty() {

@@ -1,43 +1,47 @@
 //! All that a command does, over any source and sink.
-ghost use Rattle.std.specs.Prelude.{◌≡◌, ◌≢◌, ◌↔◌, ◌<◌, true};
-ghost use Rattle.commands.specs.Cause.{Cause, is_replay};
+ghost use Rattle.std.specs.Prelude.{◌≡◌, ◌≢◌, ◌↔◌, ◌<◌, ◌≤◌, length, IfOk, OnOk};
+ghost use Rattle.checking.specs.Input.{input_limit};
+ghost use Rattle.commands.specs.Cause.{Cause, CauseOf, command_in, output_of, bad_line_of, IsTrueRunOf};
 ghost use Rattle.commands.specs.declared.status.Status.TheVariants as status;
 
+use crate::command::{Command, command_in};
 use crate::reason::reason_for;
 use crate::replay::replay;
 use crate::status::Status;
-use ejson_value::Text;
+use checking::{INPUT_LIMIT, Outcome, check};
+use ejson_value::{Mem, Text};
 use io_edge::{ReadAll, Sink, Source, read_all, write_all};
 use std::alloc::Global;
 
-/// How many bytes an input may have.
-pub const INPUT_LIMIT: u64 = 65536;
-
-// Whether the words are those of the command `replay`.
-fn is_replay(words: &[Text]) -> bool
-    ensures { result ≡ is_replay words.now }
-{
-    match words {
-        [word] => word.as_str() == "replay",
-        _ => false,
-    }
-}
-
 // Tells why a line isn't of the grammar, if there is memory for it.
-fn tell(alloc: Global, input: &[u8], number: u64, reason: &mut Text) {
-    if let Ok(told) = reason_for(alloc, input, number) {
+fn tell(alloc: Global, command: Command, input: &[u8], number: u32, reason: &mut Text) {
+    if let Ok(told) = reason_for(alloc, command, input, number) {
         *reason = told;
     }
 }
 
-// The command `replay`.
-fn run_replay<I: Source, O: Sink>(
+// What a command writes for an input.
+fn outcome_of(alloc: Global, command: Command, input: &[u8]) -> Result<Outcome, Mem>
+    requires { length input.now ≤ input_limit }
+    ensures text { IfOk result (λ o. o.text.items ≡ output_of command input.now) }
+    ensures bad { IfOk result (λ o. o.bad_line ≡ bad_line_of command input.now) }
+    ensures true_run { OnOk result (IsTrueRunOf command input.now) }
+{
+    match command {
+        Command::Check => check(alloc, input),
+        Command::Replay => replay(alloc, input),
+    }
+}
+
+// Reads the input of a command, runs it and writes its output.
+fn run_command<I: Source, O: Sink>(
     alloc: Global,
+    command: Command,
     input: &mut I,
     output: &mut O,
     reason: &mut Text,
 ) -> Status
-    ensures cause { Cause true (I.left input.old) (I.left input.new)
+    ensures cause { CauseOf command (I.left input.old) (I.left input.new)
         (O.written output.old) (O.written output.new) result }
     ensures read_fault { (result ≡ Status.ReadFault) ↔ (I.faults input.old < I.faults input.new) }
     ensures write_fault { (result ≡ Status.WriteFault) ↔ (O.faults output.old < O.faults output.new) }
@@ -49,7 +53,7 @@ fn run_replay<I: Source, O: Sink>(
         Err(ReadAll::TooLong) => return Status::TooLong,
         Err(ReadAll::Memory) => return Status::Memory,
     };
-    let Ok(outcome) = replay(alloc, bytes.as_slice()) else {
+    let Ok(outcome) = outcome_of(alloc, command, bytes.as_slice()) else {
         return Status::Memory;
     };
     if let Err(_fault) = write_all(output, outcome.text.as_slice()) {
@@ -58,17 +62,21 @@ fn run_replay<I: Source, O: Sink>(
     match outcome.bad_line {
         None => Status::Ok,
         Some(number) => {
-            tell(alloc, bytes.as_slice(), number, reason);
+            tell(alloc, command, bytes.as_slice(), number, reason);
             Status::BadInput
         }
     }
 }
 
-/// Runs the command that the words name: `replay` reads the source whole, runs its lines as events
-/// and writes what they print. Other words are `Usage`, and nothing is read or written then.
+/// Runs the command that the words name, over an input that it reads whole. Other words are `Usage`,
+/// and nothing is read or written then.
+///
+/// `check` writes `["ok"]` where the first line is an application, and otherwise `["fault",number,place]`
+/// and `["bad",1]`; where that line is missing or no EJSON value, `["bad",1]` alone. A further line that
+/// isn't blank is bad. `replay` runs the lines behind the application as events and writes what they print.
 ///
 /// `cause` says when each status comes, what was read and written then, and that after every event
-/// of the run the headline holds. The status is `ReadFault` exactly where the source failed, and
+/// of a replay the headline holds. The status is `ReadFault` exactly where the source failed, and
 /// `WriteFault` exactly where the sink did. Want of memory may come at any time. Where the status is
 /// `BadInput`, `reason` is set to a line for a person that says which line is bad and why, if there
 /// is memory for it.
@@ -79,16 +87,15 @@ pub fn run_plain<I: Source, O: Sink>(
     output: &mut O,
     reason: &mut Text,
 ) -> Status
-    ensures cause { Cause (is_replay words.now) (I.left input.old) (I.left input.new)
+    ensures cause { Cause (command_in words.now) (I.left input.old) (I.left input.new)
         (O.written output.old) (O.written output.new) result }
     ensures untouched { result ≡ Status.Usage → (input.new ≡ input.old) × (output.new ≡ output.old) }
     ensures read_fault { (result ≡ Status.ReadFault) ↔ (I.faults input.old < I.faults input.new) }
     ensures write_fault { (result ≡ Status.WriteFault) ↔ (O.faults output.old < O.faults output.new) }
     ensures told { result ≢ Status.BadInput → reason.new ≡ reason.old }
 {
-    if is_replay(words) {
-        run_replay(alloc, input, output, reason)
-    } else {
-        Status::Usage
+    match command_in(words) {
+        None => Status::Usage,
+        Some(command) => run_command(alloc, command, input, output, reason),
     }
 }

@@ -1,4 +1,4 @@
-//! Inputs of the command `replay`, and what comes of each: the status, what was written and the reason.
+//! Inputs of the commands, and what comes of each: the status, what was written and the reason.
 use commands::{INPUT_LIMIT, Status, run_plain};
 use ejson_value::{Bytes, Mem, Text};
 use io_edge::{Calls, MemorySink, MemorySource};
@@ -9,7 +9,7 @@ use std::test::Fail;
 const APPLICATION: &str =
     r#"{"collections":["tasks"],"methods":{},"publications":{"all":[{"collection":"tasks"}]}}"#;
 
-// Each row: an input, ` => `, the exit status, what was written and the reason. In a row `|` is the end of a line, `@` the application above and `~` a byte
+// Inputs of `replay`. Each row: an input, ` => `, the exit status, what was written and the reason. In a row `|` is the end of a line, `@` the application above and `~` a byte
 // that is no UTF-8.
 const INPUTS: &str = r#"@ => 0; ; 
 @| => 0; ; 
@@ -38,12 +38,45 @@ const INPUTS: &str = r#"@ => 0; ;
 {"collections":["a"],"publications":{"p":[{"collection":"b"}]}} => 3; ["bad",1]|; line 1 is no application: a collection that is not listed, at "publications/p/0/collection"
 "#;
 
-// Each row: `calls` and which call of `read` and of `write` fails, `words` and words that name no
-// command, or `bytes` and how many an input has, ` => `, and what comes of it.
-const RUNS: &str = r#"calls 1 9 => 4; ; 
-calls 2 9 => 4; ; 
-calls 9 1 => 5; ; 
-calls 9 9 => 0; ["idle"]|; 
+// Inputs of `check`, in rows as those above.
+const CHECKED: &str = r#"@ => 0; ["ok"]|; 
+@|| ||  => 0; ["ok"]|; 
+{} => 0; ["ok"]|; 
+{"collections":["tasks"],"methods":{"bump":{"steps":[["update","tasks",{"_id":"t1"},{"$inc":{"n":1}}],["update","tasks",{"_id":"t1"},{"$inc":{"n":1}}]]},"fail":{"steps":[["throw","403","Denied"]],"stub":[["insert","tasks",{"_id":"x","n":1}]]},"make":{"steps":[["insert","tasks",{"n":{"$param":0}}],["return",{"$made":0}]],"stub":true},"set":{"steps":[["update","tasks",{"_id":{"$param":0}},{"$set":{"n":{"$param":1}}}]],"stub":true},"slow":{"steps":[["unblock"],["update","tasks",{"_id":"t1"},{"$inc":{"n":1}}]]}},"publications":{"all":[{"collection":"tasks"}],"mail":[{"collection":"tasks","fields":{"profile.mail":1}}],"name":[{"collection":"tasks","fields":{"profile.name":1}}]}} => 0; ["ok"]|; 
+{"collections":["tasks"],"rules":{"tasks":{"allow":[{"on":"insert","selector":{"n":{"$lte":5}}},{"on":"update","fields":["n"]}],"deny":[{"on":"update","selector":{"locked":true}}]}}}| => 0; ["ok"]|; 
+ => 3; ["bad",1]|; line 1 is no application: it is empty
+|@ => 3; ["bad",1]|; line 1 is no application: it is empty
+  |@ => 3; ["bad",1]|; line 1 is no application: it is not JSON
+~ => 3; ["bad",1]|; line 1 is no application: it is not UTF-8
+{"collections":[1.5]}|5 => 3; ["bad",1]|; line 1 is no application: it is no EJSON value: a number that isn't whole within 53 bits
+5 => 3; ["fault",1,""]|["bad",1]|; line 1 is no application: a part of another form, at its top
+{"x":1}|@ => 3; ["fault",1,""]|["bad",1]|; line 1 is no application: a part of another form, at its top
+{"collections":["t"],"publications":{"p":[{"collection":"t"},{"collection":"t"}]}} => 3; ["fault",4,"publications/p/1"]|["bad",1]|; line 1 is no application: a name that stands twice, at "publications/p/1"
+{"collections":["tasks"],"publications":{"p":[{"collection":"tasks","limit":0}]}} => 3; ["fault",1,"publications/p/0/limit"]|["bad",1]|; line 1 is no application: a part of another form, at "publications/p/0/limit"
+{"collections":["t"],"publications":{"p":[{"collection":"u"}]}} => 3; ["fault",3,"publications/p/0/collection"]|["bad",1]|; line 1 is no application: a collection that is not listed, at "publications/p/0/collection"
+{"collections":["t"],"publications":{"p":[{"collection":"t","sort":[["a",1],["b",1],["c",1],["d",1],["e",1],["f",1],["g",1],["h",1],["i",1]]}]}} => 3; ["fault",5,"publications/p/0/sort"]|["bad",1]|; line 1 is no application: too many parts, at "publications/p/0/sort"
+{"publications":{"a\"/b":5}} => 3; ["fault",1,"publications/a\"/b"]|["bad",1]|; line 1 is no application: a part of another form, at "publications/a\"/b"
+{"collections":[""]} => 3; ["fault",2,"collections/0"]|["bad",1]|; line 1 is no application: a name that is not of 1 to 128 bytes, at "collections/0"
+{"methods":{"m":{"steps":[["jump"]]}}} => 3; ["fault",1,"methods/m/steps/0"]|["bad",1]|; line 1 is no application: a part of another form, at "methods/m/steps/0"
+{"rules":[]} => 3; ["fault",1,"rules"]|["bad",1]|; line 1 is no application: a part of another form, at "rules"
+{"rules":{"u":{}}} => 3; ["fault",3,"rules/u"]|["bad",1]|; line 1 is no application: a collection that is not listed, at "rules/u"
+{"collections":["t"],"methods":{"/t/insert":{"steps":[]}},"rules":{"t":{}}} => 3; ["fault",4,"rules/t"]|["bad",1]|; line 1 is no application: a name that stands twice, at "rules/t"
+{"collections":["t"],"rules":{"t":{"deny":[{"fields":["a"],"on":"insert"}]}}} => 3; ["fault",1,"rules/t/deny/0"]|["bad",1]|; line 1 is no application: a part of another form, at "rules/t/deny/0"
+{"collections":["t"],"rules":{"t":{"deny":[{"fields":[""],"on":"update"}]}}} => 3; ["fault",2,"rules/t/deny/0/fields/0"]|["bad",1]|; line 1 is no application: a name that is not of 1 to 128 bytes, at "rules/t/deny/0/fields/0"
+@||["client","a"]|5 => 3; ["ok"]|["bad",3]|; line 3 is one too many: the application stands on line 1 alone
+@|@ => 3; ["ok"]|["bad",2]|; line 2 is one too many: the application stands on line 1 alone
+"#;
+
+// Each row: `calls`, a command and which call of `read` and of `write` fails, `words` and words that name no
+// command, or `bytes`, a command and how many an input has, ` => `, and what comes of it.
+const RUNS: &str = r#"calls replay 1 9 => 4; ; 
+calls replay 2 9 => 4; ; 
+calls replay 9 1 => 5; ; 
+calls replay 9 9 => 0; ["idle"]|; 
+calls check 1 9 => 4; ; 
+calls check 2 9 => 4; ; 
+calls check 9 1 => 5; ; 
+calls check 9 9 => 3; ["ok"]|["bad",2]|; line 2 is one too many: the application stands on line 1 alone
 words  => 2; ; 
 words replay x => 2; ; 
 words replay  => 2; ; 
@@ -56,10 +89,17 @@ words -h => 2; ;
 words --version => 2; ; 
 words help => 2; ; 
 words Replay => 2; ; 
-words check => 2; ; 
+words check check => 2; ; 
+words check replay => 2; ; 
+words  check => 2; ; 
+words -- check => 2; ; 
+words Check => 2; ; 
+words checks => 2; ; 
 words serve 3000 1 => 2; ; 
-bytes 65536 => 0; ; 
-bytes 65537 => 6; ; 
+bytes replay 65536 => 0; ; 
+bytes replay 65537 => 6; ; 
+bytes check 65536 => 0; ["ok"]|; 
+bytes check 65537 => 6; ; 
 "#;
 
 // An input that shows one line.
@@ -136,17 +176,17 @@ fn outcome(alloc: Global, words: &str, row: &str, read: u64, write: u64) -> Resu
     ran_over(alloc, words, &mut source, write)
 }
 
-fn is_right(alloc: Global, row: &str) -> Result<bool, Fail> {
+fn is_right(alloc: Global, word: &str, row: &str) -> Result<bool, Fail> {
     match row.split_once(" => ") {
-        Some((input, wanted)) => Ok(outcome(alloc, "replay", input, 9, 9)?.as_str() == wanted),
+        Some((input, wanted)) => Ok(outcome(alloc, word, input, 9, 9)?.as_str() == wanted),
         None => Ok(false),
     }
 }
 
-fn of_calls(alloc: Global, calls: &str) -> Result<String, Fail> {
+fn of_calls(alloc: Global, word: &str, calls: &str) -> Result<String, Fail> {
     let (read, write) = calls.split_once(' ').unwrap_or((calls, ""));
     let (read, write) = (read.parse::<u64>()?, write.parse::<u64>()?);
-    outcome(alloc, "replay", SHOWN, read, write)
+    outcome(alloc, word, SHOWN, read, write)
 }
 
 // The application and spaces, so many bytes in all.
@@ -157,17 +197,18 @@ fn spaced(alloc: Global, length: u64) -> Result<Vec<u8>, Mem> {
     Ok(bytes)
 }
 
-fn of_length(alloc: Global, length: &str) -> Result<String, Fail> {
+fn of_length(alloc: Global, word: &str, length: &str) -> Result<String, Fail> {
     let bytes = spaced(alloc, length.parse::<u64>()?)?;
     let mut source = MemorySource::new(Bytes::from_vec(bytes), Calls::new(alloc));
-    ran_over(alloc, "replay", &mut source, 9)
+    ran_over(alloc, word, &mut source, 9)
 }
 
 fn comes_of(alloc: Global, kind: &str, given: &str) -> Result<String, Fail> {
+    let (word, number) = given.split_once(' ').unwrap_or((given, ""));
     match kind {
-        "calls" => of_calls(alloc, given),
+        "calls" => of_calls(alloc, word, number),
         "words" => outcome(alloc, given, SHOWN, 1, 1),
-        _ => of_length(alloc, given),
+        _ => of_length(alloc, word, number),
     }
 }
 
@@ -178,9 +219,17 @@ fn comes_right(alloc: Global, row: &str) -> Result<bool, Fail> {
 }
 
 #[test]
-fn inputs(rt: HostRuntime) -> Result<(), Fail> {
+fn replayed_inputs(rt: HostRuntime) -> Result<(), Fail> {
     for row in INPUTS.lines() {
-        assert!(rt; is_right(rt.alloc(), row)?, "at {row}");
+        assert!(rt; is_right(rt.alloc(), "replay", row)?, "at {row}");
+    }
+    Ok(())
+}
+
+#[test]
+fn checked_inputs(rt: HostRuntime) -> Result<(), Fail> {
+    for row in CHECKED.lines() {
+        assert!(rt; is_right(rt.alloc(), "check", row)?, "at {row}");
     }
     Ok(())
 }

@@ -5,10 +5,16 @@ use clap::Command;
 use std::alloc::{AllocError, Global};
 
 // Each command that is built: its words, and what it does.
-const COMMANDS: [(&str, &str); 1] = [(
-    "replay",
-    "Runs the application and the events on standard input, a line each, and prints what they show",
-)];
+const COMMANDS: [(&str, &str); 2] = [
+    (
+        "check",
+        "Tells whether line 1 of standard input is an application, or what is wrong with it and where",
+    ),
+    (
+        "replay",
+        "Runs the application and the events on standard input, a line each, and prints what they show",
+    ),
+];
 
 /// The text that tells how to call the program, as `clap` lays it out. It ends with a line feed.
 pub fn usage_text(alloc: Global) -> Result<String, AllocError> {

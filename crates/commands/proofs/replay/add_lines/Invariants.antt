@@ -1,6 +1,6 @@
 use Rattle.std.proofs.Common.{◌≡◌, ◌∷◌, [], ◌++◌, List, ℕ, take}
 use Rattle.std.specs.Prelude.{flat_map}
-use Rattle.commands.specs.Input.{line_feed}
+use Rattle.checking.specs.Input.{line_feed}
 use Rattle.commands.proofs.replay.add_lines.Given as goal
 
 abbrev pub invariant-loop-line : goal.invariant-loop-line

@@ -1,6 +1,6 @@
 use Rattle.std.proofs.Common.{◌++◌, true, ap, sym, subst, ◌∙◌, arith}
 use Rattle.world_model.specs.Run.{AreEvents}
-use Rattle.commands.specs.Input.{lines_in}
+use Rattle.checking.specs.Input.{lines_in}
 use Rattle.commands.specs.Replay.{bad_line, events_of, RunsLine}
 use Rattle.commands.proofs.Turns.{whole, turned}
 use Rattle.commands.proofs.replay.run_lines.Goals as goal

@@ -1,6 +1,6 @@
 use Rattle.std.proofs.Common.{◌≡◌, ◌+◌, ◌≤◌, ◌++◌, length}
 use Rattle.world_model.specs.Run.{AreEvents}
-use Rattle.commands.specs.Input.{lines_in}
+use Rattle.checking.specs.Input.{lines_in}
 use Rattle.commands.specs.Replay.{events_of, bad_line}
 use Rattle.commands.proofs.Turns.{whole}
 use Rattle.commands.proofs.replay.run_lines.Given as goal

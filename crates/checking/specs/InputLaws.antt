@@ -9,7 +9,7 @@ use Rattle.std.specs.Prelude.{Option, None}
 use Rattle.std.specs.Result.{result_ok}
 use Rattle.value_model.specs.Val.{Val}
 use Rattle.ejson_codec.specs.Reading.{parsed}
-use Rattle.commands.specs.Input.{line_feed, with_byte, lines_in, value_in}
+use Rattle.checking.specs.Input.{line_feed, with_byte, lines_in, value_in}
 
 not_feed : (b : ℕ) → b ≢ line_feed → (b == line_feed) ≡ false
 not_feed b n = by (b == line_feed) refl

@@ -2,8 +2,8 @@ use Rattle.std.proofs.Common.{Some, ap, sym, ◌∙◌}
 use Rattle.std.specs.Result.{result_ok}
 use Rattle.ejson_value.specs.View.{view}
 use Rattle.ejson_codec.specs.Reading.{parsed}
-use Rattle.commands.specs.InputLaws.{value_of_text, no_value}
-use Rattle.commands.proofs.input.value_in.Goals as goal
+use Rattle.checking.specs.InputLaws.{value_of_text, no_value}
+use Rattle.checking.proofs.input.value_in.Goals as goal
 
 pub returns-in_default : goal.returns-in_default
 returns-in_default c = sym (no_value c.args.line.now c.in_default.ensures.cases.0)

@@ -6,6 +6,10 @@ use Rattle.std.specs.Result.{result_ok}
 use Rattle.value_model.specs.Val.{Val}
 use Rattle.ejson_codec.specs.Reading.{parsed}
 
+-- how long an input may be
+abbrev pub input_limit : ℕ
+input_limit = 65536
+
 abbrev pub line_feed : ℕ
 line_feed = 10
 
@@ -18,6 +22,11 @@ with_byte b (line ∷ lines) = (b ∷ line) ∷ lines
 abbrev pub lines_in : List ℕ → List (List ℕ)
 lines_in [] = []
 lines_in (b ∷ bytes) = if b == line_feed then [] ∷ lines_in bytes else with_byte b (lines_in bytes)
+
+-- the lines behind the first
+abbrev pub rest_of : List (List ℕ) → List (List ℕ)
+rest_of [] = []
+rest_of (l ∷ ls) = ls
 
 -- a line of spaces, tabs and carriage returns alone
 abbrev pub is_blank : List ℕ → Bool

@@ -1,8 +1,8 @@
 use Rattle.std.proofs.Common.{◌≡◌, ◌∷◌, ◌+◌, ◌-◌, suc, take, drop, length, ap, sym, ◌∙◌, arith}
 use Rattle.std.proofs.lemmas.List.{length-drop}
-use Rattle.commands.specs.Input.{lines_in}
-use Rattle.commands.specs.InputLaws.{lines-cut, lines-whole, take_length}
-use Rattle.commands.proofs.input.first_line.Goals as goal
+use Rattle.checking.specs.Input.{lines_in}
+use Rattle.checking.specs.InputLaws.{lines-cut, lines-whole, take_length}
+use Rattle.checking.proofs.input.first_line.Goals as goal
 
 pub returns-then-end-input-clause-lines : goal.returns-then-end-input-clause-lines
 returns-then-end-input-clause-lines c =

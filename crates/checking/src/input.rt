@@ -1,12 +1,15 @@
 //! The lines of an input.
 ghost use Rattle.std.specs.Prelude.{◌≡◌, ◌≢◌, ◌<◌, ◌≤◌, ◌∷◌, ℕ, length, slice_index, option_map, IfOk};
-ghost use Rattle.commands.specs.Input.{line_feed, lines_in, is_blank, value_in};
+ghost use Rattle.checking.specs.Input.{line_feed, lines_in, is_blank, value_in};
 ghost use Rattle.ejson_value.specs.View.{view};
 
 use ejson_codec::{ParseFault, parse};
 use ejson_value::{Mem, Text, Value};
 use std::alloc::Global;
 use std::str;
+
+/// How many bytes an input may have.
+pub const INPUT_LIMIT: u64 = 65536;
 
 // The place of the first line feed, the length where there is none.
 fn line_end(input: &[u8]) -> usize
@@ -44,7 +47,7 @@ pub fn is_blank(line: &[u8]) -> bool
         .all(|b| *b == b' ' || *b == b'\t' || *b == b'\r')
 }
 
-/// The value of a line, if it has one.
+/// The value of a line; none where it is no UTF-8, no JSON (RFC 8259) or no EJSON.
 pub fn value_in(alloc: Global, line: &[u8]) -> Result<Option<Value>, Mem>
     ensures { IfOk result (λ v. option_map view v ≡ value_in line.now) }
 {

@@ -1,0 +1,4 @@
+pub mod Input
+pub mod InputLaws
+pub mod Output
+pub mod Check

@@ -1,0 +1,10 @@
+//! The command `check`, and the lines of an input and of an output, which other commands have too.
+#![tactic(auto)]
+
+mod input;
+mod output;
+mod verdict;
+
+pub use input::{INPUT_LIMIT, first_line, is_blank, value_in};
+pub use output::{add_bad, add_line};
+pub use verdict::{Outcome, check};

@@ -1,0 +1,12 @@
+use Rattle.std.proofs.Common.{sym, subst}
+use Rattle.commands.specs.Cause.{IsTrueRunOf}
+use Rattle.commands.specs.Replay.{AreReplayed}
+use Rattle.commands.specs.ReplayLaws.{replay_is_true}
+use Rattle.commands.proofs.Causes.{on_ok}
+use Rattle.commands.proofs.run.outcome_of.Goals as goal
+
+pub returns-in-Replay-clause-true_run : goal.returns-in-Replay-clause-true_run
+returns-in-Replay-clause-true_run c =
+    let input = c.args.input.now in
+    on_ok c.replay.result (AreReplayed input) (IsTrueRunOf c.args.command input)
+    (λ events. subst (λ k. IsTrueRunOf k input) (sym c.in-Replay.is) (replay_is_true input c.requires events)) c.replay.ensures.events
