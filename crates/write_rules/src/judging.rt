@@ -130,12 +130,12 @@ fn no_rules(alloc: Global) -> Rules
 }
 
 /// What the rules for the collection answer to the act of a client, where `present` is the document
-/// that the store has under the act's id. Each rule on the action must have a selector that is read, or
-/// none. A document that is to be changed or removed must be there. Then a deny rule that holds
-/// refuses the act, and an act that no allow rule holds of is refused too, so that a collection
-/// without rules lets no act through. A rule holds where its selector does, of the new document of an
-/// insert and else of `present`, and where its fields have the first part of each path of the
-/// modifier (allow) or of some path (deny). `Act::is_write` tells whether an act can be judged.
+/// that the store has under the act's id. The first of these that applies: `BadRule`, where a rule on
+/// the action has a selector that is not read; `Absent`, where a document to be changed or removed is
+/// not there; `Denied`, by the first deny rule that holds; `NotAllowed`, where no allow rule holds, as
+/// in a collection without rules; and else `Allowed`. A rule holds where its selector does, of the new
+/// document of an insert and else of `present`, and where its fields have the first part of each path
+/// of the modifier (allow) or of some path (deny). `Act::is_write` tells whether an act can be judged.
 pub fn judge(
     alloc: Global,
     app: &App,
