@@ -1,0 +1,17 @@
+pub mod Appending
+pub mod Longer
+pub mod Live
+pub mod Shows
+pub mod Taken
+pub mod Blocking
+pub mod Counts
+pub mod Fences
+pub mod Documents
+pub mod Readable
+pub mod Handled
+pub mod Tracking
+pub mod Floors
+pub mod Told
+pub mod Takes
+pub mod SubAnswers
+pub mod Order

@@ -1,0 +1,99 @@
+//! Laws of a session's journal. There is no code here: each function is a law of the definitions of `journal_model`,
+//! which its contract states.
+#![tactic(auto)]
+
+ghost use Rattle.std.specs.Prelude.{◌≡◌, ◌↔◌, ◌≤◌, ℕ, ◌+◌, ◌++◌, [], List, true, is_some};
+ghost use Rattle.map_model.specs.Differences.{all_taken};
+ghost use Rattle.merge_model.specs.Merge.{IsMerge};
+ghost use Rattle.merge_model.specs.Publishing.{shown_since};
+ghost use Rattle.value_model.specs.Order.{text_cmp};
+ghost use Rattle.ejson_value.specs.Key.{key_cmp};
+ghost use Rattle.ddp_messages.specs.ServerMessage.{ServerMessage};
+ghost use Rattle.app_model.specs.App.{App};
+ghost use Rattle.journal_model.specs.Texts.{messages_in};
+ghost use Rattle.journal_model.specs.Items.{Item};
+ghost use Rattle.journal_model.specs.Subscriptions.{cursor_of};
+ghost use Rattle.journal_model.specs.Methods.{phase_at};
+ghost use Rattle.journal_model.specs.State.{state_of};
+ghost use Rattle.journal_model.specs.Moments.{Moment};
+ghost use Rattle.journal_model.specs.Shown.{shown_in, calls_of, merged};
+ghost use Rattle.journal_model.specs.Data.{data_of};
+ghost use Rattle.journal_model.specs.Out.{out, out_texts};
+ghost use Rattle.journal_model.specs.Fits.{Fits};
+ghost use Rattle.journal_model.specs.Kept.{AreKept};
+ghost use Rattle.journal_model.specs.Counting.{results, updateds, methods_handled, is_running, is_armed, number_in};
+ghost use Rattle.journal_model.specs.CaughtUp.{AreCaughtUp};
+ghost use Rattle.journal_model.specs.LooksBack.{cursor_in, loaded_at, is_closed, WasFenceOpen, answers_of, answers_by_fate};
+ghost use Rattle.journal_laws.specs.Shows.{AreInOrder};
+ghost use Rattle.journal_laws.specs.Floors.{AreFloors};
+ghost use Rattle.journal_laws.specs.Told.{is_told};
+
+/// A journal that fits a store's moments fits those with later ones.
+pub fn journals_fit_longer_stores()
+    ensures { (app : App) (number : ℕ) (C more : List Moment) (items : List Item) → Fits app number C items → Fits app number (C ++ more) items }
+{}
+
+/// Later moments of the store leave the texts of a journal.
+pub fn longer_stores_leave_the_texts()
+    ensures { (app : App) (number : ℕ) (C more : List Moment) (items : List Item) → Fits app number C items →
+        out_texts (C ++ more) number items ≡ out_texts C number items }
+{}
+
+/// The texts of a journal read as its messages.
+pub fn texts_read_as_the_messages()
+    ensures { (app : App) (number : ℕ) (C : List Moment) (items : List Item) → AreKept C → Fits app number C items →
+        messages_in (out_texts C number items) ≡ out C number items }
+{}
+
+/// Whoever takes a journal's messages has the merge.
+pub fn messages_lead_to_the_merge()
+    ensures { (C : List Moment) (number : ℕ) (items : List Item) → all_taken text_cmp key_cmp [] (data_of (out C number items)) ≡ merged C items }
+{}
+
+/// The merge has, field by field, what the live subscription shows that has published the field longest.
+pub fn the_merge_is_of_what_is_shown()
+    ensures { (C : List Moment) (items : List Item) → AreInOrder C →
+        IsMerge key_cmp text_cmp (shown_in C (state_of items).subs) (shown_since key_cmp text_cmp (calls_of C items)) (merged C items) }
+{}
+
+/// Each method that was handled runs still or has its `result`, and each `result` waits for its fence or has its `updated`.
+pub fn methods_have_a_result_and_an_updated()
+    ensures { (app : App) (number : ℕ) (C : List Moment) (items : List Item) → Fits app number C items → (id : List ℕ) →
+        (methods_handled id items ≡ results id (out C number items) + number_in is_running id (state_of items).methods)
+        × (results id (out C number items) ≡ updateds id (out C number items) + number_in is_armed id (state_of items).methods) }
+{}
+
+/// No `updated` of an id comes before its `result`.
+pub fn results_come_first()
+    ensures { (app : App) (number : ℕ) (C : List Moment) (items : List Item) → Fits app number C items →
+        (id : List ℕ) (ms rest : List ServerMessage) → out C number items ≡ ms ++ rest → updateds id ms ≤ results id ms }
+{}
+
+/// From the `updated` of a method on each live subscription shows at least what the method wrote, or will once it is
+/// loaded.
+pub fn what_is_updated_is_shown()
+    ensures { (app : App) (number : ℕ) (C : List Moment) (items : List Item) → Fits app number C items → AreCaughtUp (state_of items) }
+{}
+
+/// A subscription has one `ready` where it was loaded, and then one `nosub` where it was closed.
+pub fn subscriptions_are_answered()
+    ensures { (app : App) (number : ℕ) (C : List Moment) (items : List Item) → Fits app number C items →
+        (s : ℕ) → answers_of s items ≡ answers_by_fate (is_some (loaded_at s items)) (is_closed s items) }
+{}
+
+/// The place that is kept of a subscription is the one that the journal says.
+pub fn cursor_looks_back()
+    ensures { (app : App) (number : ℕ) (C : List Moment) (items : List Item) → Fits app number C items →
+        (s : ℕ) → cursor_of s (state_of items).subs ≡ cursor_in s items }
+{}
+
+/// The floor that is kept of each live subscription is the one that the journal says.
+pub fn floor_looks_back()
+    ensures { (app : App) (number : ℕ) (C : List Moment) (items : List Item) → Fits app number C items → AreFloors items (state_of items).subs }
+{}
+
+/// Those calls are told `updated` whose fence was open at some time, so each is told when it is open for the first time.
+pub fn told_when_first_open()
+    ensures { (app : App) (number : ℕ) (C : List Moment) (items : List Item) → Fits app number C items →
+        (k : ℕ) → (is_told (phase_at k (state_of items).methods) ≡ true) ↔ WasFenceOpen k items }
+{}

@@ -1,0 +1,17 @@
+pub mod Texts
+pub mod Publication
+pub mod Items
+pub mod Taking
+pub mod Subscriptions
+pub mod Methods
+pub mod State
+pub mod Moments
+pub mod Shown
+pub mod Data
+pub mod Out
+pub mod Fits
+pub mod Counting
+pub mod CaughtUp
+pub mod Kept
+pub mod LooksBack
+pub mod Answering
