@@ -93,8 +93,8 @@ module _ {K : Type 0} {R : K → K → Ordering} (o : IsKeyOrder R) where
       at-held_by n ks next q
       ∙ ap (λ w. cond (list_any (eq_by_cmp R q) ks) (Some (with_number (unwrap_or w []) n)) w) (at-put o pending k (with_number (holders R pending k) n) q)
       ∙ elim (eq_by_cmp R q k) as (λ b. eq_by_cmp R q k ≡ b →
-          cond (list_any (eq_by_cmp R q) ks) (Some (with_number (unwrap_or (cond b (Some (with_number (holders R pending k) n)) (at R pending q)) []) n)) (cond b (Some (with_number (holders R pending k) n)) (at R pending q))
-          ≡ cond (b || list_any (eq_by_cmp R q) ks) (Some (with_number (holders R pending q) n)) (at R pending q)) [
+      cond (list_any (eq_by_cmp R q) ks) (Some (with_number (unwrap_or (cond b (Some (with_number (holders R pending k) n)) (at R pending q)) []) n)) (cond b (Some (with_number (holders R pending k) n)) (at R pending q))
+      ≡ cond (b || list_any (eq_by_cmp R q) ks) (Some (with_number (holders R pending q) n)) (at R pending q)) [
         | true ↦ λ t.
             elim (list_any (eq_by_cmp R q) ks) as (λ c. cond c (Some (with_number (with_number (holders R pending k) n) n)) (Some (with_number (holders R pending k) n)) ≡ Some (with_number (holders R pending k) n)) [
               | true ↦ ap Some (with_number-again (holders R pending k) n)

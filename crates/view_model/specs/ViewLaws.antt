@@ -38,13 +38,13 @@ module _ {K D : Type 0} {R : K → K → Ordering} (o : IsKeyOrder R) where
   at-shown_at server pending v k q s =
       elim (is_held R pending k) as (λ b. is_held R pending k ≡ b → at R (cond b v (set R v k (at R server k))) q ≡ cond (eq_by_cmp R q k && not (is_held R pending q)) (at R server q) (at R v q)) [
         | true ↦ λ h. elim (eq_by_cmp R q k) as (λ b. eq_by_cmp R q k ≡ b → at R v q ≡ cond (b && not (is_held R pending q)) (at R server q) (at R v q)) [
-            | true ↦ λ t. ap (λ b. cond (not b) (at R server q) (at R v q)) (sym (ap (is_held R pending) (key_is o q k t) ∙ h))
-            | false ↦ λ t. refl
-          ] refl
+          | true ↦ λ t. ap (λ b. cond (not b) (at R server q) (at R v q)) (sym (ap (is_held R pending) (key_is o q k t) ∙ h))
+          | false ↦ λ t. refl
+        ] refl
         | false ↦ λ h. at-set o v k (at R server k) q s ∙ elim (eq_by_cmp R q k) as (λ b. eq_by_cmp R q k ≡ b → cond b (at R server k) (at R v q) ≡ cond (b && not (is_held R pending q)) (at R server q) (at R v q)) [
-            | true ↦ λ t. ap (at R server) (sym (key_is o q k t)) ∙ ap (λ b. cond (not b) (at R server q) (at R v q)) (sym (ap (is_held R pending) (key_is o q k t) ∙ h))
-            | false ↦ λ t. refl
-          ] refl
+          | true ↦ λ t. ap (at R server) (sym (key_is o q k t)) ∙ ap (λ b. cond (not b) (at R server q) (at R v q)) (sym (ap (is_held R pending) (key_is o q k t) ∙ h))
+          | false ↦ λ t. refl
+        ] refl
       ] refl
 
   either : (b c : Bool) (x y : Option D) → cond (c && not b) x (cond (not b) x y) ≡ cond (not b) x y
@@ -59,7 +59,7 @@ module _ {K D : Type 0} {R : K → K → Ordering} (o : IsKeyOrder R) where
       at-shown server pending (shown_at R server pending v k) ks q (sorted-shown_at server pending v k s)
       ∙ ap (cond (list_any (eq_by_cmp R q) ks && not (is_held R pending q)) (at R server q)) (at-shown_at server pending v k q s)
       ∙ elim (eq_by_cmp R q k) as (λ b. cond (list_any (eq_by_cmp R q) ks && not (is_held R pending q)) (at R server q) (cond (b && not (is_held R pending q)) (at R server q) (at R v q))
-          ≡ cond ((b || list_any (eq_by_cmp R q) ks) && not (is_held R pending q)) (at R server q) (at R v q)) [
+      ≡ cond ((b || list_any (eq_by_cmp R q) ks) && not (is_held R pending q)) (at R server q) (at R v q)) [
         | true ↦ either (is_held R pending q) (list_any (eq_by_cmp R q) ks) (at R server q) (at R v q)
         | false ↦ refl
       ]
