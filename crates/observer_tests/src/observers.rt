@@ -1,4 +1,7 @@
-//! What an observer says of changes, and that it is the difference of two whole queries.
+//! What an observer says of changes.
+ghost use Rattle.std.specs.Prelude.{◌≡◌, IfOk};
+ghost use Rattle.live_observer.specs.Observing.{IsPlanOf};
+
 use crate::values::{document, halves, list, text, value};
 use app_model::App;
 use ejson_value::{Change, Changes, Contents, Doc, Key, Publishes, Text, Value};
@@ -106,6 +109,7 @@ fn stepped<L: Ledger>(
     requires name { blank.name ≡ L.name }
     requires parts { blank.parts ≡ L.parts }
     requires whole { blank.parts ≡ 1 }
+    ensures { IfOk result (λ both. IsPlanOf observer.now both.1) }
 {
     let mut steps = Steps::<L>::new(blank);
     Ok(observer.step(changes.as_slice(), &mut steps)?)
