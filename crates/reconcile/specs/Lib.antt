@@ -1,0 +1,4 @@
+pub mod Originals
+pub mod OriginalLaws
+pub mod Index
+pub mod Taking
