@@ -1,16 +1,13 @@
 -- What is kept of a document after a subscription's news.
-use Rattle.std.proofs.Common.{◌≡◌, ℕ, ◌==◌, Bool, true, false, cond, not, ◌||◌, List, [], ◌∷◌, ◌++◌, filter, Option, Some, None, option_map, option_and_then, option_copied, is_some, unwrap_or, refl, sym, ap, subst, ◌∙◌, true≢false}
+use Rattle.std.proofs.Common.{◌≡◌, ℕ, ◌==◌, Bool, true, false, cond, not, ◌||◌, List, [], ◌∷◌, ◌++◌, filter, Option, Some, None, option_and_then, option_copied, is_some, unwrap_or, refl, sym, ap, ◌∙◌, true≢false}
 use Rattle.std.specs.Option.{option_or}
 use Rattle.std.specs.Borrow.{Bor}
 use Rattle.std.specs.Ordering.{eq_by_cmp, is_eq}
 use Rattle.std.specs.Map.{keys_of}
-use Rattle.std.specs.BTreeMap.{insert_entry}
 use Rattle.std.specs.declared.cmp.Ordering.{Ordering}
-use Rattle.std.proofs.lemmas.List.{map-append}
-use Rattle.map_model.specs.Maps.{at, IsSorted, filter_map_entries}
-use Rattle.map_model.specs.MapLaws.{at-put, key_is, at-union, sorted-union, at-filter_map_entries}
+use Rattle.map_model.specs.Maps.{at, IsSorted}
+use Rattle.map_model.specs.MapLaws.{key_is, at-union, sorted-union, at-filter_map_entries}
 use Rattle.map_model.specs.Orders.{IsAbove}
-use Rattle.map_model.specs.OrderLaws.{IsAbove-from_sorted}
 use Rattle.value_model.specs.Val.{Val, Entries}
 use Rattle.value_model.specs.Order.{text_cmp}
 use Rattle.value_model.specs.OrderLaws.{compare_is_eq}
@@ -61,43 +58,6 @@ at-push R (d ∷ es) e k =
     let rest = at-push R es e k in
     elim (eq_by_cmp R k d.0) as (λ b. cond b (Some d.1) (at R (es ++ e ∷ []) k) ≡ option_or (cond b (Some d.1) (at R es k)) (cond (eq_by_cmp R k e.0) (Some e.1) None)) [ true ↦ refl | false ↦ rest ]
 
-or_none : {X : Type 0} (x : Option X) → option_or x None ≡ x
-or_none None = refl
-or_none (Some v) = refl
-
-abbrev pub claim_of : ℕ → Option Val → Option (List (ℕ × Val))
-claim_of sub w = option_map (λ v. (sub, v) ∷ []) w
-
-module _ (sub : ℕ) (fields before made : List (List ℕ × List (ℕ × Val))) (all done : Entries) (name : List ℕ) (v : Val) (rest : Entries)
-    (whole : all ≡ done ++ (name, v) ∷ rest) (sorted : IsSorted text_cmp all)
-    (so_far : (f : List ℕ) → at text_cmp made f ≡ cond (is_some (at text_cmp fields f)) (at text_cmp before f) (option_or (claim_of sub (at text_cmp done f)) (at text_cmp before f))) where
-  fresh : at text_cmp done name ≡ None
-  fresh = at-above text_cmp done name (IsAbove-from_sorted name_order.total (keys_of done) name (keys_of rest)
-      (subst (λ ks. Rattle.std.specs.List.Sorted.IsStrictlySortedBy text_cmp ks) (map-append (λ (e : List ℕ × Val). e.0) done ((name, v) ∷ rest)) (subst (IsSorted text_cmp) whole sorted)))
-
-  pub claim_next : (claims : List (ℕ × Val)) → claims ≡ (sub, v) ∷ [] → is_some (at text_cmp fields name) ≡ false → (f : List ℕ) → at text_cmp (insert_entry text_cmp made name claims) f ≡ cond (is_some (at text_cmp fields f)) (at text_cmp before f) (option_or (claim_of sub (at text_cmp (done ++ (name, v) ∷ []) f)) (at text_cmp before f))
-  claim_next claims is none f =
-      at-put name_order made name claims f
-      ∙ elim (eq_by_cmp text_cmp f name) as (λ b. eq_by_cmp text_cmp f name ≡ b → cond b (Some claims) (at text_cmp made f) ≡ cond (is_some (at text_cmp fields f)) (at text_cmp before f) (option_or (claim_of sub (option_or (at text_cmp done f) (cond b (Some v) None))) (at text_cmp before f))) [
-        | true ↦ λ t. ap Some is ∙ sym (
-            ap (λ b. cond b (at text_cmp before f) (option_or (claim_of sub (option_or (at text_cmp done f) (Some v))) (at text_cmp before f))) (ap (λ q. is_some (at text_cmp fields q)) (key_is name_order f name t) ∙ none)
-            ∙ ap (λ x. option_or (claim_of sub (option_or x (Some v))) (at text_cmp before f)) (ap (at text_cmp done) (key_is name_order f name t) ∙ fresh))
-        | false ↦ λ t. so_far f ∙ ap (λ x. cond (is_some (at text_cmp fields f)) (at text_cmp before f) (option_or (claim_of sub x) (at text_cmp before f))) (sym (or_none (at text_cmp done f)))
-      ] refl
-      ∙ ap (λ x. cond (is_some (at text_cmp fields f)) (at text_cmp before f) (option_or (claim_of sub x) (at text_cmp before f))) (sym (at-push text_cmp done (name, v) f))
-
-  pub claim_passed : is_some (at text_cmp fields name) ≡ true → (f : List ℕ) → at text_cmp made f ≡ cond (is_some (at text_cmp fields f)) (at text_cmp before f) (option_or (claim_of sub (at text_cmp (done ++ (name, v) ∷ []) f)) (at text_cmp before f))
-  claim_passed there f =
-      so_far f
-      ∙ elim (eq_by_cmp text_cmp f name) as (λ b. eq_by_cmp text_cmp f name ≡ b → cond (is_some (at text_cmp fields f)) (at text_cmp before f) (option_or (claim_of sub (at text_cmp done f)) (at text_cmp before f)) ≡ cond (is_some (at text_cmp fields f)) (at text_cmp before f) (option_or (claim_of sub (option_or (at text_cmp done f) (cond b (Some v) None))) (at text_cmp before f))) [
-        | true ↦ λ t.
-            let known = ap (λ q. is_some (at text_cmp fields q)) (key_is name_order f name t) ∙ there in
-            ap (λ b. cond b (at text_cmp before f) (option_or (claim_of sub (at text_cmp done f)) (at text_cmp before f))) known
-            ∙ sym (ap (λ b. cond b (at text_cmp before f) (option_or (claim_of sub (option_or (at text_cmp done f) (Some v))) (at text_cmp before f))) known)
-        | false ↦ λ t. ap (λ x. cond (is_some (at text_cmp fields f)) (at text_cmp before f) (option_or (claim_of sub x) (at text_cmp before f))) (sym (or_none (at text_cmp done f)))
-      ] refl
-      ∙ ap (λ x. cond (is_some (at text_cmp fields f)) (at text_cmp before f) (option_or (claim_of sub x) (at text_cmp before f))) (sym (at-push text_cmp done (name, v) f))
-
 -- a subscription that has no claim loses none
 pub no_claim : (sub : ℕ) (claims : List (ℕ × Val)) → is_some (claimed sub claims) ≡ false → placed sub None claims ≡ claims
 no_claim sub [] e = refl
@@ -128,41 +88,11 @@ kept_as sub claims (Some v) None e h = absurd (true≢false (sym h))
 kept_as sub claims (Some v) (Some w) e h = give_same claims sub w (e ∙ ap Some ((compare_is_eq v w).0 h))
 
 -- where nothing changes, the claims are what they would be
-changed_is : (sub : ℕ) (w : Option Val) (claims : List (ℕ × Val)) → unwrap_or (changed_claims sub w claims) claims ≡ placed sub w claims
+pub changed_is : (sub : ℕ) (w : Option Val) (claims : List (ℕ × Val)) → unwrap_or (changed_claims sub w claims) claims ≡ placed sub w claims
 changed_is sub w claims = elim (keeps sub w claims) as (λ b. keeps sub w claims ≡ b → unwrap_or (cond b None (Some (placed sub w claims))) claims ≡ placed sub w claims) [
   | true ↦ λ h. sym (kept_as sub claims (claimed sub claims) w refl h)
   | false ↦ λ _. refl
 ] refl
-
-abbrev pub fields_changed : ℕ → Option Entries → List (List ℕ × List (ℕ × Val)) → List (List ℕ × List (ℕ × Val))
-fields_changed sub doc fields = filter_map_entries (λ f claims. changed_claims sub (value_in doc f) claims) fields
-
-claims_none : (sub : ℕ) (x : Option (List (ℕ × Val))) → unwrap_or (option_and_then (λ claims. changed_claims sub None claims) x) (unwrap_or x []) ≡ placed sub None (unwrap_or x [])
-claims_none sub None = refl
-claims_none sub (Some claims) = changed_is sub None claims
-
-claims_some : (sub : ℕ) (w : Option Val) (x : Option (List (ℕ × Val))) (made : Option (List (ℕ × Val))) → made ≡ option_and_then (λ claims. changed_claims sub w claims) x
-    → unwrap_or (cond (is_some x) made (option_or (claim_of sub w) made)) (unwrap_or x []) ≡ placed sub w (unwrap_or x [])
-claims_some sub None None made e = ap (λ m. unwrap_or m []) e
-claims_some sub (Some v) None made e = refl
-claims_some sub w (Some claims) made e = ap (λ m. unwrap_or m claims) e ∙ changed_is sub w claims
-
--- the claims on a field once no document is published
-pub claims_without : (sub : ℕ) (fields made : List (List ℕ × List (ℕ × Val))) (f : List ℕ) → IsSorted text_cmp fields → made ≡ fields_changed sub None fields
-    → unwrap_or (at text_cmp made f) (unwrap_or (at text_cmp fields f) []) ≡ placed sub None (unwrap_or (at text_cmp fields f) [])
-claims_without sub fields made f s is =
-    ap (λ m. unwrap_or (at text_cmp m f) (unwrap_or (at text_cmp fields f) [])) is
-    ∙ ap (λ x. unwrap_or x (unwrap_or (at text_cmp fields f) [])) (at-filter_map_entries name_order (λ q claims. changed_claims sub None claims) fields f s)
-    ∙ claims_none sub (at text_cmp fields f)
-
--- and once this one is
-pub claims_with : (sub : ℕ) (doc : Entries) (fields made all : List (List ℕ × List (ℕ × Val))) (f : List ℕ) → IsSorted text_cmp fields → made ≡ fields_changed sub (Some doc) fields
-    → at text_cmp all f ≡ cond (is_some (at text_cmp fields f)) (at text_cmp made f) (option_or (claim_of sub (at text_cmp doc f)) (at text_cmp made f))
-    → unwrap_or (at text_cmp all f) (unwrap_or (at text_cmp fields f) []) ≡ placed sub (at text_cmp doc f) (unwrap_or (at text_cmp fields f) [])
-claims_with sub doc fields made all f s is more =
-    ap (λ x. unwrap_or x (unwrap_or (at text_cmp fields f) [])) more
-    ∙ claims_some sub (at text_cmp doc f) (at text_cmp fields f) (at text_cmp made f)
-    (ap (λ m. at text_cmp m f) is ∙ at-filter_map_entries name_order (λ q claims. changed_claims sub (value_in (Some doc) q) claims) fields f s)
 
 or_unwrap : {X : Type 0} (x y : Option X) (d : X) → unwrap_or (option_or x y) d ≡ unwrap_or x (unwrap_or y d)
 or_unwrap None y d = refl

@@ -1,3 +1,4 @@
+pub mod Beside
 pub mod Counting
 pub mod KeptAfter
 pub mod Listing

@@ -17,8 +17,9 @@ use Rattle.ejson_value.specs.declared.key.Key.{Key}
 use Rattle.ejson_value.specs.Key.{name_order, key_cmp, key_order}
 use Rattle.merge_box.specs.Held.{KeptDoc, same_value, with_change, IsHeld, SameDoc}
 use Rattle.merge_box.specs.Index.{Lists, is_listed}
-use Rattle.merge_box.specs.State.{KeptDocs, Told, BoxState, IsBoxAfter, Tells, Answers, IsPlan, IsBox}
+use Rattle.merge_box.specs.State.{KeptDocs, Told, BoxState, shared_count, IsBoxAfter, Tells, Answers, IsPlan, IsBox}
 use Rattle.merge_box.specs.Inside.{docs_of, carried_out, with_change_if, after_at, IsGrown, IsInside, IsPlannedAt, IsPublished}
+use Rattle.merge_box.proofs.Counting.{shared_docs}
 use Rattle.merge_box.proofs.KeptAfter.{no_claim}
 use Rattle.merge_box.proofs.Places.{same_change, held_same, docs_same, kept_same, held_docs, sorted-docs_of, merged_docs, kept_at-carried_out, sorted-carried_out, after_same}
 
@@ -62,6 +63,10 @@ module _ (kept changes : KeptDocs) (lists : Lists) (inside : IsInside kept chang
 
     pub kept_grown : docs_of grown ≡ docs_of kept
     kept_grown = docs_same kept grown inside.by_key sorted inside.held (λ k. (grows.docs k).held (inside.held k)) (λ k. (grows.docs k).same)
+
+    -- and no more of them are shared
+    pub counted_grown : shared_count grown ≡ shared_count kept
+    counted_grown = sym (shared_docs grown) ∙ ap shared_count kept_grown ∙ shared_docs kept
 
 pub planned_grown : (kept changes : KeptDocs) (lists : Lists) (inside : IsInside kept changes lists) (grown : KeptDocs) (more : Lists) → IsGrown kept grown → IsInside grown changes more → docs_of (carried_out changes grown) ≡ docs_of (carried_out changes kept)
 planned_grown kept changes lists inside grown more grows now =

@@ -1,5 +1,5 @@
 -- What contracts see of what is kept of one document.
-use Rattle.std.specs.Prelude.{◌≡◌, ℕ, Bool, true, false, not, List, Option, Some, None, IsSome, option_and_then, refl, if◌then◌else◌}
+use Rattle.std.specs.Prelude.{◌≡◌, ℕ, Bool, true, false, not, List, [], ◌∷◌, Option, Some, None, IsSome, option_and_then, option_map, refl, if◌then◌else◌}
 use Rattle.std.proofs.lemmas.Map.Entries.{option_filter}
 use Rattle.std.specs.declared.cmp.Ordering.{Ordering}
 use Rattle.std.specs.BTreeMap.{insert_entry}
@@ -55,6 +55,11 @@ keeps sub value claims = same_option (claimed sub claims) value
 -- the claims on a field, where the subscription's value changes them
 abbrev pub changed_claims : ℕ → Option Val → List (ℕ × Val) → Option (List (ℕ × Val))
 changed_claims sub value claims = if keeps sub value claims then None else Some (placed sub value claims)
+
+-- the same, where no claims may be there yet
+abbrev pub changed_field : ℕ → Option (List (ℕ × Val)) → Option Val → Option (List (ℕ × Val))
+changed_field sub None value = option_map (λ v. (sub, v) ∷ []) value
+changed_field sub (Some claims) value = changed_claims sub value claims
 
 -- what is kept after a change: its publishers, and its claims on each field that it changes
 abbrev pub with_change : KeptDoc → KeptDoc → KeptDoc

@@ -4,3 +4,4 @@ pub mod Index
 pub mod State
 pub mod Inside
 pub mod StateCoding
+pub mod Sides

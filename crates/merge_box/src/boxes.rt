@@ -25,6 +25,8 @@ pub struct MergeBox {
     alloc: Global,
     // With places for what the changes bring.
     kept: KeptMap,
+    // How many documents two or more subscriptions publish.
+    listed: u64,
     index: Index,
     // The last plan: its subscription, and what it changes.
     sub: u64,
@@ -32,7 +34,8 @@ pub struct MergeBox {
 }
 
 impl Model for MergeBox {
-    ghost use Rattle.merge_box.specs.State.{BoxState};
+    ghost use Rattle.std.specs.Prelude.{◌≡◌};
+    ghost use Rattle.merge_box.specs.State.{BoxState, shared_count};
     ghost use Rattle.merge_box.specs.StateCoding.{box_code};
     ghost use Rattle.merge_box.specs.Index.{lists_of};
     ghost use Rattle.merge_box.specs.Inside.{docs_of, carried_out, IsInside};
@@ -43,7 +46,7 @@ impl Model for MergeBox {
 
     ghost view = { λ a. record { kept = docs_of a.kept.entries; planned = docs_of (carried_out a.changes.entries a.kept.entries) } };
 
-    ghost invariant = { λ a. IsInside a.kept.entries a.changes.entries (lists_of a.index.entries) };
+    ghost invariant = { λ a. IsInside a.kept.entries a.changes.entries (lists_of a.index.entries) × (a.listed ≡ shared_count a.kept.entries) };
 }
 
 /// What a planned call answers once it is carried out. What it changes waits in the box, with all
@@ -99,6 +102,7 @@ impl MergeBox {
         MergeBox {
             alloc,
             kept: BTreeMap::new(alloc),
+            listed: 0,
             index: BTreeMap::new(alloc),
             sub: 0,
             changes: BTreeMap::new(alloc),
@@ -158,7 +162,14 @@ impl MergeBox {
         ensures messages { map said result ≡ plan }
     {
         let changes = mem::replace(&mut self.changes, BTreeMap::new(self.alloc));
-        take_all(&mut self.kept, &mut self.index, self.sub, changes);
+        let listed = take_all(
+            &mut self.kept,
+            &mut self.index,
+            self.sub,
+            changes,
+            self.listed,
+        );
+        self.listed = listed;
         forget_unlisted(&mut self.index, self.sub);
         let _len = self.kept.len();
         plan.messages
@@ -197,17 +208,10 @@ impl MergeBox {
         Ok(doc)
     }
 
-    /// How many documents two or more subscriptions publish. It looks at each document.
+    /// How many documents two or more subscriptions publish. It looks at none of them.
     pub fn listed(&self) -> u64
         ensures { result ≡ shared_count self.now.kept }
     {
-        let _len = self.kept.len();
-        let mut count = 0;
-        for (_, held) in self.kept.iter() {
-            if held.is_shared() {
-                count += 1;
-            }
-        }
-        count
+        self.listed
     }
 }

@@ -12,9 +12,10 @@ ghost use Rattle.value_model.specs.Order.{text_cmp};
 ghost use Rattle.value_model.specs.Doc.{put};
 ghost use Rattle.ejson_value.specs.View.{view};
 ghost use Rattle.merge_box.specs.State.{is_shared};
-ghost use Rattle.merge_box.specs.Held.{value_in, same_value, put_some, unseen, lost, changed_claims, with_change, IsHeld, IsChange, SameDoc, IsDocGrown, HasPlaces};
+ghost use Rattle.merge_box.specs.Held.{value_in, same_value, put_some, unseen, lost, changed_claims, changed_field, with_change, IsHeld, IsChange, SameDoc, IsDocGrown, HasPlaces};
 
 use crate::claims::Claims;
+use crate::sides::Sides;
 use ejson_value::{Doc, Mem, Names, Text, Value, compare, copy};
 use std::alloc::Global;
 use std::collections::BTreeMap;
@@ -78,16 +79,6 @@ fn has_other(others: &[u64], first: u64) -> bool
     false
 }
 
-// What the document has as the field of this name.
-fn value_in<'a>(doc: Option<&'a Doc>, name: &Text) -> Option<&'a Value>
-    ensures { option_map (λ v. view v.now) result ≡ value_in (option_copied doc.entry) name.now }
-{
-    match doc {
-        None => None,
-        Some(doc) => doc.get(name),
-    }
-}
-
 // Puts copies of the name and of the value.
 fn put_copy(doc: &mut Doc, name: &Text, value: &Value) -> Result<(), Mem>
     ensures { OnOk result (doc.new ≡ put doc.old name.now (view value.now)) }
@@ -101,6 +92,21 @@ fn put_claims(fields: &mut BTreeMap<Text, Claims>, name: &Text, claims: Claims) 
 {
     drop(fields.insert(name.copy()?, claims)?);
     Ok(())
+}
+
+// Puts a claim of `sub` alone on the field.
+fn put_first(
+    made: &mut BTreeMap<Text, Claims>,
+    alloc: Global,
+    name: &Text,
+    sub: u64,
+    value: &Value,
+) -> Result<(), Mem>
+    ensures { OnOk result (made.new.entries ≡ insert_entry text_cmp made.old.entries name.now ((sub, view value.now) ∷ [])) }
+{
+    let mut claims = Claims::new(alloc);
+    claims.push(sub, value)?;
+    put_claims(made, name, claims)
 }
 
 // Puts what becomes of the claims on a field, if `sub` changes them.
@@ -121,59 +127,44 @@ fn put_changed(
     }
 }
 
-// The claims on the fields that had some, where what `sub` publishes now changes them.
-fn fields_after(
+// The same, where there may be no claims yet.
+fn put_field(
+    made: &mut BTreeMap<Text, Claims>,
+    alloc: Global,
+    name: &Text,
+    claims: Option<&Claims>,
+    sub: u64,
+    value: Option<&Value>,
+) -> Result<(), Mem>
+    ensures { OnOk result (made.new.entries ≡ put_some text_cmp made.old.entries name.now
+        (changed_field sub (option_copied claims.entry) (option_map (λ v. view v.now) value.entry))) }
+{
+    match (claims, value) {
+        (None, None) => Ok(()),
+        (None, Some(value)) => put_first(made, alloc, name, sub, value),
+        (Some(claims), value) => put_changed(made, alloc, name, claims, sub, value),
+    }
+}
+
+// The claims on each field that changes, once `sub` publishes this document.
+fn fields_beside(
     alloc: Global,
     fields: &BTreeMap<Text, Claims>,
     sub: u64,
-    doc: Option<&Doc>,
+    doc: &Doc,
 ) -> Result<BTreeMap<Text, Claims>, Mem>
-    ensures { IfOk result (λ made. made.entries ≡
-        filter_map_entries (λ f claims. changed_claims sub (value_in (option_copied doc.entry) f) claims) fields.now.entries) }
+    ensures { IfOk result (λ made. (f : List ℕ) → unwrap_or (at text_cmp made.entries f) (unwrap_or (at text_cmp fields.now.entries f) []) ≡
+        placed sub (at text_cmp doc.now f) (unwrap_or (at text_cmp fields.now.entries f) [])) }
 {
     let mut made = BTreeMap::new(alloc);
-    for (name, claims) in fields.iter() {
-        put_changed(&mut made, alloc, name, claims, sub, value_in(doc, name))?;
+    let mut sides = Sides::of(fields, doc);
+    while let Some(side) = sides.next() {
+        put_field(&mut made, alloc, side.name, side.kept, sub, side.given)?;
     }
     Ok(made)
 }
 
-// Puts a claim of `sub` alone on the field.
-fn put_first(
-    made: &mut BTreeMap<Text, Claims>,
-    alloc: Global,
-    name: &Text,
-    sub: u64,
-    value: &Value,
-) -> Result<(), Mem>
-    ensures { OnOk result (made.new.entries ≡ insert_entry text_cmp made.old.entries name.now ((sub, view value.now) ∷ [])) }
-{
-    let mut claims = Claims::new(alloc);
-    claims.push(sub, value)?;
-    put_claims(made, name, claims)
-}
-
-// Puts a claim of `sub` on each field of the document that had none.
-fn claim_others(
-    alloc: Global,
-    made: &mut BTreeMap<Text, Claims>,
-    fields: &BTreeMap<Text, Claims>,
-    sub: u64,
-    doc: &Doc,
-) -> Result<(), Mem>
-    ensures { OnOk result ((f : List ℕ) → at text_cmp made.new.entries f ≡
-        (if is_some (at text_cmp fields.now.entries f) then at text_cmp made.old.entries f
-        else option_or (option_map (λ v. (sub, v) ∷ []) (at text_cmp doc.now f)) (at text_cmp made.old.entries f))) }
-{
-    for (name, value) in doc.iter() {
-        if !fields.contains_key(name) {
-            put_first(made, alloc, name, sub, value)?;
-        }
-    }
-    Ok(())
-}
-
-// The claims on each field that changes, with what `sub` publishes now.
+// The same, where `sub` may publish no document any more.
 fn changed_fields(
     alloc: Global,
     fields: &BTreeMap<Text, Claims>,
@@ -183,14 +174,9 @@ fn changed_fields(
     ensures { IfOk result (λ made. (f : List ℕ) → unwrap_or (at text_cmp made.entries f) (unwrap_or (at text_cmp fields.now.entries f) []) ≡
         placed sub (value_in (option_copied doc.entry) f) (unwrap_or (at text_cmp fields.now.entries f) [])) }
 {
-    let _len = fields.len();
-    let mut made = fields_after(alloc, fields, sub, doc)?;
     match doc {
-        None => Ok(made),
-        Some(doc) => {
-            claim_others(alloc, &mut made, fields, sub, doc)?;
-            Ok(made)
-        }
+        None => fields_beside(alloc, fields, sub, &Doc::new(alloc)),
+        Some(doc) => fields_beside(alloc, fields, sub, doc),
     }
 }
 

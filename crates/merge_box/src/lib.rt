@@ -7,6 +7,7 @@ mod held;
 mod index;
 mod messages;
 mod plan;
+mod sides;
 
 pub use boxes::{MergeBox, MergePlan};
 pub use ejson_value::{DataList, DataMsg};

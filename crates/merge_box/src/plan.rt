@@ -1,5 +1,5 @@
 //! What becomes of each document that a call changes.
-ghost use Rattle.std.specs.Prelude.{◌≡◌, ◌==◌, ◌++◌, ◌&&◌, ℕ, true, false, map, option_map, option_to_list, Option, Some, None, IsSome, IfOk, OnOk, if◌then◌else◌};
+ghost use Rattle.std.specs.Prelude.{◌≡◌, ◌==◌, ◌++◌, ◌&&◌, ◌+◌, ◌<◌, ◌≤◌, ◌^◌, ℕ, true, false, map, option_map, option_to_list, Option, Some, None, IsSome, IfOk, OnOk, if◌then◌else◌};
 ghost use Rattle.std.specs.Ordering.{eq_by_cmp};
 ghost use Rattle.map_model.specs.Maps.{at, filter_map_entries};
 ghost use Rattle.map_model.specs.Differences.{between};
@@ -10,6 +10,7 @@ ghost use Rattle.ejson_value.specs.declared.key.Key.{Key};
 ghost use Rattle.ejson_value.specs.Key.{key_cmp};
 ghost use Rattle.merge_box.specs.Held.{KeptDoc, same_value, with_change, IsHeld, IsChange, SameDoc, HasPlaces};
 ghost use Rattle.merge_box.specs.Index.{lists_of, is_listed};
+ghost use Rattle.merge_box.specs.State.{is_shared, shared_count};
 ghost use Rattle.ejson_value.specs.Messages.{said};
 ghost use Rattle.ejson_value.specs.Changes.{news_of};
 ghost use Rattle.merge_box.specs.Inside.{after_at, IsGrown, IsReady, IsInside, IsPlannedAt, IsPublished};
@@ -191,19 +192,71 @@ fn unlist_unpublished(index: &mut Index, sub: u64, key: &Key, change: &Held)
     }
 }
 
-/// Carries the changes out. It takes no memory.
-pub(crate) fn take_all(kept: &mut KeptMap, index: &mut Index, sub: u64, changes: KeptMap)
-    requires { IsInside kept.old.entries changes.entries (lists_of index.old.entries) }
+// Whether two or more subscriptions publish the document at the key.
+fn is_shared_at(kept: &KeptMap, key: &Key) -> bool
+    ensures { result ≡ is_shared (publishers_at key_cmp kept.now.entries key.now) }
+{
+    match kept.get(key) {
+        None => false,
+        Some(held) => held.is_shared(),
+    }
+}
+
+// How many there are, where one was among them before or not, and is now or not.
+fn counted(count: u64, was: bool, is: bool) -> u64
+    requires had { (if was then 1 else 0) ≤ count }
+    requires fits { was ≡ false → is ≡ true → count + 1 < 2 ^ 64 }
+    ensures { result + (if was then 1 else 0) ≡ count + (if is then 1 else 0) }
+{
+    match (was, is) {
+        (true, false) => count - 1,
+        (false, true) => count + 1,
+        _ => count,
+    }
+}
+
+// Carries out the change of one document, where so many were published by two or more subscriptions, and answers how many are.
+fn take_counted(kept: &mut KeptMap, count: u64, key: &Key, change: Held) -> u64
+    requires ready { IsReady kept.old.entries key.now change }
+    requires count { count ≡ shared_count kept.old.entries }
+    ensures same { SameDoc (with_change (kept_at key_cmp kept.old.entries key.now) change) (kept_at key_cmp kept.new.entries key.now) }
+    ensures held { IsHeld (kept_at key_cmp kept.new.entries key.now) }
+    ensures others { (k : Key) → eq_by_cmp key_cmp k key.now ≡ false →
+        at key_cmp kept.new.entries k ≡ at key_cmp kept.old.entries k }
+    ensures count { result ≡ shared_count kept.new.entries }
+{
+    let _before = kept.len();
+    let was = is_shared_at(kept, key);
+    let is = change.is_shared();
+    take_or_trim(kept, key, change);
+    let _after = kept.len();
+    counted(count, was, is)
+}
+
+/// Carries the changes out, where so many documents were published by two or more subscriptions,
+/// and answers how many are. It takes no memory.
+pub(crate) fn take_all(
+    kept: &mut KeptMap,
+    index: &mut Index,
+    sub: u64,
+    changes: KeptMap,
+    count: u64,
+) -> u64
+    requires inside { IsInside kept.old.entries changes.entries (lists_of index.old.entries) }
+    requires count { count ≡ shared_count kept.old.entries }
     ensures same { (k : Key) → SameDoc (after_at changes.entries kept.old.entries k) (kept_at key_cmp kept.new.entries k) }
     ensures held { (k : Key) → IsHeld (kept_at key_cmp kept.new.entries k) }
     ensures listed { (k : Key) (s : ℕ) → has s (publishers_at key_cmp kept.new.entries k) ≡ true →
         is_listed (lists_of index.new.entries) s k ≡ true }
+    ensures count { result ≡ shared_count kept.new.entries }
 {
     let mut changes = changes;
+    let mut count = count;
     while let Some((key, change)) = changes.pop_first() {
         unlist_unpublished(index, sub, &key, &change);
-        take_or_trim(kept, &key, change);
+        count = take_counted(kept, count, &key, change);
     }
+    count
 }
 
 // For each key that nothing is published there any more.

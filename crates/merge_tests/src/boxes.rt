@@ -48,6 +48,23 @@ const FIRST_ENDS: &str = "0 t1 a=1 => added c/t1 a=1; [0]
 0 drop => changed c/t1 a=2; [0]
 ";
 
+const FIELDS_COME_AND_GO: &str = "1 x b=1 d=1 => added c/x b=1 d=1; [0]
+1 x a=1 c=1 d=1 e=1 => changed c/x a=1 c=1 e=1 -b; [0]
+1 x a=1 c=2 => changed c/x c=2 -d -e; [0]
+1 x a=1 c=2 =>  [0]
+1 x => changed c/x -a -c; [0]
+1 x z=1 => changed c/x z=1; [0]
+";
+
+const SEVERAL_SHARED: &str = "1 x a=1 => added c/x a=1; [0]
+1 y a=1 => added c/y a=1; [0]
+2 x b=1 => changed c/x b=1; [1]
+2 y b=1 => changed c/y b=1; [2]
+3 x c=1 => changed c/x c=1; [2]
+1 drop => changed c/x -a;changed c/y -a; [1]
+2 drop => changed c/x -b;removed c/y; [0]
+";
+
 fn number(n: i64) -> Value {
     match Whole::of(n) {
         None => Value::Null,
@@ -213,6 +230,8 @@ fn tables_of_calls(rt: HostRuntime) -> Result<(), Fail> {
         EQUAL_VALUES_ARE_NOT_TOLD,
         STAYS_WHILE_ONE_PUBLISHES,
         FIRST_ENDS,
+        FIELDS_COME_AND_GO,
+        SEVERAL_SHARED,
     ] {
         assert_eq!(rt;
             right_in(rt.alloc(), rows)?,

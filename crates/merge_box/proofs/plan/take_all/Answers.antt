@@ -9,12 +9,12 @@ loop-key-preserved c =
     let plan = c.loop-key.changes.entries in
     let rest = c.pop_first.new.self.entries in
     let old = c.loop-key.kept.entries in
-    let new = c.take_or_trim.new.kept.entries in
+    let new = c.take_counted-count.new.kept.entries in
     let key = c.in-Some.key in
     let change = c.in-Some.change in
     let value = c.in-Some.ensures.value in
     let updates = c.in-Some.ensures.updates.0 in
-    let took = c.take_or_trim.ensures in
+    let took = c.take_counted-count.ensures in
     let index = c.loop-key.index.entries in
     let left = c.unlist_unpublished.new.index.entries in
     record {
@@ -22,5 +22,6 @@ loop-key-preserved c =
       held = held_step plan rest old new key change value updates took.same took.others took.held before.held;
       listed = kept_listed_step plan rest old new key change value updates took.same took.others index left before.will_list c.unlist_unpublished.ensures before.listed;
       ready = ready_step plan rest old new key change value updates took.same took.others before.ready;
+      count = took.count;
       will_list = will_list_step plan rest old new key change value updates took.same took.others index left before.will_list c.unlist_unpublished.ensures;
     }

@@ -6,6 +6,7 @@ use Rattle.ejson_value.specs.declared.key.Key.{Key}
 use Rattle.ejson_value.specs.Key.{key_cmp}
 use Rattle.merge_box.specs.Held.{KeptDoc, IsHeld, SameDoc}
 use Rattle.merge_box.specs.Index.{lists_of, is_listed}
+use Rattle.merge_box.specs.State.{shared_count}
 use Rattle.merge_box.specs.Inside.{after_at, IsReady}
 use Rattle.merge_box.proofs.plan.take_all.Given as goal
 
@@ -15,6 +16,7 @@ invariant-loop-key l = record {
   held : (k : Key) → IsHeld (kept_at key_cmp l.kept.entries k);
   listed : (k : Key) (s : ℕ) → has s (publishers_at key_cmp l.kept.entries k) ≡ true → is_listed (lists_of l.index.entries) s k ≡ true;
   ready : (k : Key) (change : KeptDoc) → at key_cmp l.changes.entries k ≡ Some change → IsReady l.kept.entries k change;
+  count : l.count ≡ shared_count l.kept.entries;
   will_list : (k : Key) (change : KeptDoc) (s : ℕ) → at key_cmp l.changes.entries k ≡ Some change → has s change.publishers ≡ true → is_listed (lists_of l.index.entries) s k ≡ true;
 }
 

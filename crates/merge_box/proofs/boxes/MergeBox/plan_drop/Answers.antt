@@ -15,6 +15,6 @@ returns-clause-planned c =
     let box = c.plan_call.new.self in
     drop_is c.args.sub (news_of c.as_slice.result.now) box c.in_ok-plan.plan (is_listed lists c.args.sub) c.known.ensures.kept c.known.ensures.planned
     (λ k. ap (λ n. last_news key_cmp (news_of n) k) c.as_slice.ensures ∙ c.in_ok-news.ensures k)
-    (λ k there. c.self.invariant.listed k c.args.sub
-    (ap (has c.args.sub) (sym (kept_same kept k c.self.invariant.by_key (c.self.invariant.held k)).publishers ∙ ap (λ b. (kept_at key_cmp b.kept k).publishers) c.self.view_is ∙ ap (λ m. (kept_at key_cmp m k).publishers) (sym c.plan_call.ensures.same)) ∙ there))
+    (λ k there. c.self.invariant.0.listed k c.args.sub
+    (ap (has c.args.sub) (sym (kept_same kept k c.self.invariant.0.by_key (c.self.invariant.0.held k)).publishers ∙ ap (λ b. (kept_at key_cmp b.kept k).publishers) c.self.view_is ∙ ap (λ m. (kept_at key_cmp m k).publishers) (sym c.plan_call.ensures.same)) ∙ there))
     c.in_ok-plan.ensures.planned
