@@ -2,7 +2,7 @@
 use Rattle.std.specs.Prelude.{◌≡◌, ℕ, ◌+◌, Bool, ◌||◌, List, [], ◌∷◌, length, nat_lt, Option, None, Some, if◌then◌else◌, refl}
 use Rattle.std.specs.Coded.{Coded, code_by, coded×, coded_list, coded_option}
 use Rattle.std.specs.List.{AllByRecursion}
-use Rattle.map_model.specs.Maps.{at, IsSorted}
+use Rattle.map_model.specs.Maps.{IsSorted}
 use Rattle.map_model.specs.Changes.{Leads}
 use Rattle.value_model.specs.Val.{Val, object, Entries, fields_of}
 use Rattle.value_model.specs.Size.{size}
@@ -17,7 +17,7 @@ use Rattle.publication.specs.Cursors.{ACursors}
 use Rattle.publication.specs.Published.{published}
 use Rattle.live_observer.specs.Observing.{AnObserver, cursors_of, HaveNoLimit, IsDifference}
 use Rattle.multiplexer.specs.declared.asked.Asked.{Asked}
-use Rattle.multiplexer.specs.Asking.{asked_cmp, asked_code}
+use Rattle.multiplexer.specs.Asking.{asked_code}
 
 abbrev pub Answer : Type 0
 Answer = List Publish

@@ -1,5 +1,5 @@
 -- What several answers, one after another, lead to.
-use Rattle.std.specs.Prelude.{ℕ, cond, List, [], ◌∷◌, Option, None, Some}
+use Rattle.std.specs.Prelude.{cond, List, [], ◌∷◌, Option, None, Some}
 use Rattle.std.specs.Option.{option_or}
 use Rattle.std.specs.Ordering.{eq_by_cmp}
 use Rattle.map_model.specs.Maps.{set}
