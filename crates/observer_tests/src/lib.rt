@@ -4,4 +4,6 @@
 #[cfg(test)]
 mod observers;
 #[cfg(test)]
+mod shared;
+#[cfg(test)]
 mod values;

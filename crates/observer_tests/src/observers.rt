@@ -4,7 +4,7 @@ ghost use Rattle.live_observer.specs.Observing.{IsPlanOf};
 
 use crate::values::{document, halves, list, text, value};
 use app_model::App;
-use ejson_value::{Change, Changes, Contents, Doc, Key, Publishes, Text, Value};
+use ejson_value::{Change, Changes, Contents, Doc, Key, Publish, Publishes, Text, Value};
 use live_observer::{Observer, Plan};
 use publication::{Cursors, query};
 use selector_match::Steps;
@@ -32,7 +32,7 @@ t/4={"n":1};u/1=-;t/5={"n":1} => u/1=-
 t/1=-;t/3=- => a/3=-;top/1=-;top/3=-;top/4={"n":1};top/5={"n":1}
 "#;
 
-fn cursors(alloc: Global, cursors: &str) -> Result<Cursors, Fail> {
+pub(crate) fn cursors(alloc: Global, cursors: &str) -> Result<Cursors, Fail> {
     let written = format!(in alloc;
         "{{\"collections\":[\"t\",\"u\",\"v\"],\"publications\":{{\"p\":{cursors}}}}}"
     )?;
@@ -68,7 +68,7 @@ fn change(alloc: Global, all: &mut Contents, written: &str) -> Result<Change, Fa
     })
 }
 
-fn changes(alloc: Global, all: &mut Contents, written: &str) -> Result<Changes, Fail> {
+pub(crate) fn changes(alloc: Global, all: &mut Contents, written: &str) -> Result<Changes, Fail> {
     let mut changes = Changes::new(alloc);
     for one in written.split(';') {
         changes.push(change(alloc, all, one)?)?;
@@ -83,9 +83,9 @@ fn written(alloc: Global, doc: &Option<Doc>) -> Result<Text, Fail> {
     }
 }
 
-fn told(alloc: Global, answer: &Publishes) -> Result<String, Fail> {
+pub(crate) fn told(alloc: Global, answer: &[Publish]) -> Result<String, Fail> {
     let mut told = String::new(alloc);
-    for one in answer.as_slice() {
+    for one in answer {
         if !told.is_empty() {
             told.push(';')?;
         }
@@ -125,7 +125,7 @@ fn step(
     let changes = changes(alloc, all, written)?;
     let (answer, plan) = stepped::<Brand>(observer, &changes, Blank::new(1))?;
     observer.commit(plan);
-    Ok(told(alloc, &answer)?.as_str() == wanted)
+    Ok(told(alloc, answer.as_slice())?.as_str() == wanted)
 }
 
 fn wrong(
@@ -160,7 +160,7 @@ fn told_later(alloc: Global) -> Result<String, Fail> {
     let observer = Observer::start(alloc, cursors(alloc, CURSORS)?, &all)?;
     let last = changes(alloc, &mut all, "t/3=-")?;
     let (answer, _plan) = stepped::<Brand>(&observer, &last, Blank::new(1))?;
-    told(alloc, &answer)
+    told(alloc, answer.as_slice())
 }
 
 #[test]

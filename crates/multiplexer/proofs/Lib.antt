@@ -1,0 +1,4 @@
+pub mod Rows
+pub mod Limits
+pub mod Made
+pub mod Named

@@ -1,0 +1,4 @@
+pub mod Asking
+pub mod Keeping
+pub mod Inside
+pub mod Leading
