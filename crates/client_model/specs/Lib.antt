@@ -1,0 +1,6 @@
+pub mod Client
+pub mod Taking
+pub mod Asking
+pub mod Showing
+pub mod CallLaws
+pub mod TakingLaws
