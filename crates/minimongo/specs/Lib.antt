@@ -1,0 +1,4 @@
+pub mod Faults
+pub mod Finding
+pub mod Restored
+pub mod State
