@@ -1,0 +1,13 @@
+//! The log of a history: its entries, each with the changes that it made, and what is told of them.
+#![tactic(auto)]
+
+mod batch;
+mod changes;
+mod kept;
+mod lines;
+mod log;
+
+pub use batch::Batch;
+pub use history_model::entry::Entry;
+pub use kept::{call_bytes, new_bytes};
+pub use log::{Log, Logged};

@@ -1,0 +1,129 @@
+//! The log.
+ghost use Rattle.std.specs.Prelude.{◌≡◌, ◌+◌, ◌≤◌, ◌++◌, ◌∷◌, [], length, IfOk, OnOk, OnErr};
+ghost use Rattle.history_log.specs.Log.{entries_in, changes_behind, rows_after, without_last, settled};
+ghost use Rattle.history_log.specs.Lines.{store_lines, history_lines};
+
+use crate::batch::Batch;
+use crate::changes::{joined, made};
+use crate::lines::{first_line, push_docs, push_entries};
+use ejson_codec::Lines;
+use ejson_value::{Changes, Contents, Mem};
+use history_model::entry::Entry;
+use std::alloc::Global;
+use std::marker::Model;
+
+/// An entry, with the changes that it made.
+#[derive(Drop)]
+pub struct Logged {
+    pub entry: Entry,
+    pub changes: Changes,
+}
+
+/// The entries of a history, oldest first, each with the changes that it made. A contract sees it as
+/// their list.
+#[derive(Drop)]
+pub struct Log {
+    logged: Vec<Logged>,
+}
+
+impl Model for Log {
+    ghost use Rattle.std.specs.Prelude.{List};
+    ghost use Rattle.std.specs.Coded.{codes};
+    ghost use Rattle.value_model.specs.Coding.{val_code};
+    ghost use Rattle.history_log.specs.declared.log.Logged.{Logged};
+
+    ghost Value = { List Logged };
+
+    ghost coded = { Prim.hlevel (codes, val_code) };
+
+    ghost view = { λ l. l.logged.items };
+}
+
+impl Log {
+    /// The log of a history without entries.
+    pub fn new(alloc: Global) -> Log
+        ensures { result ≡ [] }
+    {
+        Log {
+            logged: Vec::new(alloc),
+        }
+    }
+
+    fn allocator(&self) -> Global {
+        *self.logged.allocator()
+    }
+
+    /// How many entries there are.
+    pub fn length(&self) -> u64
+        ensures { result ≡ length self.now }
+    {
+        self.logged.len() as u64
+    }
+
+    /// Puts an entry behind the others. It has made no changes yet: with `settle` they are set
+    /// without memory, and with `pop` the entry is taken back.
+    pub fn push(&mut self, entry: Entry) -> Result<(), Mem>
+        ensures ok { OnOk result (self.new ≡ self.old ++ record { entry = entry; changes = [] } ∷ []) }
+        ensures err { OnErr result (self.new ≡ self.old) }
+    {
+        let changes = Changes::new(self.allocator());
+        self.logged.push(Logged { entry, changes })?;
+        Ok(())
+    }
+
+    /// Takes the last entry back.
+    pub fn pop(&mut self)
+        ensures { self.new ≡ without_last self.old }
+    {
+        drop(self.logged.pop());
+    }
+
+    /// The last entry made these changes.
+    pub fn settle(&mut self, changes: Changes)
+        ensures { self.new ≡ settled self.old changes }
+    {
+        if let Some(last) = self.logged.last_mut() {
+            last.changes = changes;
+        }
+    }
+
+    /// The changes of `count` entries behind the first `from`.
+    pub fn batch(&self, from: u64, count: u64) -> Result<Batch, Mem>
+        requires { from + count ≤ length self.now }
+        ensures { IfOk result (λ batch. batch ≡ record { from = from; count = count; changes = changes_behind self.now from count }) }
+    {
+        let some = &self.logged[from as usize..(from + count) as usize];
+        Ok(Batch {
+            from,
+            count,
+            changes: joined(self.allocator(), some)?,
+        })
+    }
+
+    /// The documents after the first `at` entries, made anew by their changes, one after another.
+    pub fn contents_at(&self, at: u64) -> Result<Contents, Mem>
+        requires { at ≤ length self.now }
+        ensures { IfOk result (λ contents. contents ≡ rows_after self.now at) }
+    {
+        made(self.allocator(), &self.logged[..at as usize])
+    }
+
+    /// The lines of a store with these documents: how many entries there are, and the documents by
+    /// collection and id.
+    pub fn store_lines(&self, contents: &Contents) -> Result<Lines, Mem>
+        ensures { IfOk result (λ lines. lines ≡ store_lines (length self.now) contents.now) }
+    {
+        let mut lines = first_line(self.allocator(), "store", self.length())?;
+        push_docs(self.allocator(), &mut lines, contents)?;
+        Ok(lines)
+    }
+
+    /// The lines of the history: how many entries there are, and the entries.
+    pub fn history_lines(&self) -> Result<Lines, Mem>
+        ensures { IfOk result (λ lines. lines ≡ history_lines (entries_in self.now)) }
+    {
+        let mut lines = first_line(self.allocator(), "history", self.length())?;
+        push_entries(self.allocator(), &mut lines, &self.logged)?;
+        Ok(lines)
+    }
+}
