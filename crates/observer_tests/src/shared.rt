@@ -1,4 +1,6 @@
 //! What equal subscriptions share, and what several answers lead to.
+ghost use Rattle.std.specs.Prelude.{◌≡◌};
+
 use crate::observers::{changes, cursors, told};
 use crate::values::list;
 use ejson_value::{Changes, Contents, Items, Publish, Publishes, Text};
