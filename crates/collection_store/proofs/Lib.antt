@@ -3,3 +3,4 @@ pub mod Picked
 pub mod Named
 pub mod Passing
 pub mod Leading
+pub mod FirstFound

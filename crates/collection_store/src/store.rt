@@ -1,5 +1,5 @@
 //! The store.
-ghost use Rattle.std.specs.Prelude.{◌≡◌, ◌+◌, ◌∷◌, length, is_some, OnOk, OnErr, IfOk, Ok, Err, Some, None, [], if◌then◌else◌};
+ghost use Rattle.std.specs.Prelude.{◌≡◌, ◌+◌, ◌∷◌, length, nat_lt, is_some, OnOk, OnErr, IfOk, Ok, Err, Some, None, [], if◌then◌else◌};
 ghost use Rattle.map_model.specs.Maps.{at};
 ghost use Rattle.ejson_value.specs.Key.{key_cmp, key_of};
 ghost use Rattle.ejson_value.specs.Measure.{capped};
@@ -153,6 +153,16 @@ impl Store {
         ensures { result.now ≡ self.now.rows }
     {
         &self.contents
+    }
+
+    /// Whether the selector holds of a document of the collection. Where it names an id, the document
+    /// with this id alone is looked at.
+    #[tactic(auto, using(crate::proofs::FirstFound::first_found))]
+    pub fn has_match(&self, collection: &Text, selector: &Selector) -> Result<bool, Mem>
+        ensures { IfOk result (λ b. b ≡ nat_lt 0 (length (matching collection.now selector.now self.now.rows))) }
+    {
+        let found = matching(self.alloc, &self.contents, collection, selector, false)?;
+        Ok(!found.is_empty())
     }
 
     fn planned_insert(&self, collection: &Text, id: &Text, doc: &Doc) -> Result<Reply, OpFault>
