@@ -6,10 +6,11 @@ use Rattle.modifier_apply.specs.Reading.{reading}
 use Rattle.ejson_value.specs.Rows.{Rows}
 use Rattle.program_steps.specs.declared.rules.Action.{Action}
 use Rattle.program_steps.specs.declared.step.ProgramStep.{ProgramStep}
+use Rattle.program_steps.specs.Runs.{Outcome}
 use Rattle.program_model.specs.declared.verdict.Verdict.{Verdict}
 use Rattle.program_model.specs.Guarded.{Write, removes}
-use Rattle.program_model.specs.Run.{Run, is_id}
-use Rattle.program_model.specs.Steps.{Setting, update_of, writing_in, by_verdict, Writing as AWriting}
+use Rattle.program_model.specs.Run.{Run, is_id, ended}
+use Rattle.program_model.specs.Steps.{Setting, unchanged, update_of, writing_in, by_verdict, Writing as AWriting}
 use Rattle.write_rules.specs.Acts.{write_of}
 use Rattle.program_run.specs.declared.guarded.Writing.{Writing}
 use Rattle.program_run.specs.declared.plan.Plan.{Plan}
@@ -46,6 +47,10 @@ writing_as run w = (write_of w.act, with_ids w.ids run)
 -- what was read is the write of the run's parameters
 abbrev pub IsWriting : Progress → List ℕ → Action → Option Writing → Type 0
 IsWriting p collection a o = (left : List ProgramStep) → writing_in collection (with_left p left) a p.params ≡ option_map (writing_as (with_left p left)) o
+
+-- the plan ends the run with this outcome
+abbrev pub IsEnd : Outcome → Plan → Type 0
+IsEnd outcome plan = (s : Setting) (rows : Rows) (run : Run) → planned s rows run plan ≡ unchanged rows (ended outcome run)
 
 -- the plan is what a verdict on the write leads to
 abbrev pub IsVerdictPlan : List ℕ → Writing → Verdict → Plan → Type 0

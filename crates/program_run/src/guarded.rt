@@ -9,12 +9,15 @@ ghost use Rattle.selector_match.specs.Named.{text_in};
 ghost use Rattle.modifier_apply.specs.Reading.{reading};
 ghost use Rattle.program_steps.specs.declared.step.ProgramStep.TheVariants.{Guarded};
 ghost use Rattle.program_steps.specs.declared.rules.Action.TheVariants.{Insert, Update, Remove};
+ghost use Rattle.program_steps.specs.Runs.{done, failed};
+ghost use Rattle.program_model.specs.Faults.{denied_by, not_allowed};
 ghost use Rattle.program_model.specs.Guarded.{inserts, updates, removes, id_of, judged, or_none, no_rules};
 ghost use Rattle.program_model.specs.Run.{is_id};
 ghost use Rattle.program_model.specs.Steps.{with_id, operation_of, update_of};
 ghost use Rattle.write_rules.specs.Acts.{write_of, is_write, is_operators, modification_in};
+ghost use Rattle.program_run.specs.declared.plan.Plan.TheVariants.{Answers};
 ghost use Rattle.program_run.specs.Planned.{ids_with, rules_of, IsPlan};
-ghost use Rattle.program_run.specs.Writes.{only, second, update_in, remove_in, IsWriting, IsVerdictPlan};
+ghost use Rattle.program_run.specs.Writes.{only, second, update_in, remove_in, IsWriting, IsEnd, IsVerdictPlan};
 
 use crate::documents::{NewDocument, ids_with, is_id, new_of};
 use crate::errors::{denied_by, not_allowed};
@@ -257,6 +260,15 @@ fn operation_of(alloc: Global, collection: &Text, act: Act) -> Result<Op, Mem>
     }
 }
 
+// The rules allow the write.
+fn allowed_plan(alloc: Global, collection: &Text, writing: Writing) -> Result<Plan, Mem>
+    requires { is_write writing.act ≡ true }
+    ensures { IfOk result (λ plan. plan ≡ Answers (operation_of collection.now (write_of writing.act)) writing.ids) }
+{
+    let Writing { act, ids } = writing;
+    Ok(Plan::Answers(operation_of(alloc, collection, act)?, ids))
+}
+
 // The answer of a write to a document that is not there.
 fn none_written() -> Result<Value, Mem>
     ensures { IfOk result (λ v. view v ≡ int (pos 0)) }
@@ -265,6 +277,24 @@ fn none_written() -> Result<Value, Mem>
         Some(zero) => Ok(Value::Int(zero)),
         None => Err(Mem),
     }
+}
+
+fn absent_plan() -> Result<Plan, Mem>
+    ensures { IfOk result (λ plan. IsEnd (done (Some (int (pos 0)))) plan) }
+{
+    Ok(Plan::Ends(Outcome::Done(Some(none_written()?))))
+}
+
+fn denied_plan(alloc: Global, place: u32) -> Result<Plan, Mem>
+    ensures { IfOk result (λ plan. IsEnd (failed (denied_by place)) plan) }
+{
+    Ok(Plan::Ends(Outcome::Failed(denied_by(alloc, place)?)))
+}
+
+fn not_allowed_plan(alloc: Global) -> Result<Plan, Mem>
+    ensures { IfOk result (λ plan. IsEnd (failed not_allowed) plan) }
+{
+    Ok(Plan::Ends(Outcome::Failed(not_allowed(alloc)?)))
 }
 
 // What the rules' verdict on the write leads to.
@@ -278,13 +308,10 @@ fn by_verdict(
     ensures { IfOk result (λ plan. IsVerdictPlan collection.now writing verdict plan) }
 {
     match verdict {
-        Verdict::Allowed => Ok(Plan::Answers(
-            operation_of(alloc, collection, writing.act)?,
-            writing.ids,
-        )),
-        Verdict::Absent => Ok(Plan::Ends(Outcome::Done(Some(none_written()?)))),
-        Verdict::Denied(place) => Ok(Plan::Ends(Outcome::Failed(denied_by(alloc, place)?))),
-        Verdict::NotAllowed => Ok(Plan::Ends(Outcome::Failed(not_allowed(alloc)?))),
+        Verdict::Allowed => allowed_plan(alloc, collection, writing),
+        Verdict::Absent => absent_plan(),
+        Verdict::Denied(place) => denied_plan(alloc, place),
+        Verdict::NotAllowed => not_allowed_plan(alloc),
         Verdict::BadRule => bad_plan(alloc),
     }
 }
