@@ -8,6 +8,7 @@ use Rattle.program_steps.specs.declared.rules.Action.{Action}
 use Rattle.program_steps.specs.declared.step.ProgramStep.{ProgramStep}
 use Rattle.program_steps.specs.Runs.{Outcome}
 use Rattle.program_model.specs.declared.verdict.Verdict.{Verdict}
+use Rattle.program_model.specs.declared.verdict.Verdict.TheVariants as verdict
 use Rattle.program_model.specs.Guarded.{Write, removes}
 use Rattle.program_model.specs.Run.{Run, is_id, ended}
 use Rattle.program_model.specs.Steps.{Setting, unchanged, update_of, writing_in, by_verdict, Writing as AWriting}
@@ -55,3 +56,8 @@ IsEnd outcome plan = (s : Setting) (rows : Rows) (run : Run) → planned s rows 
 -- the plan is what a verdict on the write leads to
 abbrev pub IsVerdictPlan : List ℕ → Writing → Verdict → Plan → Type 0
 IsVerdictPlan collection w v plan = (s : Setting) (rows : Rows) (run : Run) → by_verdict s rows run collection (writing_as run w) v ≡ planned s rows run plan
+
+-- a verdict that refuses leads to the plan whatever the write is, and none is there where it allows
+abbrev pub IsRefusal : Verdict → Option Plan → Type 0
+IsRefusal v (Some plan) = (collection : List ℕ) (w : Writing) → IsVerdictPlan collection w v plan
+IsRefusal v None = v ≡ verdict.Allowed

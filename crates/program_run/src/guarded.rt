@@ -17,7 +17,7 @@ ghost use Rattle.program_model.specs.Steps.{with_id, operation_of, update_of};
 ghost use Rattle.write_rules.specs.Acts.{write_of, is_write, is_operators, modification_in};
 ghost use Rattle.program_run.specs.declared.plan.Plan.TheVariants.{Answers};
 ghost use Rattle.program_run.specs.Planned.{ids_with, rules_of, IsPlan};
-ghost use Rattle.program_run.specs.Writes.{only, second, update_in, remove_in, IsWriting, IsEnd, IsVerdictPlan};
+ghost use Rattle.program_run.specs.Writes.{only, second, update_in, remove_in, IsWriting, IsEnd, IsRefusal, IsVerdictPlan};
 
 use crate::documents::{NewDocument, ids_with, is_id, new_of};
 use crate::errors::{denied_by, not_allowed};
@@ -297,6 +297,19 @@ fn not_allowed_plan(alloc: Global) -> Result<Plan, Mem>
     Ok(Plan::Ends(Outcome::Failed(not_allowed(alloc)?)))
 }
 
+// What a verdict that refuses a write leads to, and None where it allows it.
+fn refused_plan(alloc: Global, verdict: Verdict) -> Result<Option<Plan>, Mem>
+    ensures { IfOk result (λ o. IsRefusal verdict o) }
+{
+    match verdict {
+        Verdict::Allowed => Ok(None),
+        Verdict::Absent => Ok(Some(absent_plan()?)),
+        Verdict::Denied(place) => Ok(Some(denied_plan(alloc, place)?)),
+        Verdict::NotAllowed => Ok(Some(not_allowed_plan(alloc)?)),
+        Verdict::BadRule => Ok(Some(bad_plan(alloc)?)),
+    }
+}
+
 // What the rules' verdict on the write leads to.
 fn by_verdict(
     alloc: Global,
@@ -307,12 +320,9 @@ fn by_verdict(
     requires { is_write writing.act ≡ true }
     ensures { IfOk result (λ plan. IsVerdictPlan collection.now writing verdict plan) }
 {
-    match verdict {
-        Verdict::Allowed => allowed_plan(alloc, collection, writing),
-        Verdict::Absent => absent_plan(),
-        Verdict::Denied(place) => denied_plan(alloc, place),
-        Verdict::NotAllowed => not_allowed_plan(alloc),
-        Verdict::BadRule => bad_plan(alloc),
+    match refused_plan(alloc, verdict)? {
+        Some(plan) => Ok(plan),
+        None => allowed_plan(alloc, collection, writing),
     }
 }
 
