@@ -103,6 +103,10 @@ among_with (h ∷ hs) m n e =
       | Greater ↦ λ x. elim (eq_by_cmp nat_cmp n h) as (λ b. (b || is_among (with_number hs m) n) ≡ true → (n ≡ m) ⊎ ((b || is_among hs n) ≡ true)) [ true ↦ λ y. inr refl | false ↦ λ y. rest y ] x
     ] e
 
+pub later : (b : Bool) {c : Bool} → c ≡ true → (b || c) ≡ true
+later true e = refl
+later false e = e
+
 -- a number that is left was there, and isn't among those that went
 among_without : (ns hs : List ℕ) (n : ℕ) → is_among (without_numbers ns hs) n ≡ true → (is_among hs n ≡ true) × (is_among ns n ≡ false)
 among_without ns [] n e = cc e
@@ -115,10 +119,6 @@ among_without ns (h ∷ hs) n e =
         | false ↦ λ s y. rest y
       ] refl x
     ] refl e
-  where
-    later : (b : Bool) {c : Bool} → c ≡ true → (b || c) ≡ true
-    later true e = refl
-    later false e = e
 
 -- who holds a document after a call is the new one, or held it before
 pub holds_then : (number : ℕ) (keys : List Key) (pending : Pending Key) (k : Key) (n : ℕ) → is_among (holders key_cmp (held_by key_cmp number keys pending) k) n ≡ true → (n ≡ number) ⊎ (is_among (holders key_cmp pending k) n ≡ true)
@@ -128,10 +128,8 @@ holds_then number keys pending k n e =
       | false ↦ λ x. inr x
     ] (sym (ap (λ w. is_among (unwrap_or w []) n) (at-held_by key_order number keys pending k)) ∙ e)
 
--- who holds a document still did before, and isn't of those that let go
-pub holds_still : (ns : List ℕ) (pending : Pending Key) (k : Key) (n : ℕ) → IsSorted key_cmp pending → is_among (holders key_cmp (let_go ns pending) k) n ≡ true → (is_among (holders key_cmp pending k) n ≡ true) × (is_among ns n ≡ false)
-holds_still ns pending k n sorted e =
-    among_without ns (holders key_cmp pending k) n (sym (ap (λ hs. is_among hs n) (ap (λ w. unwrap_or w []) (at-let_go key_order ns pending k sorted) ∙ left (at key_cmp pending k))) ∙ e)
+pub holders_left : (ns : List ℕ) (pending : Pending Key) (k : Key) → IsSorted key_cmp pending → holders key_cmp (let_go ns pending) k ≡ without_numbers ns (holders key_cmp pending k)
+holders_left ns pending k sorted = ap (λ w. unwrap_or w []) (at-let_go key_order ns pending k sorted) ∙ left (at key_cmp pending k)
   where
     left : (w : Option (List ℕ)) → unwrap_or (option_and_then (λ hs. unless_none (without_numbers ns hs)) w) [] ≡ without_numbers ns (unwrap_or w [])
     left None = refl
@@ -140,3 +138,7 @@ holds_still ns pending k n sorted e =
         by : (hs : List ℕ) → unwrap_or (unless_none hs) [] ≡ hs
         by [] = refl
         by (h ∷ hs) = refl
+
+-- who holds a document still did before, and isn't of those that let go
+pub holds_still : (ns : List ℕ) (pending : Pending Key) (k : Key) (n : ℕ) → IsSorted key_cmp pending → is_among (holders key_cmp (let_go ns pending) k) n ≡ true → (is_among (holders key_cmp pending k) n ≡ true) × (is_among ns n ≡ false)
+holds_still ns pending k n sorted e = among_without ns (holders key_cmp pending k) n (sym (ap (λ hs. is_among hs n) (holders_left ns pending k sorted)) ∙ e)

@@ -3,4 +3,5 @@ pub mod Taking
 pub mod Asking
 pub mod Showing
 pub mod CallLaws
+pub mod HeldLaws
 pub mod TakingLaws

@@ -1,5 +1,5 @@
 -- What a client shows, whatever it takes and asks for.
-use Rattle.std.specs.Prelude.{◌≡◌, ◌⊎◌, ℕ, suc, List, [], ◌∷◌, length, true, false, cond, ◌||◌, nat_lt, Option, Some, None, Result, Ok, Err, unwrap_or, refl}
+use Rattle.std.specs.Prelude.{◌≡◌, ◌⊎◌, ℕ, suc, List, [], ◌∷◌, length, Bool, true, false, cond, ◌||◌, nat_lt, Option, Some, None, Result, Ok, Err, unwrap_or, refl}
 use Rattle.std.specs.List.{list_any, list_all}
 use Rattle.std.specs.Ordering.{eq_by_cmp}
 use Rattle.std.proofs.Common.{sym, ap, ◌∙◌, true≢false, inl, inr}
@@ -22,9 +22,10 @@ use Rattle.ddp_messages.specs.declared.fault.MsgFault.TheVariants.{Parse, BadReq
 use Rattle.ddp_messages.specs.ServerMessage as server
 use Rattle.ddp_messages.specs.ServerMessage.{ServerMessage}
 use Rattle.client_model.specs.Client.{Call, Client, new_client}
-use Rattle.client_model.specs.Taking.{max_server_text, numbers_of, awaits_update, call_at, outcome_by, with_outcome, with_update, documents_in, calls_in, message_refusal, breaks, told_unless, told_answer, told_text}
+use Rattle.client_model.specs.Taking.{max_server_text, numbers_of, awaits_update, call_at, outcome_by, with_outcome, with_update, documents_in, calls_in, told_message, message_refusal, breaks, told_unless, told_answer, told_text}
 use Rattle.client_model.specs.Asking.{called}
-use Rattle.client_model.specs.Showing.{IsShown, all_told}
+use Rattle.client_model.specs.Showing.{IsShown, IsHeldOn, all_told}
+use Rattle.client_model.specs.HeldLaws.{updated_once, holds_too, touched_held, holds_on}
 use Rattle.client_model.specs.CallLaws.{still_awaits, others_stay, new_awaits, none_awaits, holds_then, holds_still}
 
 pub new_shown : IsShown new_client
@@ -77,6 +78,38 @@ called_shown c method params view keys sorted alone w = record {
     as_before : (k : Key) (n : ℕ) → (n ≡ suc (length c.calls)) ⊎ (is_among (holders key_cmp c.documents.pending k) n ≡ true) → (n ≡ suc (length c.calls)) ⊎ (awaits_update (call_at c.calls n) ≡ true)
     as_before k n (inl e) = inl e
     as_before k n (inr e) = inr (w.awaited k n e)
+
+-- ---- what is held
+
+message_holds : (c : Client) (m : ServerMessage) → IsShown c → IsHeldOn c (told_message c m)
+message_holds c (server.updated ids) w k n h awaits =
+    let ns = numbers_of (length c.calls) ids in
+    holds_on ns c.documents.pending k n w.view.pending h (named (is_among ns n) refl)
+  where
+    named : (b : Bool) → is_among (numbers_of (length c.calls) ids) n ≡ b → is_among (numbers_of (length c.calls) ids) n ≡ false
+    named true e = absurd (true≢false (sym awaits ∙ updated_once (numbers_of (length c.calls) ids) c.calls n e))
+    named false e = e
+message_holds c _ w k n h awaits = h
+
+unless_holds : (c : Client) (m : ServerMessage) (n : Option ℕ) → IsShown c → IsHeldOn c (told_unless c m n)
+unless_holds c m None w = message_holds c m w
+unless_holds c m (Some r) w = λ k n h awaits. h
+
+answer_holds : (c : Client) (r : Result ServerMessage MsgFault) → IsShown c → IsHeldOn c (told_answer c r)
+answer_holds c (Ok m) w = unless_holds c m (message_refusal c m) w
+answer_holds c (Err Parse) w = λ k n h awaits. h
+answer_holds c (Err (BadRequest name)) w = λ k n h awaits. h
+answer_holds c (Err Memory) w = λ k n h awaits. h
+
+pub text_holds : (c : Client) (t : List ℕ) → IsShown c → IsHeldOn c (told_text c t)
+text_holds c t w = elim (nat_lt max_server_text (length t)) as (λ b. IsHeldOn c (cond b (breaks 1 c) (told_answer c (server_answer t)))) [ true ↦ λ k n h awaits. h | false ↦ answer_holds c (server_answer t) w ]
+
+pub called_holds : (c : Client) (method : List ℕ) (params : List Val) (view : Rows) (keys : List Key) → IsHeldOn c (called method params view keys c)
+called_holds c method params view keys k n h awaits = holds_too (suc (length c.calls)) keys c.documents.pending k n h
+
+pub called_touches : (c : Client) (method : List ℕ) (params : List Val) (view : Rows) (keys : List Key) (k : Key) → list_any (eq_by_cmp key_cmp k) keys ≡ true →
+    is_among (holders key_cmp (called method params view keys c).documents.pending k) (suc (length c.calls)) ≡ true
+called_touches c method params view keys k t = touched_held (suc (length c.calls)) keys c.documents.pending k t
 
 -- ---- at rest
 

@@ -5,18 +5,19 @@
 //! which its contract states.
 #![tactic(auto)]
 
-ghost use Rattle.std.specs.Prelude.{◌≡◌, ℕ, false, true, List, Option, Some, None};
+ghost use Rattle.std.specs.Prelude.{◌≡◌, ℕ, suc, false, true, List, length, Option, Some, None};
 ghost use Rattle.std.specs.List.{list_any, list_all};
 ghost use Rattle.std.specs.Ordering.{eq_by_cmp};
 ghost use Rattle.map_model.specs.Maps.{at, IsSorted};
 ghost use Rattle.value_model.specs.Val.{Val};
+ghost use Rattle.view_model.specs.Pending.{is_among, holders};
 ghost use Rattle.ejson_value.specs.declared.key.Key.{Key};
 ghost use Rattle.ejson_value.specs.Key.{key_cmp};
 ghost use Rattle.ejson_value.specs.Rows.{Rows};
 ghost use Rattle.client_model.specs.Client.{Call, Client, new_client};
 ghost use Rattle.client_model.specs.Taking.{told_text, breaks};
 ghost use Rattle.client_model.specs.Asking.{subscribed, unsubscribed, called, with_text};
-ghost use Rattle.client_model.specs.Showing.{IsShown, all_told};
+ghost use Rattle.client_model.specs.Showing.{IsShown, IsHeldOn, all_told};
 
 pub mod subs;
 
@@ -43,6 +44,14 @@ pub fn asking_clients_show_what_the_server_has()
     ensures subs { (c : Client) (id name : List ℕ) (params : List Val) → IsShown c → IsShown (subscribed id name params c) }
     ensures unsubs { (c : Client) (id : List ℕ) → IsShown c → IsShown (unsubscribed id c) }
     ensures texts { (c : Client) (text : List ℕ) → IsShown c → IsShown (with_text text c) }
+{}
+
+/// A call holds the documents that its simulation touched until its `updated` is taken.
+pub fn calls_hold_what_they_touched()
+    ensures touched { (c : Client) (method : List ℕ) (params : List Val) (view : Rows) (keys : List Key) (k : Key) → list_any (eq_by_cmp key_cmp k) keys ≡ true →
+        is_among (holders key_cmp (called method params view keys c).documents.pending k) (suc (length c.calls)) ≡ true }
+    ensures called { (c : Client) (method : List ℕ) (params : List Val) (view : Rows) (keys : List Key) → IsHeldOn c (called method params view keys c) }
+    ensures told { (c : Client) (text : List ℕ) → IsShown c → IsHeldOn c (told_text c text) }
 {}
 
 /// Once the server said of each call that its writes are there, the view is the server's copy.
