@@ -1,0 +1,5 @@
+pub mod Standings
+pub mod Beginnings
+pub mod Operating
+pub mod Machines
+pub mod Steppings

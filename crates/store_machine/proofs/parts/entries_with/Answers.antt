@@ -1,0 +1,7 @@
+use Rattle.std.proofs.Common.{ap, sym, ◌∙◌, arith}
+use Rattle.ejson_value.specs.Measure.{capped}
+use Rattle.store_machine.proofs.Beginnings.{counted}
+use Rattle.store_machine.proofs.parts.entries_with.Goals as goal
+
+pub returns : goal.returns
+returns c = omega (arith, counted c.args.app.now c.args.parts.now c.args.more c.requires, c.length.ensures, c.saturating_add.ensures, c.saturating_add-2.ensures, c.saturating_add-3.ensures)
