@@ -1,0 +1,4 @@
+pub mod Tower
+pub mod Rounds
+pub mod TowerLaws
+pub mod RoundLaws
