@@ -1,0 +1,9 @@
+pub mod Store
+pub mod Conn
+pub mod Acts
+pub mod Asks
+pub mod World
+pub mod Settle
+pub mod Events
+pub mod Lines
+pub mod Headline
