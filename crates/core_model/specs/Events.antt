@@ -3,14 +3,13 @@ use Rattle.std.specs.Prelude.{ℕ, ℤ, pos, negsuc, suc, ◌-◌, ◌≡◌, Li
 use Rattle.value_model.specs.Val.{Val, vals_of}
 use Rattle.value_model.specs.Valid.{AreValues}
 use Rattle.ddp_messages.specs.Limits.{AreShallow}
-use Rattle.app_model.specs.App.{App}
 use Rattle.collection_store.specs.declared.operation.Op.{Op}
 use Rattle.collection_store.specs.Outcome.{Outcome, code_of}
 use Rattle.collection_store.specs.Applied.{Applied, applied}
 use Rattle.history_model.specs.declared.entry.Entry.{Entry}
 use Rattle.history_model.specs.declared.entry.Entry.TheVariants as entry
 use Rattle.history_model.specs.Operations.{operation_in}
-use Rattle.history_model.specs.History.{Held, room_in, is_full_for_operation}
+use Rattle.history_model.specs.History.{room_in, is_full_for_operation}
 use Rattle.journal_model.specs.Subscriptions.{sub_named, cursor_of}
 use Rattle.core_model.specs.declared.events.Act.{Act}
 use Rattle.core_model.specs.declared.events.Act.TheVariants as act

@@ -1,4 +1,5 @@
 pub mod Store
+pub mod StoreLaws
 pub mod Conn
 pub mod Acts
 pub mod Asks
@@ -7,3 +8,4 @@ pub mod Settle
 pub mod Events
 pub mod Lines
 pub mod Headline
+pub mod WorldLaws

@@ -1,7 +1,6 @@
 -- The lines that an event prints: each the EJSON text of a list, whose first element says what the line is.
-use Rattle.std.specs.Prelude.{ℕ, suc, List, [], ◌∷◌, ◌++◌, length, map, Bool, true, false, Option, Some, None, option_and_then, codes, decimal}
+use Rattle.std.specs.Prelude.{ℕ, suc, List, [], ◌∷◌, ◌++◌, length, map, Bool, true, false, Option, Some, None, codes, decimal}
 use Rattle.value_model.specs.Val.{Val, text}
-use Rattle.ejson_value.specs.declared.key.Key.{Key}
 use Rattle.program_steps.specs.Runs.{Outcome, done, failed}
 use Rattle.app_model.specs.App.{App}
 use Rattle.history_model.specs.declared.entry.Entry.{Entry}

@@ -1,5 +1,5 @@
 -- A world: an application, the history of its store, and the clients with their sessions, by name.
-use Rattle.std.specs.Prelude.{ℕ, suc, List, [], ◌∷◌, ◌++◌, length, filter, Bool, false, not, ◌&&◌, nat_lt, is_none, Option, Some, None, if◌then◌else◌}
+use Rattle.std.specs.Prelude.{ℕ, suc, List, [], ◌++◌, length, filter, Bool, false, not, ◌&&◌, nat_lt, is_none, Option, Some, None, if◌then◌else◌}
 use Rattle.std.specs.BTreeMap.{insert_entry}
 use Rattle.map_model.specs.Maps.{at}
 use Rattle.value_model.specs.Order.{text_cmp}

@@ -4,5 +4,6 @@
 #![tactic(auto)]
 
 pub mod events;
+pub mod laws;
 
 pub use events::{Act, Answer, Event};
