@@ -5,3 +5,5 @@ pub mod OperationValues
 pub mod StepValues
 pub mod HistoryValues
 pub mod MomentValues
+pub mod ReadValues
+pub mod TakenValues

@@ -3,7 +3,7 @@
 //! its contract states.
 #![tactic(auto)]
 
-ghost use Rattle.std.specs.Prelude.{ℕ, List, IfOk};
+ghost use Rattle.std.specs.Prelude.{ℕ, List, Bool, IfOk};
 ghost use Rattle.value_model.specs.Val.{Val, Entries, vals_of};
 ghost use Rattle.value_model.specs.Valid.{IsValue, AreValues, IsDocument};
 ghost use Rattle.modifier_apply.specs.Change.{Modification};
@@ -13,9 +13,11 @@ ghost use Rattle.program_steps.specs.Template.{filled};
 ghost use Rattle.app_model.specs.App.{App};
 ghost use Rattle.history_model.specs.declared.entry.Entry.{Entry};
 ghost use Rattle.journal_model.specs.Kept.{AreKept};
+ghost use Rattle.journal_model.specs.Taking.{taken_text};
 ghost use Rattle.core_model.specs.Store.{programs, moments};
 ghost use Rattle.stored_values.specs.ModifierValues.{IsModification};
 ghost use Rattle.stored_values.specs.Values.{HasValues, AreEntries};
+ghost use Rattle.stored_values.specs.TakenValues.{IsTaken};
 
 /// A modifier that is read from a value puts values into a document.
 pub fn modifiers_of_values_put_values()
@@ -35,4 +37,10 @@ pub fn filled_templates_are_values()
 /// What a session sees of such a store can be said in messages: its documents and the results of its runs.
 pub fn stores_of_values_keep_values()
     ensures { (app : App) (number : ℕ) (history : List Entry) → HasValues (programs app) → AreEntries history → AreKept (moments app number history) }
+{}
+
+/// Whatever a text is, what a session makes of it can be said in messages: the object that an `error` shows is a value of
+/// EJSON, and a message that waits is a request with such values and a short id.
+pub fn taken_texts_can_be_said()
+    ensures { (connected : Bool) (t : List ℕ) → IsTaken (taken_text connected t) }
 {}
