@@ -1,0 +1,15 @@
+pub mod Session
+pub mod Storing
+pub mod Observers
+pub mod Adding
+pub mod Meaning
+pub mod Events
+pub mod Taking
+pub mod Keeping
+pub mod Added
+pub mod Learning
+pub mod Handled
+pub mod Longer
+pub mod Differences
+pub mod Loading
+pub mod Showing
