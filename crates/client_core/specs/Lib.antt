@@ -1,0 +1,4 @@
+pub mod State
+pub mod Faults
+pub mod Asked
+pub mod Taken
