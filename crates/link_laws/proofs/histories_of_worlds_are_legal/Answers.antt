@@ -1,0 +1,5 @@
+use Rattle.link_laws.specs.Headline as laws
+use Rattle.link_laws.proofs.histories_of_worlds_are_legal.Goals as goal
+
+pub returns : goal.returns
+returns c = laws.all_legal

@@ -1,0 +1,42 @@
+-- The laws of every world that events lead to.
+use Rattle.std.specs.Prelude.{◌≡◌, ℕ, List, Option, None, Some, IfSome, refl}
+use Rattle.app_model.specs.App.{App}
+use Rattle.history_model.specs.History.{IsLegal}
+use Rattle.journal_model.specs.Kept.{AreKept}
+use Rattle.core_model.specs.declared.events.Event.{Event}
+use Rattle.core_model.specs.Store.{programs, moments}
+use Rattle.core_model.specs.Conn.{Conn}
+use Rattle.core_model.specs.World.{World, start, conn_of}
+use Rattle.core_model.specs.Events.{run, AreEvents}
+use Rattle.core_model.specs.Headline.{IsQuiescent, IsWhole, IsTrueWorld}
+use Rattle.link_laws.specs.Lift.{Holds}
+use Rattle.link_laws.specs.Links.{IsLinked, IsLegalOf, links_kept, worlds_are_linked}
+use Rattle.link_laws.specs.Whole.{quiescent_is_whole}
+
+abbrev pub Linked : World → Type 0
+Linked w = (name : List ℕ) → IfSome (conn_of w name) (IsLinked w.app w.history)
+
+some_linked : (w : World) → Holds IsLegalOf IsLinked links_kept w → Linked w
+some_linked w l name = by (conn_of w name) refl
+  where
+    by : (o : Option Conn) → conn_of w name ≡ o → IfSome o (IsLinked w.app w.history)
+    by None e = tt
+    by (Some c) e = l.all name c e
+
+-- each client of every world is linked with its session
+pub all_linked : (app : App) (events : List Event) → AreEvents events → Linked (run (start app) events)
+all_linked app events good = some_linked (run (start app) events) (worlds_are_linked app events good)
+
+pub all_legal : (app : App) (events : List Event) → AreEvents events → let w = run (start app) events in IsLegal (programs w.app) w.history
+all_legal app events good = (worlds_are_linked app events good).history
+
+-- The headline, where what the store has can be said in messages.
+true_world : (w : World) → ((number : ℕ) → AreKept (moments w.app number w.history)) → Holds IsLegalOf IsLinked links_kept w → IsTrueWorld w
+true_world w kept l = record { legal = l.history; whole = λ name. by name (conn_of w name) refl }
+  where
+    by : (name : List ℕ) (o : Option Conn) → conn_of w name ≡ o → IfSome o (λ (c : Conn). IsQuiescent w.history c → IsWhole w.app w.history c)
+    by name None e = tt
+    by name (Some c) e = λ q. quiescent_is_whole w.app w.history c (l.all name c e) q (kept c.number)
+
+pub worlds_are_true : (app : App) (events : List Event) → AreEvents events → let w = run (start app) events in ((number : ℕ) → AreKept (moments w.app number w.history)) → IsTrueWorld w
+worlds_are_true app events good kept = true_world (run (start app) events) kept (worlds_are_linked app events good)

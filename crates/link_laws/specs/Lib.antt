@@ -1,0 +1,15 @@
+pub mod Lift
+pub mod Places
+pub mod Moments
+pub mod Standing
+pub mod Begun
+pub mod Requests
+pub mod Session
+pub mod Served
+pub mod Stubs
+pub mod Heard
+pub mod Operations
+pub mod Legal
+pub mod Links
+pub mod Whole
+pub mod Headline
