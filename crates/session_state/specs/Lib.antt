@@ -1,0 +1,4 @@
+pub mod Subs
+pub mod Calls
+pub mod Progress
+pub mod Own

@@ -1,0 +1,12 @@
+//! The subscriptions and calls of a session: what is kept of them, and what becomes of them with each item of its journal.
+#![tactic(auto)]
+
+mod calls;
+mod own;
+mod progress;
+mod subs;
+
+pub use calls::{Method, Phase, id_at, phase_at};
+pub use own::{Call, Own, Step};
+pub use progress::Progress;
+pub use subs::{Sub, cursor_of, is_crowded, may_load, sub_named, sub_of};

@@ -1,0 +1,6 @@
+//! What is to be done for a session.
+#![tactic(auto)]
+
+mod tasks;
+
+pub use tasks::{Feed, Place, Work, tasks_of};
