@@ -12,4 +12,4 @@ pub mod Operations
 pub mod Legal
 pub mod Links
 pub mod Whole
-pub mod Headline
+pub mod Worlds

@@ -5,8 +5,8 @@ use Rattle.std.proofs.lemmas.List.{append_assoc}
 use Rattle.std.proofs.lemmas.Bool.{ne_eqb}
 use Rattle.std.specs.Ordering.{eq_by_cmp}
 use Rattle.std.specs.BTreeMap.{insert_entry}
-use Rattle.map_model.specs.Maps.{at}
-use Rattle.map_model.specs.MapLaws.{at-put, key_is, eq_by_cmp-self}
+use Rattle.map_model.specs.Maps.{at, IsSorted}
+use Rattle.map_model.specs.MapLaws.{sorted-nil, sorted-put, at-put, key_is, eq_by_cmp-self}
 use Rattle.value_model.specs.Val.{Val, vals_of}
 use Rattle.value_model.specs.Valid.{AreValues}
 use Rattle.value_model.specs.Order.{text_cmp}
@@ -53,11 +53,12 @@ AreUpTo n (e ∷ h) = IsUpTo n e × AreUpTo n h
 abbrev pub Is : World → List ℕ → Conn → Type 0
 Is w name c = conn_of w name ≡ Some c
 
--- each client has a number of its own, and no entry is of a session to come
+-- each client has a number of its own, no entry is of a session to come, and the clients are by name
 pub record IsNumbered (w : World) : Type 0 where
   pub below : (name : List ℕ) (c : Conn) → Is w name c → c.number ≤ w.opened
   pub apart : (a b : List ℕ) (c d : Conn) → Is w a c → Is w b d → c.number ≡ d.number → a ≡ b
   pub entries : AreUpTo w.opened w.history
+  pub order : IsSorted text_cmp w.conns
 
 -- what is handed in with what is asked of a client: values of at most 32 levels
 abbrev pub IsAsk : Ask → Type 0
@@ -68,16 +69,15 @@ IsAsk a = Unit {0}
 abbrev pub All : (App → List Entry → Conn → Type 0) → World → Type 0
 All P w = (name : List ℕ) (c : Conn) → Is w name c → P w.app w.history c
 
--- What holds of a history, and of each client with its session over it, and is kept: by a client that begins, whose number no entry has; by each act of a client; by an entry that isn't of its session;
+-- What holds of a history, and of each client with its session over it, is kept: by a client that begins, whose number no entry has; by each act of a client; by an entry that isn't of its session;
 -- by what is asked of it; and by an operation that isn't refused.
 pub record IsKept (Q : App → List Entry → Type 0) (P : App → List Entry → Conn → Type 0) : Type 0 where
-  pub first : (app : App) → Q app []
   pub new : (app : App) (n : ℕ) (h : List Entry) → AreUpTo n h → P app h (new_conn (suc n))
   pub entered : (app : App) (h : List Entry) (c : Conn) (a : Act) → can app h c a ≡ true → Q app h → P app h c → Q app (h ++ entries app h c a)
   pub acts : (app : App) (h : List Entry) (c : Conn) (a : Act) → can app h c a ≡ true → P app h c → P app (h ++ entries app h c a) (does app h c a)
   pub longer : (app : App) (h : List Entry) (c : Conn) (e : Entry) → is_by c.number e ≡ false → P app h c → P app (h ++ e ∷ []) c
   pub asks : (app : App) (h : List Entry) (c : Conn) (a : Ask) → IsAsk a → can_ask c a ≡ true → P app h c → P app h (asked app c a)
-  pub operations : (w : World) (op : List Val) → refusal_of w op ≡ None → Q w.app w.history → Q w.app (w.history ++ entry.Admin op ∷ [])
+  pub operations : (w : World) (op : List Val) → AreValues (vals_of op) → refusal_of w op ≡ None → Q w.app w.history → Q w.app (w.history ++ entry.Admin op ∷ [])
 
 -- ---- numbers are kept
 
@@ -177,6 +177,7 @@ numbered_put w name c d h is same upto p = record {
       (λ iq sx. put_is w.conns name d r y ey (λ ir sy. iq ∙ sym ir) (λ ir e2. iq ∙ p.apart name r c y is e2 (sym same ∙ (ap (λ (z : Conn). z.number) sx ∙ s))))
       (λ iq e1. put_is w.conns name d r y ey (λ ir sy. p.apart q name x c e1 is (s ∙ (sym (ap (λ (z : Conn). z.number) sy) ∙ same)) ∙ sym ir) (λ ir e2. p.apart q r x y e1 e2 s));
   entries = upto;
+  order = sorted-put name_order w.conns name d p.order;
 }
 
 -- ---- every act
@@ -241,6 +242,7 @@ module _ (Q : App → List Entry → Type 0) (P : App → List Entry → Conn �
               (λ iq sx. put_is w.conns name d r y ey (λ ir sy. iq ∙ sym ir) (λ ir e2. absurd (omega (arith, ap (λ (z : Conn). z.number) sx, s, p.numbered.below r y e2))))
               (λ iq e1. put_is w.conns name d r y ey (λ ir sy. absurd (omega (arith, ap (λ (z : Conn). z.number) sy, s, p.numbered.below q x e1))) (λ ir e2. p.numbered.apart q r x y e1 e2 s));
           entries = upto_suc w.opened w.history p.numbered.entries;
+          order = sorted-put name_order w.conns name d p.numbered.order;
         };
         history = p.history;
         all = λ q x e. put_is w.conns name d q x e (λ i s. subst (P w.app w.history) s (k.new w.app w.opened w.history p.numbered.entries)) (λ i e2. p.all q x e2);
@@ -280,11 +282,11 @@ module _ (Q : App → List Entry → Type 0) (P : App → List Entry → Conn �
   acts_hold : (w : World) (name : List ℕ) (e : Event) → Holds w → Holds (acts w name e)
   acts_hold w name e p = done_if_holds w name (act_by w name e) p
 
-  entered_holds : (w : World) (op : List Val) (o : Option ℕ) → refusal_of w op ≡ o → Holds w → Holds (entered_by w op o)
-  entered_holds w op (Some code) is p = p
-  entered_holds w op None is p = record {
-    numbered = record { below = p.numbered.below; apart = p.numbered.apart; entries = upto_operation w.opened w.history op p.numbered.entries };
-    history = k.operations w op is p.history;
+  entered_holds : (w : World) (op : List Val) (o : Option ℕ) → AreValues (vals_of op) → refusal_of w op ≡ o → Holds w → Holds (entered_by w op o)
+  entered_holds w op (Some code) good is p = p
+  entered_holds w op None good is p = record {
+    numbered = record { below = p.numbered.below; apart = p.numbered.apart; entries = upto_operation w.opened w.history op p.numbered.entries; order = p.numbered.order };
+    history = k.operations w op good is p.history;
     all = λ q c e. k.longer w.app w.history c (entry.Admin op) refl (p.all q c e);
   }
 
@@ -300,19 +302,19 @@ module _ (Q : App → List Entry → Type 0) (P : App → List Entry → Conn �
   step_holds w (event.Learn name n place) good p = acts_hold w name (event.Learn name n place) p
   step_holds w (event.Load name id place) good p = acts_hold w name (event.Load name id place) p
   step_holds w (event.Advance name id count) good p = acts_hold w name (event.Advance name id count) p
-  step_holds w (event.Admin op) good p = entered_holds w op (refusal_of w op) refl p
+  step_holds w (event.Admin op) good p = entered_holds w op (refusal_of w op) good.0 refl p
   step_holds w event.Settle good p = tower_holds measures round round_holds w p
   step_holds w (event.Show name) good p = p
   step_holds w (event.Journal name) good p = p
   step_holds w event.Store good p = p
   step_holds w event.History good p = p
 
-  pub start_holds : (app : App) → Holds (start app)
-  start_holds app = record { numbered = record { below = λ q c e. cc e; apart = λ a b c d e f s. cc e; entries = tt }; history = k.first app; all = λ q c e. cc e }
+  pub start_holds : (app : App) → Q app [] → Holds (start app)
+  start_holds app q = record { numbered = record { below = λ q c e. cc e; apart = λ a b c d e f s. cc e; entries = tt; order = sorted-nil text_cmp }; history = q; all = λ q c e. cc e }
 
   pub run_holds : (w : World) (events : List Event) → AreEvents events → Holds w → Holds (run w events)
   run_holds w [] good p = p
   run_holds w (e ∷ events) good p = run_holds (step w e) events good.1 (step_holds w e good.0 p)
 
-  pub every_world : (app : App) (events : List Event) → AreEvents events → Holds (run (start app) events)
-  every_world app events good = run_holds (start app) events good (start_holds app)
+  pub every_world : (app : App) (events : List Event) → AreEvents events → Q app [] → Holds (run (start app) events)
+  every_world app events good q = run_holds (start app) events good (start_holds app q)

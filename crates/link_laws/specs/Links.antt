@@ -127,15 +127,14 @@ IsLegalOf app h = IsLegal (programs app) h
 
 pub links_kept : IsKept IsLegalOf IsLinked
 links_kept = record {
-  first = λ app. tt;
   new = new_linked;
   entered = λ app h c a may l p. entries_legal app h c a (can_enabled app h c a may) l p.served;
   acts = λ app h c a may p. act_linked app h c a (can_enabled app h c a may) p;
   longer = λ app h c e apart p. record { served = longer_served app h c e apart p.served; heard = p.heard };
   asks = λ app h c a good may p. record { served = asked_served app h c a p.served; heard = asked_heard app c a p.heard };
-  operations = operation_legal;
+  operations = λ w op good is l. operation_legal w op is l;
 }
 
 -- every world that events lead to has a legal history, and each of its clients is linked with its session
 pub worlds_are_linked : (app : App) (events : List Event) → AreEvents events → Holds IsLegalOf IsLinked links_kept (run (start app) events)
-worlds_are_linked app events good = every_world IsLegalOf IsLinked links_kept app events good
+worlds_are_linked app events good = every_world IsLegalOf IsLinked links_kept app events good tt

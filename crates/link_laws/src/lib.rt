@@ -15,7 +15,7 @@ ghost use Rattle.core_model.specs.Store.{programs, moments};
 ghost use Rattle.core_model.specs.Conn.{Conn};
 ghost use Rattle.core_model.specs.World.{start, conn_of};
 ghost use Rattle.core_model.specs.Events.{run, AreEvents};
-ghost use Rattle.core_model.specs.Headline.{IsQuiescent, IsWhole, IsTrueWorld};
+ghost use Rattle.core_model.specs.Headline.{IsQuiescent, IsWhole};
 ghost use Rattle.link_laws.specs.Links.{IsLinked};
 
 /// The store's history is legal in every world that events lead to.
@@ -35,12 +35,6 @@ pub fn clients_are_linked_with_their_sessions()
 pub fn quiescent_sessions_are_whole()
     ensures { (app : App) (history : List Entry) (c : Conn) → IsLinked app history c → IsQuiescent history c → AreKept (moments app c.number history) →
         IsWhole app history c }
-{}
-
-/// The headline holds of every world that events lead to, where the store has what messages can say.
-pub fn worlds_are_true()
-    ensures { (app : App) (events : List Event) → AreEvents events →
-        ((number : ℕ) → AreKept (moments (run (start app) events).app number (run (start app) events).history)) → IsTrueWorld (run (start app) events) }
 {}
 
 /// A run that has ended at some place of a history had done so, and so, at the place that its end names.

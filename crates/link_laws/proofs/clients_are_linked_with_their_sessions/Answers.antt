@@ -1,4 +1,4 @@
-use Rattle.link_laws.specs.Headline as laws
+use Rattle.link_laws.specs.Worlds as laws
 use Rattle.link_laws.proofs.clients_are_linked_with_their_sessions.Goals as goal
 
 pub returns : goal.returns

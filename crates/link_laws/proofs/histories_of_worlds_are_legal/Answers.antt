@@ -1,4 +1,4 @@
-use Rattle.link_laws.specs.Headline as laws
+use Rattle.link_laws.specs.Worlds as laws
 use Rattle.link_laws.proofs.histories_of_worlds_are_legal.Goals as goal
 
 pub returns : goal.returns

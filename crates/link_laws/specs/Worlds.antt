@@ -29,14 +29,3 @@ all_linked app events good = some_linked (run (start app) events) (worlds_are_li
 
 pub all_legal : (app : App) (events : List Event) → AreEvents events → let w = run (start app) events in IsLegal (programs w.app) w.history
 all_legal app events good = (worlds_are_linked app events good).history
-
--- The headline, where what the store has can be said in messages.
-true_world : (w : World) → ((number : ℕ) → AreKept (moments w.app number w.history)) → Holds IsLegalOf IsLinked links_kept w → IsTrueWorld w
-true_world w kept l = record { legal = l.history; whole = λ name. by name (conn_of w name) refl }
-  where
-    by : (name : List ℕ) (o : Option Conn) → conn_of w name ≡ o → IfSome o (λ (c : Conn). IsQuiescent w.history c → IsWhole w.app w.history c)
-    by name None e = tt
-    by name (Some c) e = λ q. quiescent_is_whole w.app w.history c (l.all name c e) q (kept c.number)
-
-pub worlds_are_true : (app : App) (events : List Event) → AreEvents events → let w = run (start app) events in ((number : ℕ) → AreKept (moments w.app number w.history)) → IsTrueWorld w
-worlds_are_true app events good kept = true_world (run (start app) events) kept (worlds_are_linked app events good)
