@@ -1,32 +1,30 @@
 -- Calls that begin.
-use Rattle.std.specs.Prelude.{is_some, option_map, min, nat_lt, ◌<◌, ◌^◌, Result, Err, if◌then◌else◌}
-use Rattle.std.proofs.Common.{◌≡◌, ℕ, suc, ◌+◌, ◌-◌, ◌*◌, ◌≤◌, Bool, true, false, ◌||◌, ltb, cond, List, [], ◌∷◌, ◌++◌, length, map, Option, Some, None, Ok, refl, ap, ap₂, sym, subst, ◌∙◌, arith, add-one}
+use Rattle.std.specs.Prelude.{is_some, option_map, nat_lt, ◌<◌, ◌^◌, Result, Err}
+use Rattle.std.proofs.Common.{◌≡◌, ℕ, suc, ◌+◌, ◌-◌, ◌≤◌, Bool, true, false, ◌||◌, cond, List, [], ◌∷◌, ◌++◌, length, Option, Some, None, Ok, refl, ap, ap₂, sym, subst, ◌∙◌, arith}
 use Rattle.std.proofs.lemmas.Bool.{ltb-true, ltb-false, lt-ltb, le-ltb, or_parts}
 use Rattle.std.proofs.lemmas.List.{length-map}
 use Rattle.map_model.specs.Maps.{at}
 use Rattle.value_model.specs.Val.{Val}
 use Rattle.ejson_value.specs.View.{view}
 use Rattle.ejson_value.specs.Measure.{capped}
-use Rattle.ejson_value.specs.Rows.{Rows}
 use Rattle.ejson_value.specs.declared.value.Value.{Value}
 use Rattle.app_model.specs.App.{App, method}
 use Rattle.collection_store.specs.State.{StoreState}
-use Rattle.program_model.specs.Run.{Run, begun}
+use Rattle.program_model.specs.Run.{begun}
 use Rattle.program_steps.specs.declared.outcome.Status.{Status}
-use Rattle.history_model.specs.declared.entry.Entry.{Entry}
 use Rattle.history_model.specs.declared.entry.Entry.TheVariants as entry
-use Rattle.history_model.specs.History.{RunKey, run_cmp, Begun, steps_of, status_of, status_in, call_bytes, entries_with, kept_with, is_next, is_full, held, max_kept, max_entries}
+use Rattle.history_model.specs.History.{run_cmp, steps_of, status_of, status_in, call_bytes, entries_with, kept_with, is_next, is_full, max_kept, max_entries}
 use Rattle.history_model.specs.HistoryLaws.{held_entries}
 use Rattle.history_log.specs.declared.log.Logged.{Logged}
 use Rattle.history_log.specs.Log.{entries_in}
-use Rattle.log_laws.specs.Places.{Life, Lives, put}
+use Rattle.log_laws.specs.Places.{put}
 use Rattle.log_laws.specs.Keeping.{Kept, first_life, with_begun}
 use Rattle.store_machine.specs.declared.called.Called.{Called}
 use Rattle.store_machine.specs.declared.fault.BeginFault.{BeginFault}
 use Rattle.store_machine.specs.declared.fault.BeginFault.TheVariants as fault
 use Rattle.store_machine.specs.declared.parts.Parts.{Parts}
 use Rattle.store_machine.specs.State.{MachineState, programs, held_by, with_entry, full_with, begin_answer}
-use Rattle.store_machine.specs.Standing.{begun_of, life_of, Calls, lives_of, IsPut, seen, kept_of, Stand}
+use Rattle.store_machine.specs.Standing.{begun_of, life_of, lives_of, IsPut, seen, kept_of, uncounted, Stand}
 use Rattle.store_machine.proofs.Standings.{kept_same, lives_put_at, entries_in-push, run_seen, longer_seen, stand_begun}
 
 status_now : (app : App) (o : Option Called) → option_map status_of (option_map (begun_of app) o) ≡ option_map (λ (c : Called). status_of (begun_of app c)) o
@@ -90,11 +88,11 @@ begun_before app p session k name params seed status is =
 -- what is kept where the entry and the call are put there
 pub kept_added : (app : App) (p q : Parts) (session k : ℕ) (name : List ℕ) (params : List Val) (seed : Value) (called : Called) (place : ℕ) → place ≡ suc (length p.log) → called.begun ≡ place → called.unblocked ≡ None → called.at ≡ place
     → (begun_of app called).run ≡ begun params (view seed) (steps_of (method app name)) → q.log ≡ p.log ++ record { entry = entry.Begin session k name params seed; changes = [] } ∷ [] → IsPut p.calls.entries (session, k) called q.calls.entries
-    → q.store ≡ p.store → q.kept ≡ p.kept → q.reserved ≡ p.reserved → kept_of app q ≡ record (with_begun (programs app) (kept_of app p) session k name params seed) { bytes = p.kept; steps = p.reserved }
+    → q.store ≡ p.store → q.kept ≡ p.kept → q.reserved ≡ p.reserved → kept_of app q ≡ uncounted app p session k name params seed
 kept_added app p q session k name params seed called place placed begins unblocked last run log is store bytes more =
     let first : life_of app called ≡ first_life (suc (length p.log)) (begun params (view seed) (steps_of (method app name))) =
     λ i. record { begun = (begins ∙ placed) i; unblocked = unblocked i; now = record { run = run i; at = (last ∙ placed) i } } in
-    kept_same (kept_of app q) (record (with_begun (programs app) (kept_of app p) session k name params seed) { bytes = p.kept; steps = p.reserved }) (ap (λ (s : StoreState). s.rows) store)
+    kept_same (kept_of app q) (uncounted app p session k name params seed) (ap (λ (s : StoreState). s.rows) store)
     (lives_put_at app p.calls.entries q.calls.entries (session, k) called is ∙ ap (put (lives_of app p.calls.entries) (session, k)) first) bytes more log
 
 -- the call has begun
@@ -105,7 +103,7 @@ pub record HasBegun (app : App) (p p' : Parts) (session k : ℕ) (name : List �
 -- the steps to come still have room
 pub steps_fit : (app : App) (p q : Parts) (session k : ℕ) (name : List ℕ) (params : List Val) (seed : Value) (entries kept : ℕ) → Stand app p
     → entries ≡ capped (entries_with (held_by (seen app p)) (length (steps_of (method app name)))) → (nat_lt max_entries entries || nat_lt max_kept kept) ≡ false
-    → kept_of app q ≡ record (with_begun (programs app) (kept_of app p) session k name params seed) { bytes = p.kept; steps = p.reserved } → q.reserved + length (steps_of (method app name)) ≤ max_entries
+    → kept_of app q ≡ uncounted app p session k name params seed → q.reserved + length (steps_of (method app name)) ≤ max_entries
 steps_fit app p q session k name params seed entries kept st counts is keeps =
     let parts = or_parts (nat_lt max_entries entries) (nat_lt max_kept kept) is in
     let few = ltb-false max_entries entries parts.0 in
@@ -116,7 +114,7 @@ steps_fit app p q session k name params seed entries kept st counts is keeps =
 pub begins : (app : App) (p q p' : Parts) (session k : ℕ) (name : List ℕ) (params : List Val) (seed : Value) (entries kept : ℕ) → Stand app p → is_some (method app name) ≡ true → is_next session k (held_by (seen app p)).runs ≡ true
     → at run_cmp p.calls.entries (session, k) ≡ None → entries ≡ capped (entries_with (held_by (seen app p)) (length (steps_of (method app name)))) → kept ≡ capped (kept_with (held_by (seen app p)) params (view seed))
     → (nat_lt max_entries entries || nat_lt max_kept kept) ≡ false → q.store.names ≡ p.store.names
-    → kept_of app q ≡ record (with_begun (programs app) (kept_of app p) session k name params seed) { bytes = p.kept; steps = p.reserved }
+    → kept_of app q ≡ uncounted app p session k name params seed
     → p' ≡ record q { kept = kept; reserved = q.reserved + length (steps_of (method app name)) } → HasBegun app p p' session k name params seed
 begins app p q p' session k name params seed entries kept st known next none counts weighs is names keeps after =
     let m = seen app p in

@@ -3,3 +3,4 @@ pub mod Beginnings
 pub mod Operating
 pub mod Machines
 pub mod Steppings
+pub mod Nexts

@@ -1,17 +1,16 @@
 -- What a machine's parts say of its history.
 use Rattle.std.specs.Prelude.{option_map, option_and_then}
-use Rattle.std.proofs.Common.{◌≡◌, ℕ, ◌≤◌, List, [], ◌∷◌, length, take, Option, Some, None, refl, ap, sym, subst, ◌∙◌, arith}
+use Rattle.std.proofs.Common.{◌≡◌, ℕ, ◌≤◌, List, [], length, Option, Some, None, refl, ap, sym, subst, ◌∙◌, arith}
 use Rattle.std.proofs.lemmas.List.{length-map, take_all}
 use Rattle.map_model.specs.Maps.{at}
 use Rattle.app_model.specs.App.{App}
 use Rattle.collection_store.specs.State.{StoreState}
-use Rattle.program_steps.specs.declared.outcome.Status.{Status}
 use Rattle.history_model.specs.declared.entry.Entry.{Entry}
-use Rattle.history_model.specs.History.{RunKey, run_cmp, held, held_at, status_at, changes_between}
+use Rattle.history_model.specs.History.{run_cmp, held, status_at, changes_between}
 use Rattle.history_log.specs.declared.log.Logged.{Logged}
 use Rattle.history_log.specs.Log.{entries_in, changes_behind, rows_after}
 use Rattle.log_laws.specs.LogOfLaws.{changes_behind-log_of, rows_after-log_of}
-use Rattle.log_laws.specs.Places.{Life, status_by}
+use Rattle.log_laws.specs.Places.{status_by}
 use Rattle.log_laws.specs.Keeping.{Kept, Keeps, no_entries}
 use Rattle.log_laws.specs.KeepingLaws.{keeps_nothing}
 use Rattle.store_machine.specs.declared.called.Called.{Called}

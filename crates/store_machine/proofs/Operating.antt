@@ -1,29 +1,24 @@
 -- Operations that are made or refused.
 use Rattle.std.specs.Prelude.{Result, Err}
-use Rattle.std.proofs.Common.{◌≡◌, ℕ, ◌+◌, ◌-◌, ◌≤◌, false, List, [], ◌∷◌, ◌++◌, Option, Some, None, Ok, refl, ap, ap₂, sym, subst, ◌∙◌, arith}
+use Rattle.std.proofs.Common.{◌≡◌, ◌+◌, ◌-◌, ◌≤◌, false, List, [], ◌∷◌, ◌++◌, Some, Ok, refl, ap, sym, ◌∙◌, arith}
 use Rattle.value_model.specs.Val.{Val}
-use Rattle.ejson_value.specs.declared.change.Change.{Change}
 use Rattle.app_model.specs.App.{App}
 use Rattle.collection_store.specs.Limits.{new_bytes}
 use Rattle.collection_store.specs.Outcome.{Outcome, code_of, Gives}
 use Rattle.collection_store.specs.Applied.{Applied, applied}
-use Rattle.collection_store.specs.State.{StoreState}
 use Rattle.collection_store.specs.declared.fault.OpFault.{OpFault}
 use Rattle.collection_store.specs.declared.fault.OpFault.TheVariants as fault
 use Rattle.collection_store.specs.declared.operation.Op.{Op}
-use Rattle.history_model.specs.declared.entry.Entry.{Entry}
 use Rattle.history_model.specs.declared.entry.Entry.TheVariants as entry
 use Rattle.history_model.specs.Operations.{operation_in}
-use Rattle.history_model.specs.History.{room_in, is_full_for_operation, held, max_kept}
-use Rattle.history_log.specs.declared.log.Logged.{Logged}
+use Rattle.history_model.specs.History.{room_in, is_full_for_operation, max_kept}
 use Rattle.history_log.specs.Log.{entries_in, settled}
 use Rattle.history_log.specs.LogLaws.{settled-push}
-use Rattle.log_laws.specs.Places.{Lives}
-use Rattle.log_laws.specs.Keeping.{Kept, with_operation_made}
+use Rattle.log_laws.specs.Keeping.{with_operation_made}
 use Rattle.log_laws.specs.KeepingLaws.{same_answer, keeps_operated}
 use Rattle.store_machine.specs.declared.fault.AdminFault.{AdminFault}
 use Rattle.store_machine.specs.declared.parts.Parts.{Parts}
-use Rattle.store_machine.specs.State.{MachineState, programs, held_by, with_entry, refusal_of, by_answer, by_operation, AdminGives}
+use Rattle.store_machine.specs.State.{MachineState, programs, held_by, refusal_of, by_answer, by_operation, AdminGives}
 use Rattle.store_machine.specs.Standing.{AreSame, seen, kept_of, Stand}
 use Rattle.store_machine.proofs.Standings.{kept_same, same_lives, history_after, longer_seen, stand_operated}
 

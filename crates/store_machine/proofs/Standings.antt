@@ -1,11 +1,11 @@
 -- What stands after each entry.
-use Rattle.std.specs.Prelude.{is_some, option_map, not, Result, Err, OnErr, if◌then◌else◌}
+use Rattle.std.specs.Prelude.{is_some, option_map, Result, Err, OnErr}
 use Rattle.std.specs.Ordering.{eq_by_cmp}
-use Rattle.std.proofs.Common.{◌≡◌, ℕ, suc, ◌+◌, ◌-◌, ◌≤◌, Bool, true, false, ◌||◌, cond, List, [], ◌∷◌, ◌++◌, length, map, Option, Some, None, Ok, refl, ap, ap₂, sym, subst, ◌∙◌, arith}
+use Rattle.std.proofs.Common.{◌≡◌, ℕ, suc, ◌+◌, ◌-◌, ◌≤◌, Bool, true, false, ◌||◌, cond, List, [], ◌∷◌, ◌++◌, length, Option, Some, None, Ok, refl, ap, ap₂, sym, subst, ◌∙◌, arith}
 use Rattle.std.proofs.lemmas.Bool.{not-true}
 use Rattle.std.proofs.lemmas.Cmp.{eq_by_cmp_equiv}
 use Rattle.std.proofs.lemmas.List.{map-append, length-map}
-use Rattle.map_model.specs.Maps.{at, set}
+use Rattle.map_model.specs.Maps.{at}
 use Rattle.map_model.specs.MapLaws.{key_is, eq_by_cmp-self}
 use Rattle.value_model.specs.Val.{Val}
 use Rattle.ejson_value.specs.View.{view}
@@ -18,24 +18,23 @@ use Rattle.collection_store.specs.State.{StoreState}
 use Rattle.collection_store.specs.declared.operation.Op.{Op}
 use Rattle.program_model.specs.Run.{Run}
 use Rattle.program_model.specs.Steps.{Setting, Stepped, stepped}
-use Rattle.program_run.specs.Planned.{setting_of}
 use Rattle.history_model.specs.declared.entry.Entry.{Entry}
 use Rattle.history_model.specs.declared.entry.Entry.TheVariants as entry
 use Rattle.history_model.specs.Operations.{operation_in}
-use Rattle.history_model.specs.History.{RunKey, run_cmp, Begun, steps_of, status_of, status_in, no_steps, goes_on, is_next, is_full, is_full_for_operation, held, max_kept, max_entries}
+use Rattle.history_model.specs.History.{RunKey, run_cmp, Begun, status_of, status_in, no_steps, goes_on, is_next, is_full, is_full_for_operation, held, max_kept, max_entries}
 use Rattle.history_model.specs.HistoryLaws.{run_order, held_entries}
 use Rattle.history_model.specs.LimitLaws.{left_of}
 use Rattle.history_log.specs.declared.log.Logged.{Logged}
 use Rattle.history_log.specs.Log.{entries_in, settled, without_last}
 use Rattle.history_log.specs.LogLaws.{without_last-push, settled-push}
-use Rattle.log_laws.specs.Places.{Life, Lives, put, noted}
-use Rattle.log_laws.specs.Keeping.{Kept, Keeps, room_by, setting_with, next_place, next_life, with_begun, with_step_made, with_operation_made}
+use Rattle.log_laws.specs.Places.{Life, put, noted}
+use Rattle.log_laws.specs.Keeping.{Kept, Keeps, room_by, setting_with, next_life, with_begun, with_step_made, with_operation_made}
 use Rattle.log_laws.specs.KeepingLaws.{run_of_life, keeps_begun, keeps_stepped, keeps_operated, step_fits, steps_among, status_kept}
 use Rattle.store_machine.specs.declared.called.Called.{Called}
 use Rattle.store_machine.specs.declared.called.Made.{Made}
 use Rattle.store_machine.specs.declared.parts.Parts.{Parts}
 use Rattle.store_machine.specs.State.{MachineState, programs, held_by, with_entry, is_running, step_state}
-use Rattle.store_machine.specs.Standing.{begun_of, life_of, Calls, lives_of, HasStepped, IsPut, HasSteppedAt, AreSame, seen, kept_of, Stand}
+use Rattle.store_machine.specs.Standing.{begun_of, life_of, Calls, lives_of, IsPut, HasSteppedAt, AreSame, seen, kept_of, Stand}
 
 -- one entry behind the others
 pub entries_in-push : (ls : List Logged) (l : Logged) → entries_in (ls ++ l ∷ []) ≡ entries_in ls ++ l.entry ∷ []

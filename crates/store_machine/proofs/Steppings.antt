@@ -1,11 +1,10 @@
 -- A call's run makes a step.
 use Rattle.std.specs.Prelude.{option_map}
-use Rattle.std.proofs.Common.{◌≡◌, ℕ, Option, Some, None, refl, ap, sym, subst, ◌∙◌}
+use Rattle.std.proofs.Common.{◌≡◌, ℕ, Option, Some, refl, ap, sym, subst, ◌∙◌}
 use Rattle.app_model.specs.App.{App, method}
 use Rattle.collection_store.specs.State.{StoreState}
 use Rattle.program_steps.specs.declared.outcome.Status.{Status}
-use Rattle.program_steps.specs.Runs.{Outcome, End, outcome_view}
-use Rattle.program_model.specs.Run.{Run}
+use Rattle.program_steps.specs.Runs.{Outcome, outcome_view}
 use Rattle.program_model.specs.Steps.{Stepped, stepped}
 use Rattle.program_run.specs.declared.run.Effect.{Effect}
 use Rattle.program_run.specs.Progress.{Progress, run_of}

@@ -1,20 +1,20 @@
 -- What a machine keeps: all that its history leads to.
-use Rattle.std.specs.Prelude.{◌≡◌, ℕ, List, [], ◌∷◌, nat_le, Option, None, Some, option_map, if◌then◌else◌}
+use Rattle.std.specs.Prelude.{◌≡◌, ℕ, List, nat_le, Option, None, Some, option_map, if◌then◌else◌}
 use Rattle.std.specs.Ordering.{eq_by_cmp}
 use Rattle.map_model.specs.Maps.{at}
-use Rattle.ejson_value.specs.declared.change.Change.{Change}
+use Rattle.value_model.specs.Val.{Val}
+use Rattle.ejson_value.specs.declared.value.Value.{Value}
 use Rattle.app_model.specs.App.{App, method}
 use Rattle.program_steps.specs.declared.outcome.Status.{Status}
 use Rattle.program_steps.specs.Runs.{Outcome, End}
-use Rattle.program_model.specs.Run.{Run}
-use Rattle.program_model.specs.Steps.{Stepped, stepped}
+use Rattle.program_model.specs.Steps.{stepped}
 use Rattle.program_run.specs.Progress.{run_of}
 use Rattle.program_run.specs.Planned.{setting_of}
 use Rattle.collection_store.specs.State.{StoreState}
 use Rattle.history_model.specs.History.{RunKey, run_cmp, Begun, status_of, steps_of}
 use Rattle.history_log.specs.Log.{entries_in}
 use Rattle.log_laws.specs.Places.{Life, Lives, is_by, told, noted}
-use Rattle.log_laws.specs.Keeping.{Kept, Keeps}
+use Rattle.log_laws.specs.Keeping.{Kept, Keeps, with_begun}
 use Rattle.store_machine.specs.declared.called.Called.{Called}
 use Rattle.store_machine.specs.declared.called.Made.{Made}
 use Rattle.store_machine.specs.declared.parts.Parts.{Parts}
@@ -79,6 +79,10 @@ seen app p = record { app = app; history = entries_in p.log }
 -- what is kept, seen by the lives of runs
 abbrev pub kept_of : App → Parts → Kept
 kept_of app p = record { rows = p.store.rows; lives = lives_of app p.calls.entries; bytes = p.kept; steps = p.reserved; log = p.log }
+
+-- what is kept where a call and its entry are put there, its bytes and its steps not counted yet
+abbrev pub uncounted : App → Parts → ℕ → ℕ → List ℕ → List Val → Value → Kept
+uncounted app p session k name params seed = record (with_begun (programs app) (kept_of app p) session k name params seed) { bytes = p.kept; steps = p.reserved }
 
 -- the parts are what the history of their log leads to, over the application's collections
 pub record Stand (app : App) (p : Parts) : Type 0 where

@@ -1,5 +1,5 @@
 -- The machine of a store as contracts see it: its application and its history, and nothing else. Its documents and runs are what the history leads to.
-use Rattle.std.specs.Prelude.{◌≡◌, ℕ, ◌+◌, List, [], ◌∷◌, ◌++◌, length, Bool, Option, None, Some, is_some, Result, Ok, Err, if◌then◌else◌}
+use Rattle.std.specs.Prelude.{◌≡◌, ℕ, List, [], ◌∷◌, ◌++◌, length, Bool, Option, None, Some, is_some, Result, Ok, Err, if◌then◌else◌}
 use Rattle.map_model.specs.Maps.{at}
 use Rattle.value_model.specs.Val.{Val}
 use Rattle.ejson_value.specs.View.{view}

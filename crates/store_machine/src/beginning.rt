@@ -7,9 +7,8 @@ ghost use Rattle.program_model.specs.Run.{begun};
 ghost use Rattle.ejson_value.specs.Measure.{capped};
 ghost use Rattle.history_model.specs.declared.entry.Entry.TheVariants.{Begin};
 ghost use Rattle.history_model.specs.History.{run_cmp, status_of, status_in, steps_of, kept_with, is_next, max_entries, max_kept};
-ghost use Rattle.log_laws.specs.Keeping.{with_begun};
-ghost use Rattle.store_machine.specs.State.{programs, held_by, full_with, begin_answer, BeginGives};
-ghost use Rattle.store_machine.specs.Standing.{begun_of, IsPut, AreSame, kept_of, seen, Stand};
+ghost use Rattle.store_machine.specs.State.{held_by, begin_answer, BeginGives};
+ghost use Rattle.store_machine.specs.Standing.{begun_of, IsPut, AreSame, kept_of, uncounted, seen, Stand};
 
 use crate::called::{Called, steps_of};
 use crate::fault::BeginFault;
@@ -56,6 +55,15 @@ fn begin_entry(
     })
 }
 
+// Puts the call among those that have begun.
+fn put(calls: &mut Calls, session: u32, k: u64, called: Called) -> Result<(), Mem>
+    ensures put { OnOk result (IsPut calls.old.entries (session, k) called calls.new.entries) }
+    ensures same { OnErr result (AreSame calls.old.entries calls.new.entries) }
+{
+    drop(calls.insert((session, k), called)?);
+    Ok(())
+}
+
 // Puts the entry behind the others and the call among those that have begun, or neither.
 fn add(parts: &mut Parts, session: u32, k: u64, called: Called, entry: Entry) -> Result<(), Mem>
     ensures log { OnOk result (parts.new.log ≡ parts.old.log ++ record { entry = entry; changes = [] } ∷ []) }
@@ -67,13 +75,11 @@ fn add(parts: &mut Parts, session: u32, k: u64, called: Called, entry: Entry) ->
     ensures same_calls { OnErr result (AreSame parts.old.calls.entries parts.new.calls.entries) }
 {
     parts.log.push(entry)?;
-    match parts.calls.insert((session, k), called) {
-        Ok(_) => Ok(()),
-        Err(_) => {
-            parts.log.pop();
-            Err(Mem)
-        }
+    let put = put(&mut parts.calls, session, k, called);
+    if put.is_err() {
+        parts.log.pop();
     }
+    put
 }
 
 // The call as it begins at the place, and how far it is then.
@@ -127,7 +133,7 @@ fn add_call(
     seed: &Value,
 ) -> Result<Status, Mem>
     requires { length parts.old.log < 2 ^ 64 - 1 }
-    ensures keeps { OnOk result (kept_of app.now parts.new ≡ record (with_begun (programs app.now) (kept_of app.now parts.old) session k method.now params.now seed.now) { bytes = parts.old.kept; steps = parts.old.reserved }) }
+    ensures keeps { OnOk result (kept_of app.now parts.new ≡ uncounted app.now parts.old session k method.now params.now seed.now) }
     ensures names { parts.new.store.names ≡ parts.old.store.names }
     ensures status { IfOk result (λ status. option_map (λ c. status_of (begun_of app.now c)) (at run_cmp parts.new.calls.entries (session, k)) ≡ Some status) }
     ensures err { OnErr result (kept_of app.now parts.new ≡ kept_of app.now parts.old) }
@@ -191,6 +197,18 @@ fn begin_new(
     parts.kept = kept;
     parts.reserved += steps;
     Ok(status)
+}
+
+/// Whether the call may be begun: it has a run, or its number is above those of its session's calls.
+pub(crate) fn may_begin(app: &App, parts: &Parts, session: u32, k: u64) -> bool
+    requires { Stand app.now parts.now }
+    ensures { result ≡ (is_some (status_in (held_by (seen app.now parts.now)) session k) || is_next session k (held_by (seen app.now parts.now)).runs) }
+{
+    let _app = app;
+    match parts.calls.range((session, k)..).next() {
+        None => true,
+        Some((key, _)) => key.0 != session || key.1 == k,
+    }
 }
 
 /// Begins the call's run, or answers how far it is where it has one.

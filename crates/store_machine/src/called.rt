@@ -1,5 +1,5 @@
 //! Calls whose runs have begun.
-ghost use Rattle.std.specs.Prelude.{◌≡◌, ℕ, length, nat_le, Some, None, IfOk, OnOk, OnErr, option_map, if◌then◌else◌};
+ghost use Rattle.std.specs.Prelude.{◌≡◌, length, nat_le, Some, None, IfOk, OnErr, option_map, if◌then◌else◌};
 ghost use Rattle.app_model.specs.App.{App as AnApp, method as method_of};
 ghost use Rattle.program_steps.specs.Runs.{outcome_view};
 ghost use Rattle.program_model.specs.Run.{begun};

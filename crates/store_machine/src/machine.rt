@@ -5,7 +5,7 @@ ghost use Rattle.history_model.specs.History.{status_in, status_at, changes_betw
 ghost use Rattle.history_log.specs.Lines.{store_lines, history_lines};
 ghost use Rattle.store_machine.specs.State.{programs, held_by, held_after, begin_answer, is_running, step_state, admin_answer, BeginGives, AdminGives};
 
-use crate::beginning::begin;
+use crate::beginning::{begin, may_begin};
 use crate::fault::{AdminFault, BeginFault};
 use crate::making::admin;
 use crate::parts::Parts;
@@ -64,6 +64,13 @@ impl Machine {
         })
     }
 
+    /// The application.
+    pub fn app(&self) -> &App
+        ensures { result.now ≡ self.now.app }
+    {
+        &self.app
+    }
+
     /// How many entries the history has.
     pub fn length(&self) -> u64
         ensures { result ≡ length self.now.history }
@@ -87,6 +94,14 @@ impl Machine {
             Some(called) => called.status(at),
             None => Ok(None),
         }
+    }
+
+    /// Whether the call `k` of the session may be begun: it has a run, or `k` is above the numbers of
+    /// the session's calls.
+    pub fn may_begin(&self, session: u32, k: u64) -> bool
+        ensures { result ≡ (is_some (status_in (held_by self.now) session k) || is_next session k (held_by self.now).runs) }
+    {
+        may_begin(&self.app, &self.parts, session, k)
     }
 
     /// Begins the call `k` of the session: its method, the parameters and the seed. Where it has a run

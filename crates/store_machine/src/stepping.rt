@@ -1,10 +1,10 @@
 //! Steps of calls.
-ghost use Rattle.std.specs.Prelude.{◌≡◌, ◌+◌, ◌-◌, ◌<◌, ◌≤◌, ◌^◌, length, None, Some, is_some, option_map, option_copied, true, IfOk, IfSome, IfNone, OnOk, OnErr, if◌then◌else◌};
+ghost use Rattle.std.specs.Prelude.{◌≡◌, ◌+◌, ◌-◌, ◌<◌, ◌≤◌, ◌^◌, None, Some, option_map, true, IfOk, OnOk, OnErr, if◌then◌else◌};
 ghost use Rattle.map_model.specs.Maps.{at};
 ghost use Rattle.collection_store.specs.Limits.{new_bytes};
 ghost use Rattle.history_model.specs.History.{run_cmp, goes_on, status_in};
 ghost use Rattle.history_model.specs.LimitLaws.{left_of};
-ghost use Rattle.history_log.specs.Log.{settled, entries_in};
+ghost use Rattle.history_log.specs.Log.{settled};
 ghost use Rattle.store_machine.specs.State.{held_by, is_running, step_state};
 ghost use Rattle.store_machine.specs.Standing.{begun_of, HasSteppedAt, AreSame, seen, Stand};
 

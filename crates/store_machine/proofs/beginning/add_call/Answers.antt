@@ -1,8 +1,7 @@
 use Rattle.std.specs.Prelude.{option_map}
-use Rattle.std.proofs.Common.{◌≡◌, Some, refl, ap, sym, ◌∙◌, arith}
-use Rattle.map_model.specs.Maps.{at}
+use Rattle.std.proofs.Common.{Some, ap, sym, ◌∙◌, arith}
 use Rattle.collection_store.specs.State.{StoreState}
-use Rattle.history_model.specs.History.{run_cmp, status_of}
+use Rattle.history_model.specs.History.{status_of}
 use Rattle.store_machine.specs.declared.called.Called.{Called}
 use Rattle.store_machine.specs.Standing.{begun_of, kept_of}
 use Rattle.store_machine.proofs.Standings.{is_there, kept_same, same_lives, on_err}

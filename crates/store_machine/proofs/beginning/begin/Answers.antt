@@ -1,5 +1,5 @@
 use Rattle.std.specs.Prelude.{is_some}
-use Rattle.std.proofs.Common.{◌≡◌, refl, ap, sym, ◌∙◌}
+use Rattle.std.proofs.Common.{ap, sym, ◌∙◌}
 use Rattle.history_model.specs.History.{status_in, status_of, is_next}
 use Rattle.store_machine.specs.declared.called.Called.{Called}
 use Rattle.store_machine.specs.State.{held_by}

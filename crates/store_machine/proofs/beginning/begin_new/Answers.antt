@@ -1,7 +1,6 @@
-use Rattle.std.proofs.Common.{◌≡◌, ◌+◌, ◌≤◌, ◌||◌, length, refl, ap, sym, subst, ◌∙◌, arith}
+use Rattle.std.proofs.Common.{◌+◌, refl, ap, sym, ◌∙◌, arith}
 use Rattle.ejson_value.specs.Measure.{capped}
-use Rattle.app_model.specs.App.{method}
-use Rattle.history_model.specs.History.{steps_of, entries_with}
+use Rattle.history_model.specs.History.{entries_with}
 use Rattle.store_machine.specs.declared.parts.Parts.{Parts}
 use Rattle.store_machine.specs.State.{held_by}
 use Rattle.store_machine.specs.Standing.{seen}

@@ -1,5 +1,5 @@
 use Rattle.std.specs.Prelude.{Result, Err}
-use Rattle.std.proofs.Common.{◌≡◌, Some, None, refl, ap, sym, subst, ◌∙◌, cond}
+use Rattle.std.proofs.Common.{refl, ap, sym, subst, ◌∙◌, cond}
 use Rattle.store_machine.specs.declared.fault.AdminFault.{AdminFault}
 use Rattle.store_machine.specs.declared.fault.AdminFault.TheVariants.{Refused}
 use Rattle.store_machine.specs.State.{MachineState, by_operation, AdminGives}

@@ -1,19 +1,17 @@
 use Rattle.std.specs.Prelude.{Err}
-use Rattle.std.proofs.Common.{◌≡◌, ◌+◌, ◌-◌, List, [], ◌∷◌, ◌++◌, Some, refl, ap, sym, subst, ◌∙◌, arith}
-use Rattle.ejson_value.specs.View.{view}
+use Rattle.std.proofs.Common.{◌+◌, ◌-◌, List, [], ◌∷◌, ◌++◌, Some, refl, ap, sym, subst, ◌∙◌, arith}
 use Rattle.collection_store.specs.Answered.{applied_as}
 use Rattle.collection_store.specs.Limits.{new_bytes}
 use Rattle.collection_store.specs.Outcome.{Outcome, code_of}
 use Rattle.collection_store.specs.declared.operation.Reply.{Reply}
 use Rattle.collection_store.specs.Applied.{Applied, applied}
 use Rattle.history_model.specs.declared.entry.Entry.{Entry}
-use Rattle.history_model.specs.declared.entry.Entry.TheVariants.{Admin}
 use Rattle.history_model.specs.History.{max_kept}
 use Rattle.history_log.specs.declared.log.Logged.{Logged}
 use Rattle.history_log.specs.Log.{settled}
 use Rattle.store_machine.specs.declared.fault.AdminFault.{AdminFault}
 use Rattle.store_machine.specs.declared.parts.Parts.{Parts}
-use Rattle.store_machine.specs.State.{MachineState, refusal_of, by_answer, by_operation, AdminGives}
+use Rattle.store_machine.specs.State.{refusal_of, by_answer, by_operation, AdminGives}
 use Rattle.store_machine.specs.Standing.{seen}
 use Rattle.store_machine.proofs.Standings.{bounds, stand_same, taken_back, seen_same, on_err}
 use Rattle.store_machine.proofs.Operating.{answer_seen, operation_fits, operates, IsMade, refused_gives}

@@ -1,5 +1,4 @@
-use Rattle.std.proofs.Common.{ap, sym, ◌∙◌, arith}
-use Rattle.ejson_value.specs.Measure.{capped}
+use Rattle.std.proofs.Common.{arith}
 use Rattle.store_machine.proofs.Beginnings.{counted}
 use Rattle.store_machine.proofs.parts.entries_with.Goals as goal
 

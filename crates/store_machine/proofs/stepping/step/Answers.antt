@@ -1,4 +1,4 @@
-use Rattle.std.proofs.Common.{◌≡◌, None, refl, ap, sym, ◌∙◌, cond}
+use Rattle.std.proofs.Common.{None, ap, sym, ◌∙◌, cond}
 use Rattle.history_model.specs.History.{status_in}
 use Rattle.store_machine.specs.State.{held_by}
 use Rattle.store_machine.specs.Standing.{seen}

@@ -1,4 +1,4 @@
-use Rattle.std.proofs.Common.{◌≡◌, ◌+◌, ◌-◌, ◌≤◌, List, [], ◌∷◌, Some, refl, ap, sym, subst, ◌∙◌, arith}
+use Rattle.std.proofs.Common.{◌+◌, ◌-◌, List, [], Some, refl, ap, sym, subst, ◌∙◌, arith}
 use Rattle.collection_store.specs.Limits.{new_bytes}
 use Rattle.history_model.specs.declared.entry.Entry.TheVariants.{Step}
 use Rattle.history_log.specs.declared.log.Logged.{Logged}

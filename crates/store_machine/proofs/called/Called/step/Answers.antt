@@ -1,6 +1,5 @@
 use Rattle.std.specs.Prelude.{option_map}
-use Rattle.std.proofs.Common.{◌≡◌, List, Some, refl, ◌∙◌, ap, subst}
-use Rattle.ejson_value.specs.declared.change.Change.{Change}
+use Rattle.std.proofs.Common.{◌≡◌, List, Some, ◌∙◌, ap, subst}
 use Rattle.program_steps.specs.declared.step.ProgramStep.{ProgramStep}
 use Rattle.program_steps.specs.declared.outcome.Status.{Status}
 use Rattle.program_steps.specs.Runs.{outcome_view}

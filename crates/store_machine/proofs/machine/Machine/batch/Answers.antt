@@ -1,8 +1,6 @@
 use Rattle.std.specs.Prelude.{IfOk}
-use Rattle.std.proofs.Common.{◌≡◌, ap, sym, subst, ◌∙◌}
-use Rattle.ejson_value.specs.declared.change.Change.{Change}
+use Rattle.std.proofs.Common.{◌≡◌, ap, subst, ◌∙◌}
 use Rattle.history_model.specs.History.{changes_between}
-use Rattle.history_log.specs.declared.batch.Batch.{Batch}
 use Rattle.store_machine.specs.State.{MachineState, programs}
 use Rattle.store_machine.proofs.Machines.{changes_told}
 use Rattle.store_machine.proofs.machine.Machine.batch.Goals as goal

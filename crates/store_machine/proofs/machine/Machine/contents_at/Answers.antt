@@ -1,7 +1,7 @@
 use Rattle.std.specs.Prelude.{IfOk}
-use Rattle.std.proofs.Common.{◌≡◌, ◌≤◌, length, ap, sym, subst, ◌∙◌, arith}
+use Rattle.std.proofs.Common.{◌≡◌, length, ap, subst, ◌∙◌, arith}
 use Rattle.store_machine.specs.State.{MachineState, held_after}
-use Rattle.store_machine.proofs.Machines.{length_seen, rows_told, held_last}
+use Rattle.store_machine.proofs.Machines.{length_seen, rows_told}
 use Rattle.store_machine.proofs.machine.Machine.contents_at.Goals as goal
 
 pub contents_at-requires : goal.contents_at-requires

@@ -1,5 +1,5 @@
 use Rattle.std.specs.Prelude.{IfOk, option_and_then}
-use Rattle.std.proofs.Common.{◌≡◌, ◌≤◌, Some, length, ap, sym, subst, ◌∙◌, arith}
+use Rattle.std.proofs.Common.{◌≡◌, ◌≤◌, length, ap, subst, ◌∙◌, arith}
 use Rattle.history_model.specs.History.{status_at}
 use Rattle.store_machine.specs.State.{MachineState, programs}
 use Rattle.store_machine.specs.Standing.{called_by, seen}
