@@ -11,8 +11,8 @@ use Rattle.map_model.specs.Maps.{at, set, IsSorted, keyed}
 use Rattle.map_model.specs.MapLaws.{key_is, same_maps, at-set, sorted-set}
 use Rattle.ejson_value.specs.Key.{key_cmp, key_order}
 use Rattle.ejson_value.specs.declared.key.Key.{Key}
-use Rattle.merge_box.specs.Held.{KeptDoc}
-use Rattle.merge_box.specs.State.{KeptDocs, is_shared, shared_count}
+use Rattle.kept_document.specs.Held.{KeptDoc, is_shared}
+use Rattle.merge_box.specs.State.{KeptDocs, shared_count}
 use Rattle.merge_box.specs.Inside.{claimed_fields, docs_of}
 
 abbrev pub Entry : Type 0

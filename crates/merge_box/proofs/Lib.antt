@@ -1,10 +1,5 @@
-pub mod Beside
 pub mod Counting
-pub mod KeptAfter
 pub mod Listing
 pub mod MakePlan
 pub mod Places
 pub mod Plans
-pub mod Puts
-pub mod Telling
-pub mod Walks

@@ -2,7 +2,7 @@
 use Rattle.std.proofs.Common.{◌≡◌, ℕ, ◌==◌, Bool, true, false, cond, List, [], ◌∷◌, Option, Some, None, is_some, IsSome, IfSome, option_and_then, Result, Ok, Err, IfOk, OnErr, refl, sym, ap, ap₂, subst, subst₂, ◌∙◌, true≢false}
 use Rattle.std.specs.Ordering.{is_eq}
 use Rattle.map_model.specs.Maps.{at, IsSorted, filter_map_entries}
-use Rattle.map_model.specs.MapLaws.{at-filter_map_entries, sorted-nil, sorted-filter_map_entries, sorted-union}
+use Rattle.map_model.specs.MapLaws.{at-filter_map_entries, sorted-nil, sorted-filter_map_entries}
 use Rattle.map_model.specs.Differences.{IsDiff, between, diff}
 use Rattle.map_model.specs.DifferenceLaws.{between_itself, one_diff, diff_is}
 use Rattle.value_model.specs.Val.{Entries}
@@ -15,17 +15,20 @@ use Rattle.merge_model.specs.MergeLaws.{one_merge}
 use Rattle.merge_model.specs.KeptLaws.{at-merged, merged_is, stands_after}
 use Rattle.ejson_value.specs.declared.key.Key.{Key}
 use Rattle.ejson_value.specs.Key.{name_order, key_cmp, key_order}
-use Rattle.merge_box.specs.Held.{KeptDoc, same_value, with_change, IsHeld, SameDoc}
+use Rattle.kept_document.specs.declared.held.Change.{Change}
+use Rattle.kept_document.specs.Held.{KeptDoc, same_value, IsHeld, SameDoc}
+use Rattle.kept_document.specs.Changes.{held_in, with_change}
 use Rattle.merge_box.specs.Index.{Lists, is_listed}
 use Rattle.merge_box.specs.State.{KeptDocs, Told, BoxState, shared_count, IsBoxAfter, Tells, Answers, IsPlan, IsBox}
-use Rattle.merge_box.specs.Inside.{docs_of, carried_out, with_change_if, after_at, IsGrown, IsInside, IsPlannedAt, IsPublished}
+use Rattle.merge_box.specs.Inside.{Changes, docs_of, carried_out, with_change_if, after_at, IsGrown, IsInside, IsPlannedAt, IsPublished}
 use Rattle.merge_box.proofs.Counting.{shared_docs}
-use Rattle.merge_box.proofs.KeptAfter.{no_claim}
-use Rattle.merge_box.proofs.Places.{same_change, held_same, docs_same, kept_same, held_docs, sorted-docs_of, merged_docs, kept_at-carried_out, sorted-carried_out, after_same}
+use Rattle.kept_document.proofs.KeptAfter.{no_claim}
+use Rattle.kept_document.proofs.Places.{change_held, places_on}
+use Rattle.merge_box.proofs.Places.{docs_same, kept_same, held_docs, sorted-docs_of, merged_docs, kept_at-carried_out, sorted-carried_out, after_same}
 
 -- ---- the box inside
-module _ (kept changes : KeptDocs) (lists : Lists) (inside : IsInside kept changes lists) where
-  after_held : (k : Key) (x : Option KeptDoc) → at key_cmp changes k ≡ x → IsHeld (with_change_if x (kept_at key_cmp kept k))
+module _ (kept : KeptDocs) (changes : Changes) (lists : Lists) (inside : IsInside kept changes lists) where
+  after_held : (k : Key) (x : Option Change) → at key_cmp changes k ≡ x → IsHeld (with_change_if x (kept_at key_cmp kept k))
   after_held k None e = inside.held k
   after_held k (Some change) e = (inside.ready k change e).held
 
@@ -55,8 +58,8 @@ module _ (kept changes : KeptDocs) (lists : Lists) (inside : IsInside kept chang
           let g = kept_at key_cmp grown k in
           record {
             place = grows.keys k was.place;
-            names = λ f h. (grows.docs k).names f (was.names f h);
-            held = held_same (with_change e change) (with_change g change) (same_change e g change (grows.docs k).same) (sorted-union name_order change.fields g.fields ((grows.docs k).held (inside.held k)).by_name) was.held;
+            places = places_on e g change (grows.docs k) was.places;
+            held = change_held e g change (grows.docs k).same ((grows.docs k).held (inside.held k)).by_name was.held;
           };
       will_list = λ k change s is h. listed s k (inside.will_list k change s is h);
     }
@@ -68,7 +71,7 @@ module _ (kept changes : KeptDocs) (lists : Lists) (inside : IsInside kept chang
     pub counted_grown : shared_count grown ≡ shared_count kept
     counted_grown = sym (shared_docs grown) ∙ ap shared_count kept_grown ∙ shared_docs kept
 
-pub planned_grown : (kept changes : KeptDocs) (lists : Lists) (inside : IsInside kept changes lists) (grown : KeptDocs) (more : Lists) → IsGrown kept grown → IsInside grown changes more → docs_of (carried_out changes grown) ≡ docs_of (carried_out changes kept)
+pub planned_grown : (kept : KeptDocs) (changes : Changes) (lists : Lists) (inside : IsInside kept changes lists) (grown : KeptDocs) (more : Lists) → IsGrown kept grown → IsInside grown changes more → docs_of (carried_out changes grown) ≡ docs_of (carried_out changes kept)
 planned_grown kept changes lists inside grown more grows now =
     docs_same (carried_out changes kept) (carried_out changes grown) (sorted-carried_out changes kept inside.by_key) (sorted-carried_out changes grown now.by_key)
     (carried_held kept changes lists inside) (carried_held grown changes more now)
@@ -76,14 +79,14 @@ planned_grown kept changes lists inside grown more grows now =
     (after_same (at key_cmp changes k) (kept_at key_cmp kept k) (kept_at key_cmp grown k) (grows.docs k).same))
 
 -- a new plan
-module _ (sub : ℕ) (news : List (Key × Option Entries)) (kept before changes : KeptDocs) (lists : Lists) (inside : IsInside kept before lists) (sorted : IsSorted key_cmp changes)
+module _ (sub : ℕ) (news : List (Key × Option Entries)) (kept : KeptDocs) (before changes : Changes) (lists : Lists) (inside : IsInside kept before lists) (sorted : IsSorted key_cmp changes)
     (planned : (k : Key) → IsPlannedAt sub (last_news key_cmp news k) (kept_at key_cmp kept k) (at key_cmp changes k))
     (room : (k : Key) → IsSome (at key_cmp changes k) → IsSome (at key_cmp kept k))
     (here : (k : Key) → IsPublished (last_news key_cmp news k) → is_listed lists sub k ≡ true) where
-  plan_at : (k : Key) (change : KeptDoc) → at key_cmp changes k ≡ Some change → IsPlannedAt sub (last_news key_cmp news k) (kept_at key_cmp kept k) (Some change)
+  plan_at : (k : Key) (change : Change) → at key_cmp changes k ≡ Some change → IsPlannedAt sub (last_news key_cmp news k) (kept_at key_cmp kept k) (Some change)
   plan_at k change is = subst (IsPlannedAt sub (last_news key_cmp news k) (kept_at key_cmp kept k)) is (planned k)
 
-  lists_it : (w : Option (Option Entries)) (k : Key) (change : KeptDoc) (s : ℕ) → IsPlannedAt sub w (kept_at key_cmp kept k) (Some change) → (IsPublished w → is_listed lists sub k ≡ true) → has s change.publishers ≡ true → is_listed lists s k ≡ true
+  lists_it : (w : Option (Option Entries)) (k : Key) (change : Change) (s : ℕ) → IsPlannedAt sub w (kept_at key_cmp kept k) (Some change) → (IsPublished w → is_listed lists sub k ≡ true) → has s (held_in change).publishers ≡ true → is_listed lists s k ≡ true
   lists_it w k change s p listed there = elim (s == sub) as (λ b. (s == sub) ≡ b → cond b (is_some p.0) (has s (publishers_at key_cmp kept k)) ≡ true → is_listed lists s k ≡ true) [
     | true ↦ λ t some. ap (λ r. is_listed lists r k) (same_sub s sub t) ∙ listed (subst IsPublished (sym p.1) some)
     | false ↦ λ _ was. inside.listed k s was
@@ -95,17 +98,17 @@ module _ (sub : ℕ) (news : List (Key × Option Entries)) (kept before changes 
     held = inside.held;
     listed = inside.listed;
     changes_by_key = sorted;
-    ready = λ k change is. let p = plan_at k change is in record { place = room k (ap is_some is); names = p.3; held = p.2.held };
+    ready = λ k change is. let p = plan_at k change is in record { place = room k (ap is_some is); places = p.3; held = p.2.held };
     will_list = λ k change s is there. lists_it (last_news key_cmp news k) k change s (plan_at k change is) (here k) there;
   }
 
 -- one document of a plan
 module _ (sub : ℕ) (w : Option (Option Entries)) (old : KeptDoc) where
-  planned_publishers : (x : Option KeptDoc) → IsPlannedAt sub w old x → (s : ℕ) → has s (with_change_if x old).publishers ≡ there_after sub w s (has s old.publishers)
+  planned_publishers : (x : Option Change) → IsPlannedAt sub w old x → (s : ℕ) → has s (with_change_if x old).publishers ≡ there_after sub w s (has s old.publishers)
   planned_publishers None p s = ap (λ v. there_after sub v s (has s old.publishers)) (sym p)
   planned_publishers (Some change) p s = p.2.after.publishers s ∙ ap (λ v. there_after sub v s (has s old.publishers)) (sym p.1)
 
-  planned_claims : (x : Option KeptDoc) → IsPlannedAt sub w old x → (f : List ℕ) → claims_of text_cmp (with_change_if x old) f ≡ claims_after text_cmp sub w f (claims_of text_cmp old f)
+  planned_claims : (x : Option Change) → IsPlannedAt sub w old x → (f : List ℕ) → claims_of text_cmp (with_change_if x old) f ≡ claims_after text_cmp sub w f (claims_of text_cmp old f)
   planned_claims None p f = ap (λ v. claims_after text_cmp sub v f (claims_of text_cmp old f)) (sym p)
   planned_claims (Some change) p f = p.2.after.claims f ∙ ap (λ v. claims_after text_cmp sub v f (claims_of text_cmp old f)) (sym p.1)
 
@@ -133,11 +136,11 @@ answers_of call old new messages whole after told = record {
     order : IsInOrder key_cmp text_cmp new
     order = record { by_key = whole.by_key; by_name = λ k. (whole.held k).by_name }
 
-abbrev pub told_of : KeptDocs → KeptDocs → Told
+abbrev pub told_of : KeptDocs → Changes → Told
 told_of kept changes = filter_map_entries (λ k change. between text_cmp same_value (merged_doc (kept_at key_cmp kept k)) (merged_doc (with_change (kept_at key_cmp kept k) change))) changes
 
-module _ (kept changes : KeptDocs) (lists : Lists) (inside : IsInside kept changes lists) where
-  told_at : (k : Key) (x : Option KeptDoc) → option_and_then (λ change. between text_cmp same_value (merged_doc (kept_at key_cmp kept k)) (merged_doc (with_change (kept_at key_cmp kept k) change))) x
+module _ (kept : KeptDocs) (changes : Changes) (lists : Lists) (inside : IsInside kept changes lists) where
+  told_at : (k : Key) (x : Option Change) → option_and_then (λ change. between text_cmp same_value (merged_doc (kept_at key_cmp kept k)) (merged_doc (with_change (kept_at key_cmp kept k) change))) x
       ≡ between text_cmp same_value (merged_doc (kept_at key_cmp kept k)) (merged_doc (with_change_if x (kept_at key_cmp kept k)))
   told_at k None = sym (between_itself name_order same_value (λ v. ap is_eq (compare_itself v)) (merged_doc (kept_at key_cmp kept k)) (seen_sorted (kept_at key_cmp kept k) (inside.held k)))
   told_at k (Some change) = refl
@@ -185,7 +188,7 @@ module _ (kept changes : KeptDocs) (lists : Lists) (inside : IsInside kept chang
   carried_is new sorted held same = docs_same (carried_out changes kept) new (sorted-carried_out changes kept inside.by_key) sorted (carried_held kept changes lists inside) held
       (λ k. subst (λ e. SameDoc e (kept_at key_cmp new k)) (sym (kept_at-carried_out changes kept k inside.changes_by_key)) (same k))
 
-nothing_planned : (change : KeptDoc) → None ≡ Some change → ⊥
+nothing_planned : (change : Change) → None ≡ Some change → ⊥
 nothing_planned change e = cc
 
 -- no plan
@@ -200,7 +203,7 @@ inside_settled kept lists sorted held listed = record {
 }
 
 pub empty_inside : IsInside [] [] []
-empty_inside = inside_settled [] [] (sorted-nil key_cmp) (λ k. record { by_name = sorted-nil text_cmp; published = λ f s h. absurd (true≢false (sym h)) }) (λ k s h. absurd (true≢false (sym h)))
+empty_inside = inside_settled [] [] (sorted-nil key_cmp) (λ k. record { by_name = sorted-nil text_cmp; published = λ f s h. absurd (true≢false (sym h)); once = λ f. tt }) (λ k s h. absurd (true≢false (sym h)))
 
 -- ---- the plan of a subscription's end: it publishes nothing of what is not listed
 false_of : (b c : Bool) → (b ≡ true → c ≡ true) → c ≡ false → b ≡ false

@@ -1,65 +1,24 @@
--- Places for what a plan brings change nothing of what is kept.
-use Rattle.std.proofs.Common.{◌≡◌, ℕ, true, false, cond, List, [], ◌∷◌, Option, Some, None, is_some, IsSome, option_and_then, unwrap_or, refl, sym, ap, ap₂, subst, ◌∙◌, true≢false}
+-- Places for what a plan brings change nothing of what is kept of the documents.
+use Rattle.std.proofs.Common.{◌≡◌, ℕ, true, false, cond, List, [], ◌∷◌, Option, Some, None, IsSome, option_and_then, unwrap_or, refl, sym, ap, ap₂, subst, ◌∙◌}
 use Rattle.std.specs.Option.{option_or}
 use Rattle.map_model.specs.Maps.{at, IsSorted, filter_map_entries}
 use Rattle.std.specs.Ordering.{eq_by_cmp, is_eq}
 use Rattle.map_model.specs.MapLaws.{key_is, same_maps, sorted-nil, sorted-union, sorted-filter_map_entries, at-union, at-filter_map_entries}
-use Rattle.value_model.specs.Val.{Val, Entries}
+use Rattle.value_model.specs.Val.{Val}
 use Rattle.value_model.specs.Order.{text_cmp}
-use Rattle.merge_model.specs.Kept.{claimed, has, is_empty, kept_at, nothing_kept, first_value, merged, merged_doc, merged_fields, there_after, claims_of, claims_after}
+use Rattle.merge_model.specs.Kept.{is_empty, kept_at, nothing_kept, merged, merged_doc, claims_of}
 use Rattle.merge_model.specs.Box.{unless_empty}
-use Rattle.merge_model.specs.KeptLaws.{at-merged, at-merged_fields}
+use Rattle.merge_model.specs.KeptLaws.{at-merged}
 use Rattle.ejson_value.specs.declared.key.Key.{Key}
 use Rattle.ejson_value.specs.Key.{name_order, key_cmp, key_order}
-use Rattle.merge_box.specs.Held.{KeptDoc, with_change, IsHeld, IsChange, SameDoc, IsDocGrown}
+use Rattle.kept_document.specs.declared.held.Change.{Change}
+use Rattle.kept_document.specs.Held.{KeptDoc, IsHeld, SameDoc, IsDocGrown}
+use Rattle.kept_document.specs.Changes.{with_change}
+use Rattle.kept_document.proofs.Places.{same_change, held_same, merged_same, none_published, grown_itself, grown_on}
+use Rattle.kept_document.proofs.Puts.{put_grows, put_or}
+use Rattle.kept_document.proofs.Telling.{no_claims}
 use Rattle.merge_box.specs.State.{KeptDocs}
-use Rattle.merge_box.specs.Inside.{claimed_fields, published_doc, docs_of, carried_out, with_change_if, after_at, IsGrown}
-use Rattle.merge_box.proofs.KeptAfter.{claims-with_change}
-use Rattle.merge_box.proofs.Puts.{put_grows, put_or}
-use Rattle.merge_box.proofs.Telling.{no_claims}
-
--- ---- one document
-pub same_itself : (e : KeptDoc) → SameDoc e e
-same_itself e = record { publishers = refl; claims = λ f. refl }
-
-pub same_on : (a b c : KeptDoc) → SameDoc a b → SameDoc b c → SameDoc a c
-same_on a b c p q = record { publishers = q.publishers ∙ p.publishers; claims = λ f. q.claims f ∙ p.claims f }
-
-pub same_change : (a b change : KeptDoc) → SameDoc a b → SameDoc (with_change a change) (with_change b change)
-same_change a b change same = record {
-  publishers = refl;
-  claims = λ f. claims-with_change b change f ∙ ap (unwrap_or (at text_cmp change.fields f)) (same.claims f) ∙ sym (claims-with_change a change f);
-}
-
-pub held_same : (a b : KeptDoc) → SameDoc a b → IsSorted text_cmp b.fields → IsHeld a → IsHeld b
-held_same a b same sorted held = record {
-  by_name = sorted;
-  published = λ f s some. ap (has s) same.publishers ∙ held.published f s (ap (λ claims. is_some (claimed s claims)) (sym (same.claims f)) ∙ some);
-}
-
-pub grown_itself : (e : KeptDoc) → IsDocGrown e e
-grown_itself e = record { same = same_itself e; names = λ f h. h; held = λ h. h }
-
-pub grown_on : (a b c : KeptDoc) → IsDocGrown a b → IsDocGrown b c → IsDocGrown a c
-grown_on a b c p q = record { same = same_on a b c p.same q.same; names = λ f h. q.names f (p.names f h); held = λ h. q.held (p.held h) }
-
--- a change of a document is one of the document with more places
-pub change_grown : (sub : ℕ) (doc : Option Entries) (a b change : KeptDoc) → IsDocGrown a b → IsChange sub doc a change → IsChange sub doc b change
-change_grown sub doc a b change grown is = record {
-  was = grown.held is.was;
-  after = record {
-    publishers = λ s. is.after.publishers s ∙ ap (λ ps. there_after sub (Some doc) s (has s ps)) (sym grown.same.publishers);
-    claims = λ f. (same_change a b change grown.same).claims f ∙ is.after.claims f ∙ ap (claims_after text_cmp sub (Some doc) f) (sym (grown.same.claims f));
-  };
-  held = held_same (with_change a change) (with_change b change) (same_change a b change grown.same) (sorted-union name_order change.fields b.fields (grown.held is.was).by_name) is.held;
-}
-
--- what a client sees of it
-pub merged_same : (a b : KeptDoc) → SameDoc a b → IsSorted text_cmp a.fields → IsSorted text_cmp b.fields → merged_doc b ≡ merged_doc a
-merged_same a b same sorted_a sorted_b =
-    ap₂ (λ ps fields. cond (is_empty ps) None (Some fields)) same.publishers
-    (same_maps name_order (merged_fields b.fields) (merged_fields a.fields) (sorted-filter_map_entries text_cmp (λ f claims. first_value claims) b.fields sorted_b) (sorted-filter_map_entries text_cmp (λ f claims. first_value claims) a.fields sorted_a)
-    (λ f. at-merged_fields key_order name_order b f sorted_b ∙ ap first_value (same.claims f) ∙ sym (at-merged_fields key_order name_order a f sorted_a)))
+use Rattle.merge_box.specs.Inside.{Changes, claimed_fields, published_doc, docs_of, carried_out, with_change_if, after_at, IsGrown}
 
 -- ---- without places
 unless_of : (x : Option (List (ℕ × Val))) → option_and_then (λ claims. unless_empty claims) x ≡ unless_empty (unwrap_or x [])
@@ -105,10 +64,6 @@ docs_same a b sorted_a sorted_b held_a held_b same =
     same_maps key_order (docs_of b) (docs_of a) (sorted-docs_of b sorted_b) (sorted-docs_of a sorted_a)
     (λ k. at-docs_of b k sorted_b ∙ published_same (kept_at key_cmp a k) (kept_at key_cmp b k) (same k) (held_a k).by_name (held_b k).by_name ∙ sym (at-docs_of a k sorted_a))
 
-none_published : (ps : List ℕ) → is_empty ps ≡ true → ps ≡ []
-none_published [] e = refl
-none_published (p ∷ ps) e = absurd (true≢false (sym e))
-
 -- what is kept of a document that somebody publishes is what is kept of it inside
 pub kept_same : (kept : KeptDocs) (k : Key) → IsSorted key_cmp kept → IsHeld (kept_at key_cmp kept k) → SameDoc (kept_at key_cmp kept k) (kept_at key_cmp (docs_of kept) k)
 kept_same kept k sorted held =
@@ -137,21 +92,21 @@ merged_docs kept sorted held =
     ∙ sym (at-merged key_order name_order kept k sorted))
 
 -- ---- once the changes are carried out
-or_kept : (x : Option KeptDoc) (y : Option KeptDoc) (e : KeptDoc) → e ≡ unwrap_or y nothing_kept → unwrap_or (option_or (option_and_then (λ change. Some (with_change e change)) x) y) nothing_kept ≡ with_change_if x e
+or_kept : (x : Option Change) (y : Option KeptDoc) (e : KeptDoc) → e ≡ unwrap_or y nothing_kept → unwrap_or (option_or (option_and_then (λ change. Some (with_change e change)) x) y) nothing_kept ≡ with_change_if x e
 or_kept None y e is = sym is
 or_kept (Some change) y e is = refl
 
-pub kept_at-carried_out : (changes kept : KeptDocs) (k : Key) → IsSorted key_cmp changes → kept_at key_cmp (carried_out changes kept) k ≡ after_at changes kept k
+pub kept_at-carried_out : (changes : Changes) (kept : KeptDocs) (k : Key) → IsSorted key_cmp changes → kept_at key_cmp (carried_out changes kept) k ≡ after_at changes kept k
 kept_at-carried_out changes kept k sorted =
     ap (λ x. unwrap_or x nothing_kept) (
     at-union key_order (filter_map_entries (λ q change. Some (with_change (kept_at key_cmp kept q) change)) changes) kept k
     ∙ ap (λ x. option_or x (at key_cmp kept k)) (at-filter_map_entries key_order (λ q change. Some (with_change (kept_at key_cmp kept q) change)) changes k sorted))
     ∙ or_kept (at key_cmp changes k) (at key_cmp kept k) (kept_at key_cmp kept k) refl
 
-pub sorted-carried_out : (changes kept : KeptDocs) → IsSorted key_cmp kept → IsSorted key_cmp (carried_out changes kept)
+pub sorted-carried_out : (changes : Changes) (kept : KeptDocs) → IsSorted key_cmp kept → IsSorted key_cmp (carried_out changes kept)
 sorted-carried_out changes kept sorted = sorted-union key_order (filter_map_entries (λ q change. Some (with_change (kept_at key_cmp kept q) change)) changes) kept sorted
 
-pub after_same : (x : Option KeptDoc) (a b : KeptDoc) → SameDoc a b → SameDoc (with_change_if x a) (with_change_if x b)
+pub after_same : (x : Option Change) (a b : KeptDoc) → SameDoc a b → SameDoc (with_change_if x a) (with_change_if x b)
 after_same None a b same = same
 after_same (Some change) a b same = same_change a b change same
 
@@ -165,14 +120,6 @@ IsGrown-itself kept = record { keys = λ k h. h; docs = λ k. grown_itself (kept
 pub IsGrown-on : (a b c : KeptDocs) → IsGrown a b → IsGrown b c → IsGrown a c
 IsGrown-on a b c p q = record { keys = λ k h. q.keys k (p.keys k h); docs = λ k. grown_on (kept_at key_cmp a k) (kept_at key_cmp b k) (kept_at key_cmp c k) (p.docs k) (q.docs k) }
 
--- places in one document
-pub places_grown : (ps : List ℕ) (old new : List (List ℕ × List (ℕ × Val))) → ((f : List ℕ) → unwrap_or (at text_cmp new f) [] ≡ unwrap_or (at text_cmp old f) []) → ((f : List ℕ) → IsSome (at text_cmp old f) → IsSome (at text_cmp new f)) → IsSorted text_cmp new
-    → IsDocGrown (record { publishers = ps; fields = old }) (record { publishers = ps; fields = new })
-places_grown ps old new same grows sorted = record { same = same_fields; names = grows; held = λ h. held_same (record { publishers = ps; fields = old }) (record { publishers = ps; fields = new }) same_fields sorted h }
-  where
-    same_fields : SameDoc (record { publishers = ps; fields = old }) (record { publishers = ps; fields = new })
-    same_fields = record { publishers = refl; claims = same }
-
 pub grown_at : (old new : KeptDocs) (key : Key) (e grown : KeptDoc) → Some e ≡ at key_cmp old key → ((k : Key) → at key_cmp new k ≡ cond (is_eq (key_cmp key k)) (Some grown) (at key_cmp old k)) → IsDocGrown e grown → IsGrown old new
 grown_at old new key e grown value change grows = record {
   keys = put_grows key_order old new key (Some grown) change refl;
@@ -182,13 +129,3 @@ grown_at old new key e grown value change grows = record {
         | false ↦ λ _. grown_itself (kept_at key_cmp old k)
       ] refl);
 }
-
--- ---- what is left of a document that is taken over, or that nobody publishes any more
-pub take_same : (old change : KeptDoc) (new : List (List ℕ × List (ℕ × Val))) → ((f : List ℕ) → unwrap_or (at text_cmp new f) [] ≡ unwrap_or (at text_cmp change.fields f) (claims_of text_cmp old f)) → SameDoc (with_change old change) (record { publishers = change.publishers; fields = new })
-take_same old change new is = record { publishers = refl; claims = λ f. is f ∙ sym (claims-with_change old change f) }
-
-pub gone_same : (e : KeptDoc) → IsHeld e → is_empty e.publishers ≡ true → SameDoc e nothing_kept
-gone_same e held none = record { publishers = sym (none_published e.publishers none); claims = λ f. sym (no_claims e f held none) }
-
-pub nothing_held : IsHeld nothing_kept
-nothing_held = record { by_name = sorted-nil text_cmp; published = λ f s h. absurd (true≢false (sym h)) }

@@ -13,19 +13,23 @@ use Rattle.ejson_value.specs.declared.message.DataMsg.{DataMsg}
 use Rattle.ejson_value.specs.Messages.{said}
 use Rattle.merge_box.specs.Index.{lists_of, is_listed}
 use Rattle.std.specs.Ordering.{eq_by_cmp, is_eq}
-use Rattle.map_model.specs.Maps.{at}
-use Rattle.map_model.specs.MapLaws.{key_is, eq_by_cmp-self}
+use Rattle.std.proofs.lemmas.Map.Keys.{sorted_tail}
+use Rattle.map_model.specs.Maps.{at, IsSorted}
+use Rattle.map_model.specs.MapLaws.{key_is, eq_by_cmp-self, at-tail}
 use Rattle.merge_model.specs.Kept.{has, kept_at, publishers_at, nothing_kept}
 use Rattle.merge_model.specs.Publishing.{last_news}
 use Rattle.value_model.specs.Val.{Entries}
 use Rattle.ejson_value.specs.declared.key.Key.{Key}
 use Rattle.ejson_value.specs.Key.{key_cmp, key_order}
-use Rattle.merge_box.specs.Held.{KeptDoc, with_change, IsHeld, IsChange, SameDoc, IsDocGrown, HasPlaces}
+use Rattle.kept_document.specs.declared.held.Change.{Change}
+use Rattle.kept_document.specs.declared.held.Change.TheVariants.{Whole}
+use Rattle.kept_document.specs.Held.{KeptDoc, IsHeld, SameDoc, IsDocGrown}
+use Rattle.kept_document.specs.Changes.{held_in, with_change, IsChange, HasPlaces}
 use Rattle.ejson_value.specs.Changes.{news_of}
 use Rattle.merge_box.specs.State.{KeptDocs}
-use Rattle.merge_box.specs.Inside.{with_change_if, after_at, IsGrown, IsReady, IsPlannedAt, IsPublished}
-use Rattle.merge_box.proofs.Places.{same_itself, change_grown}
-use Rattle.merge_box.proofs.Puts.{left_from, left_cases}
+use Rattle.merge_box.specs.Inside.{Changes, planned_at, with_change_if, after_at, IsGrown, IsReady, IsPlannedAt, IsPublished}
+use Rattle.kept_document.proofs.Places.{same_itself, places_on, change_grown}
+use Rattle.kept_document.proofs.Puts.{left_from, left_cases}
 use Rattle.merge_box.proofs.Listing.{either_way}
 
 -- one more of the news
@@ -76,38 +80,38 @@ pub unlisted_news : (index : List (ℕ × BTreeSet Key)) (sub : ℕ) (k : Key) �
 unlisted_news index sub k e = ap (λ b. cond b gone None) e
 
 -- what is put into a plan
-pub put_planned_here : (old new : KeptDocs) (key copied : Key) (change : KeptDoc) → copied ≡ key → ((k : Key) → at key_cmp new k ≡ cond (is_eq (key_cmp copied k)) (Some change) (at key_cmp old k)) → kept_at key_cmp new key ≡ change
-put_planned_here old new key copied change same put = ap (λ x. unwrap_or x nothing_kept) (put key ∙ ap (λ q. cond (is_eq (key_cmp q key)) (Some change) (at key_cmp old key)) same ∙ ap (λ b. cond b (Some change) (at key_cmp old key)) (eq_by_cmp-self key_order key))
+pub put_planned_here : (old new : Changes) (key copied : Key) (change : Change) → copied ≡ key → ((k : Key) → at key_cmp new k ≡ cond (is_eq (key_cmp copied k)) (Some change) (at key_cmp old k)) → planned_at new key ≡ change
+put_planned_here old new key copied change same put = ap (λ x. unwrap_or x (Whole nothing_kept)) (put key ∙ ap (λ q. cond (is_eq (key_cmp q key)) (Some change) (at key_cmp old key)) same ∙ ap (λ b. cond b (Some change) (at key_cmp old key)) (eq_by_cmp-self key_order key))
 
-pub put_planned : (old new : KeptDocs) (key copied : Key) (change : KeptDoc) → copied ≡ key → ((k : Key) → at key_cmp new k ≡ cond (is_eq (key_cmp copied k)) (Some change) (at key_cmp old k))
-    → (k : Key) → at key_cmp new k ≡ cond (eq_by_cmp key_cmp k key) (Some (kept_at key_cmp new key)) (at key_cmp old k)
+pub put_planned : (old new : Changes) (key copied : Key) (change : Change) → copied ≡ key → ((k : Key) → at key_cmp new k ≡ cond (is_eq (key_cmp copied k)) (Some change) (at key_cmp old k))
+    → (k : Key) → at key_cmp new k ≡ cond (eq_by_cmp key_cmp k key) (Some (planned_at new key)) (at key_cmp old k)
 put_planned old new key copied change same put k =
     put k ∙ ap (λ q. cond (is_eq (key_cmp q k)) (Some change) (at key_cmp old k)) same
     ∙ ap₂ (λ b e. cond b (Some e) (at key_cmp old k)) (either_way key k) (sym (put_planned_here old new key copied change same put))
 
-planned_grown : (sub : ℕ) (w : Option (Option Entries)) (a b : KeptDoc) (x : Option KeptDoc) → IsDocGrown a b → IsPlannedAt sub w a x → IsPlannedAt sub w b x
+planned_grown : (sub : ℕ) (w : Option (Option Entries)) (a b : KeptDoc) (x : Option Change) → IsDocGrown a b → IsPlannedAt sub w a x → IsPlannedAt sub w b x
 planned_grown sub w a b None grown p = p
-planned_grown sub w a b (Some change) grown p = (p.0, p.1, change_grown sub p.0 a b change grown p.2, λ f h. grown.names f (p.3 f h))
+planned_grown sub w a b (Some change) grown p = (p.0, p.1, change_grown sub p.0 a b change grown p.2, places_on a b change grown p.3)
 
 -- one more is planned
-pub planned_step : (sub : ℕ) (kept grown plan new : KeptDocs) (news : List Publish) (i : ℕ) (p : Publish) → news_of (take (i + 1) news) ≡ news_of (take i news) ++ (p.key, p.new) ∷ []
+pub planned_step : (sub : ℕ) (kept grown : KeptDocs) (plan new : Changes) (news : List Publish) (i : ℕ) (p : Publish) → news_of (take (i + 1) news) ≡ news_of (take i news) ++ (p.key, p.new) ∷ []
     → IsGrown kept grown
     → ((k : Key) → IsPlannedAt sub (last_news key_cmp (news_of (take i news)) k) (kept_at key_cmp kept k) (at key_cmp plan k))
-    → ((k : Key) → at key_cmp new k ≡ cond (eq_by_cmp key_cmp k p.key) (Some (kept_at key_cmp new p.key)) (at key_cmp plan k))
-    → IsChange sub p.new (kept_at key_cmp grown p.key) (kept_at key_cmp new p.key) → HasPlaces (kept_at key_cmp grown p.key) (kept_at key_cmp new p.key)
+    → ((k : Key) → at key_cmp new k ≡ cond (eq_by_cmp key_cmp k p.key) (Some (planned_at new p.key)) (at key_cmp plan k))
+    → IsChange sub p.new (kept_at key_cmp grown p.key) (planned_at new p.key) → HasPlaces (kept_at key_cmp grown p.key) (planned_at new p.key)
     → (k : Key) → IsPlannedAt sub (last_news key_cmp (news_of (take (i + 1) news)) k) (kept_at key_cmp grown k) (at key_cmp new k)
 planned_step sub kept grown plan new news i p more grows before change is places k =
     subst (λ x. IsPlannedAt sub (last_news key_cmp (news_of (take (i + 1) news)) k) (kept_at key_cmp grown k) x) (sym (change k))
-    (subst (λ w. IsPlannedAt sub w (kept_at key_cmp grown k) (cond (eq_by_cmp key_cmp k p.key) (Some (kept_at key_cmp new p.key)) (at key_cmp plan k))) (sym (ap (λ es. last_news key_cmp es k) more ∙ last_news-push (news_of (take i news)) p.key p.new k))
-    (elim (eq_by_cmp key_cmp k p.key) as (λ b. eq_by_cmp key_cmp k p.key ≡ b → IsPlannedAt sub (cond b (Some p.new) (last_news key_cmp (news_of (take i news)) k)) (kept_at key_cmp grown k) (cond b (Some (kept_at key_cmp new p.key)) (at key_cmp plan k))) [
-      | true ↦ λ t. subst (λ q. IsPlannedAt sub (Some p.new) (kept_at key_cmp grown q) (Some (kept_at key_cmp new p.key))) (sym (key_is key_order k p.key t)) (p.new, refl, is, places)
+    (subst (λ w. IsPlannedAt sub w (kept_at key_cmp grown k) (cond (eq_by_cmp key_cmp k p.key) (Some (planned_at new p.key)) (at key_cmp plan k))) (sym (ap (λ es. last_news key_cmp es k) more ∙ last_news-push (news_of (take i news)) p.key p.new k))
+    (elim (eq_by_cmp key_cmp k p.key) as (λ b. eq_by_cmp key_cmp k p.key ≡ b → IsPlannedAt sub (cond b (Some p.new) (last_news key_cmp (news_of (take i news)) k)) (kept_at key_cmp grown k) (cond b (Some (planned_at new p.key)) (at key_cmp plan k))) [
+      | true ↦ λ t. subst (λ q. IsPlannedAt sub (Some p.new) (kept_at key_cmp grown q) (Some (planned_at new p.key))) (sym (key_is key_order k p.key t)) (p.new, refl, is, places)
       | false ↦ λ t. planned_grown sub (last_news key_cmp (news_of (take i news)) k) (kept_at key_cmp kept k) (kept_at key_cmp grown k) (at key_cmp plan k) (grows.docs k) (before k)
     ] refl))
 
-pub room_step : (kept grown plan new : KeptDocs) (key : Key) → ((k : Key) → IsSome (at key_cmp plan k) → IsSome (at key_cmp kept k)) → ((k : Key) → IsSome (at key_cmp kept k) → IsSome (at key_cmp grown k)) → IsSome (at key_cmp grown key)
-    → ((k : Key) → at key_cmp new k ≡ cond (eq_by_cmp key_cmp k key) (Some (kept_at key_cmp new key)) (at key_cmp plan k)) → (k : Key) → IsSome (at key_cmp new k) → IsSome (at key_cmp grown k)
+pub room_step : (kept grown : KeptDocs) (plan new : Changes) (key : Key) → ((k : Key) → IsSome (at key_cmp plan k) → IsSome (at key_cmp kept k)) → ((k : Key) → IsSome (at key_cmp kept k) → IsSome (at key_cmp grown k)) → IsSome (at key_cmp grown key)
+    → ((k : Key) → at key_cmp new k ≡ cond (eq_by_cmp key_cmp k key) (Some (planned_at new key)) (at key_cmp plan k)) → (k : Key) → IsSome (at key_cmp new k) → IsSome (at key_cmp grown k)
 room_step kept grown plan new key before grows here change k some =
-    elim (eq_by_cmp key_cmp k key) as (λ b. eq_by_cmp key_cmp k key ≡ b → is_some (cond b (Some (kept_at key_cmp new key)) (at key_cmp plan k)) ≡ true → is_some (at key_cmp grown k) ≡ true) [
+    elim (eq_by_cmp key_cmp k key) as (λ b. eq_by_cmp key_cmp k key ≡ b → is_some (cond b (Some (planned_at new key)) (at key_cmp plan k)) ≡ true → is_some (at key_cmp grown k) ≡ true) [
       | true ↦ λ t _. ap (λ q. is_some (at key_cmp grown q)) (key_is key_order k key t) ∙ here
       | false ↦ λ t h. grows k (before k h)
     ] refl (ap is_some (sym (change k)) ∙ some)
@@ -122,6 +126,16 @@ listed_step sub index grown news i p more before stays here k h =
       | true ↦ λ t some. ap (is_listed (lists_of grown) sub) (key_is key_order k p.key t) ∙ here some
       | false ↦ λ t some. stays sub k (before k some)
     ] refl (subst IsPublished (ap (λ es. last_news key_cmp es k) more ∙ last_news-push (news_of (take i news)) p.key p.new k) h)
+
+-- what a walk over the changes comes to is the change at its key
+pub at_walk : (done : Changes) (k : Key) (change : Change) (rest : Changes) → IsSorted key_cmp (done ++ (k, change) ∷ rest) → at key_cmp (done ++ (k, change) ∷ rest) k ≡ Some change
+at_walk [] k change rest sorted = ap (λ b. cond b (Some change) (at key_cmp rest k)) (eq_by_cmp-self key_order k)
+at_walk (e ∷ done) k change rest sorted =
+    let later = at_walk done k change rest (sorted_tail key_cmp _ _ sorted) in
+    elim (eq_by_cmp key_cmp k e.0) as (λ b. eq_by_cmp key_cmp k e.0 ≡ b → cond b (Some e.1) (at key_cmp (done ++ (k, change) ∷ rest) k) ≡ Some change) [
+      | true ↦ λ t. absurd (true≢false (ap is_some (sym later ∙ at-tail key_order e (done ++ (k, change) ∷ rest) k sorted t)))
+      | false ↦ λ _. later
+    ] refl
 
 -- one more message
 pub message_next : {X : Type 0} (f : Key → X → Option (Step (List ℕ) Val)) (done : List (Key × X)) (k : Key) (x : X) (messages : List DataMsg) (message : Option DataMsg)
@@ -141,7 +155,7 @@ message_next f done k x messages message so_far is =
     keyed_is (Some step) = refl
 
 -- Carrying a plan out: `rest` is the plan without its first entry, the change of the document `key`, which makes `new` of `old`.
-module _ (plan rest old new : KeptDocs) (key : Key) (change : KeptDoc) (value : at key_cmp plan key ≡ Some change) (updates : (k : Key) → at key_cmp rest k ≡ cond (is_eq (key_cmp key k)) None (at key_cmp plan k))
+module _ (plan rest : Changes) (old new : KeptDocs) (key : Key) (change : Change) (value : at key_cmp plan key ≡ Some change) (updates : (k : Key) → at key_cmp rest k ≡ cond (is_eq (key_cmp key k)) None (at key_cmp plan k))
     (same : SameDoc (with_change (kept_at key_cmp old key) change) (kept_at key_cmp new key)) (others : (k : Key) → eq_by_cmp key_cmp k key ≡ false → at key_cmp new k ≡ at key_cmp old k) where
   kept_others : (k : Key) → eq_by_cmp key_cmp k key ≡ false → kept_at key_cmp new k ≡ kept_at key_cmp old k
   kept_others k other = ap (λ x. unwrap_or x nothing_kept) (others k other)
@@ -161,19 +175,19 @@ module _ (plan rest old new : KeptDocs) (key : Key) (change : KeptDoc) (value : 
     | false ↦ λ t. subst IsHeld (sym (kept_others k t)) (before k)
   ] refl
 
-  pub ready_step : ((k : Key) (c : KeptDoc) → at key_cmp plan k ≡ Some c → IsReady old k c) → (k : Key) (c : KeptDoc) → at key_cmp rest k ≡ Some c → IsReady new k c
+  pub ready_step : ((k : Key) (c : Change) → at key_cmp plan k ≡ Some c → IsReady old k c) → (k : Key) (c : Change) → at key_cmp rest k ≡ Some c → IsReady new k c
   ready_step ready k c is =
       let other = left_from key_order plan rest key updates k c is in
       let was = ready k c other.1 in
       record {
         place = ap is_some (others k other.0) ∙ was.place;
-        names = subst (λ e. HasPlaces e c) (sym (kept_others k other.0)) was.names;
+        places = subst (λ e. HasPlaces e c) (sym (kept_others k other.0)) was.places;
         held = subst (λ e. IsHeld (with_change e c)) (sym (kept_others k other.0)) was.held;
       }
 
-  module _ (index left : List (ℕ × BTreeSet Key)) (will_list : (k : Key) (c : KeptDoc) (s : ℕ) → at key_cmp plan k ≡ Some c → has s c.publishers ≡ true → is_listed (lists_of index) s k ≡ true)
-      (stays : (k : Key) (s : ℕ) → (eq_by_cmp key_cmp k key ≡ true → has s change.publishers ≡ true) → is_listed (lists_of index) s k ≡ true → is_listed (lists_of left) s k ≡ true) where
-    pub will_list_step : (k : Key) (c : KeptDoc) (s : ℕ) → at key_cmp rest k ≡ Some c → has s c.publishers ≡ true → is_listed (lists_of left) s k ≡ true
+  module _ (index left : List (ℕ × BTreeSet Key)) (will_list : (k : Key) (c : Change) (s : ℕ) → at key_cmp plan k ≡ Some c → has s (held_in c).publishers ≡ true → is_listed (lists_of index) s k ≡ true)
+      (stays : (k : Key) (s : ℕ) → (eq_by_cmp key_cmp k key ≡ true → has s (held_in change).publishers ≡ true) → is_listed (lists_of index) s k ≡ true → is_listed (lists_of left) s k ≡ true) where
+    pub will_list_step : (k : Key) (c : Change) (s : ℕ) → at key_cmp rest k ≡ Some c → has s (held_in c).publishers ≡ true → is_listed (lists_of left) s k ≡ true
     will_list_step k c s is there =
         let other = left_from key_order plan rest key updates k c is in
         stays k s (λ t. absurd (true≢false (sym t ∙ other.0))) (will_list k c s other.1 there)

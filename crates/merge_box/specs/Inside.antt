@@ -3,11 +3,15 @@ use Rattle.std.specs.Prelude.{◌≡◌, ℕ, true, List, Option, Some, None, Is
 use Rattle.std.specs.Option.{option_flatten}
 use Rattle.map_model.specs.Maps.{at, IsSorted, union, filter_map_entries}
 use Rattle.value_model.specs.Val.{Val, Entries}
-use Rattle.merge_model.specs.Kept.{has, is_empty, kept_at, publishers_at}
+use Rattle.std.specs.Prelude.{unwrap_or}
+use Rattle.merge_model.specs.Kept.{has, is_empty, nothing_kept, kept_at, publishers_at}
 use Rattle.merge_model.specs.Box.{unless_empty}
 use Rattle.ejson_value.specs.declared.key.Key.{Key}
 use Rattle.ejson_value.specs.Key.{key_cmp}
-use Rattle.merge_box.specs.Held.{KeptDoc, with_change, IsHeld, IsChange, IsDocGrown, HasPlaces}
+use Rattle.kept_document.specs.declared.held.Change.{Change}
+use Rattle.kept_document.specs.declared.held.Change.TheVariants.{Whole}
+use Rattle.kept_document.specs.Held.{KeptDoc, IsHeld, IsDocGrown}
+use Rattle.kept_document.specs.Changes.{held_in, with_change, IsChange, HasPlaces}
 use Rattle.merge_box.specs.Index.{Lists, is_listed}
 use Rattle.merge_box.specs.State.{KeptDocs}
 
@@ -23,16 +27,24 @@ published_doc e = if is_empty e.publishers then None else Some (record { publish
 abbrev pub docs_of : KeptDocs → KeptDocs
 docs_of kept = filter_map_entries (λ k e. published_doc e) kept
 
+-- what changes of documents, by key
+abbrev pub Changes : Type 0
+Changes = List (Key × Change)
+
+-- the change at a key
+abbrev pub planned_at : Changes → Key → Change
+planned_at changes k = unwrap_or (at key_cmp changes k) (Whole nothing_kept)
+
 -- what is kept once the changes are carried out
-abbrev pub carried_out : KeptDocs → KeptDocs → KeptDocs
+abbrev pub carried_out : Changes → KeptDocs → KeptDocs
 carried_out changes kept = union key_cmp (filter_map_entries (λ k change. Some (with_change (kept_at key_cmp kept k) change)) changes) kept
 
-abbrev pub with_change_if : Option KeptDoc → KeptDoc → KeptDoc
+abbrev pub with_change_if : Option Change → KeptDoc → KeptDoc
 with_change_if None e = e
 with_change_if (Some change) e = with_change e change
 
 -- the same at a key
-abbrev pub after_at : KeptDocs → KeptDocs → Key → KeptDoc
+abbrev pub after_at : Changes → KeptDocs → Key → KeptDoc
 after_at changes kept k = with_change_if (at key_cmp changes k) (kept_at key_cmp kept k)
 
 -- the same is kept of each document, in no fewer places
@@ -41,22 +53,22 @@ pub record IsGrown (old new : KeptDocs) : Type 0 where
   pub docs : (k : Key) → IsDocGrown (kept_at key_cmp old k) (kept_at key_cmp new k)
 
 -- the change of a document can be carried out, with no memory
-pub record IsReady (kept : KeptDocs) (k : Key) (change : KeptDoc) : Type 0 where
+pub record IsReady (kept : KeptDocs) (k : Key) (change : Change) : Type 0 where
   pub place : IsSome (at key_cmp kept k)
-  pub names : HasPlaces (kept_at key_cmp kept k) change
+  pub places : HasPlaces (kept_at key_cmp kept k) change
   pub held : IsHeld (with_change (kept_at key_cmp kept k) change)
 
 -- each document is kept whole and is listed under its publishers, and the changes can be carried out
-pub record IsInside (kept changes : KeptDocs) (lists : Lists) : Type 0 where
+pub record IsInside (kept : KeptDocs) (changes : Changes) (lists : Lists) : Type 0 where
   pub by_key : IsSorted key_cmp kept
   pub held : (k : Key) → IsHeld (kept_at key_cmp kept k)
   pub listed : (k : Key) (s : ℕ) → has s (publishers_at key_cmp kept k) ≡ true → is_listed lists s k ≡ true
   pub changes_by_key : IsSorted key_cmp changes
-  pub ready : (k : Key) (change : KeptDoc) → at key_cmp changes k ≡ Some change → IsReady kept k change
-  pub will_list : (k : Key) (change : KeptDoc) (s : ℕ) → at key_cmp changes k ≡ Some change → has s change.publishers ≡ true → is_listed lists s k ≡ true
+  pub ready : (k : Key) (change : Change) → at key_cmp changes k ≡ Some change → IsReady kept k change
+  pub will_list : (k : Key) (change : Change) (s : ℕ) → at key_cmp changes k ≡ Some change → has s (held_in change).publishers ≡ true → is_listed lists s k ≡ true
 
 -- what a plan has at a key: the change that the subscription's news of the document make, if there are any
-abbrev pub IsPlannedAt : ℕ → Option (Option Entries) → KeptDoc → Option KeptDoc → Type 0
+abbrev pub IsPlannedAt : ℕ → Option (Option Entries) → KeptDoc → Option Change → Type 0
 IsPlannedAt sub w old None = w ≡ None
 IsPlannedAt sub w old (Some change) = (d : Option Entries) × (w ≡ Some d) × IsChange sub d old change × HasPlaces old change
 

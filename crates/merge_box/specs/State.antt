@@ -1,6 +1,5 @@
 -- What contracts see of a merge box and of a plan, and what a call does to a box.
-use Rattle.std.specs.Prelude.{◌≡◌, ℕ, Bool, false, not, ◌==◌, List, [], ◌∷◌, filter, length}
-use Rattle.std.specs.List.{list_any}
+use Rattle.std.specs.Prelude.{◌≡◌, ℕ, List, ◌∷◌, filter, length}
 use Rattle.map_model.specs.Maps.{IsSorted}
 use Rattle.map_model.specs.Differences.{Step, IsDiff, diff}
 use Rattle.value_model.specs.Val.{Val, Entries}
@@ -10,7 +9,7 @@ use Rattle.merge_model.specs.Publishing.{Call, shown, shown_since}
 use Rattle.merge_model.specs.Kept.{merged, kept_at, Stands, IsAfter}
 use Rattle.ejson_value.specs.declared.key.Key.{Key}
 use Rattle.ejson_value.specs.Key.{key_cmp}
-use Rattle.merge_box.specs.Held.{KeptDoc, same_value, IsHeld}
+use Rattle.kept_document.specs.Held.{KeptDoc, is_shared, same_value, IsHeld}
 
 -- what is kept, by key
 abbrev pub KeptDocs : Type 0
@@ -28,11 +27,6 @@ Calls = List (Call Key Entries)
 pub record BoxState : Type 0 where
   pub kept : KeptDocs
   pub planned : KeptDocs
-
--- two or more subscriptions publish the document
-abbrev pub is_shared : List ℕ → Bool
-is_shared [] = false
-is_shared (s ∷ others) = list_any (λ r. not (r == s)) others
 
 -- how many documents two or more subscriptions publish
 abbrev pub shared_count : KeptDocs → ℕ

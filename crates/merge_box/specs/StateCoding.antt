@@ -5,7 +5,7 @@ use Rattle.map_model.specs.Differences.{Step, added, changed, removed}
 use Rattle.value_model.specs.Val.{Val, Entries}
 use Rattle.value_model.specs.Coding.{entries_code}
 use Rattle.ejson_value.specs.Key.{key_code}
-use Rattle.merge_box.specs.Held.{kept_code}
+use Rattle.kept_document.specs.Held.{kept_code}
 use Rattle.merge_box.specs.State.{KeptDocs, Told, BoxState}
 
 abbrev pub step_to : Step (List ℕ) Val → ℕ × Entries × List (List ℕ)

@@ -9,7 +9,7 @@ ghost use Rattle.ejson_value.specs.Changes.{news_of};
 ghost use Rattle.merge_box.specs.State.{shared_count, IsBoxAfter, Tells, Answers, IsPlan, IsBox};
 
 use crate::index::{Index, forget_unlisted};
-use crate::plan::{KeptMap, messages_of, plan_news, removals, take_all};
+use crate::plan::{ChangeMap, KeptMap, messages_of, plan_news, removals, take_all};
 use ejson_value::{DataList, Doc, Key, Mem, Publish, Publishes};
 use std::alloc::Global;
 use std::collections::BTreeMap;
@@ -30,7 +30,7 @@ pub struct MergeBox {
     index: Index,
     // The last plan: its subscription, and what it changes.
     sub: u64,
-    changes: KeptMap,
+    changes: ChangeMap,
 }
 
 impl Model for MergeBox {

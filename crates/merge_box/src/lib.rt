@@ -2,12 +2,8 @@
 #![tactic(auto)]
 
 mod boxes;
-mod claims;
-mod held;
 mod index;
-mod messages;
 mod plan;
-mod sides;
 
 pub use boxes::{MergeBox, MergePlan};
 pub use ejson_value::{DataList, DataMsg};

@@ -8,30 +8,34 @@ ghost use Rattle.merge_model.specs.Kept.{has, kept_at, publishers_at, merged_doc
 ghost use Rattle.value_model.specs.Order.{text_cmp};
 ghost use Rattle.ejson_value.specs.declared.key.Key.{Key};
 ghost use Rattle.ejson_value.specs.Key.{key_cmp};
-ghost use Rattle.merge_box.specs.Held.{KeptDoc, same_value, with_change, IsHeld, IsChange, SameDoc, HasPlaces};
+ghost use Rattle.kept_document.specs.declared.held.Change.{Change};
+ghost use Rattle.kept_document.specs.Held.{is_shared, same_value, IsHeld, SameDoc};
+ghost use Rattle.kept_document.specs.Changes.{held_in, with_change, IsChange, HasPlaces, IsFor};
 ghost use Rattle.merge_box.specs.Index.{lists_of, is_listed};
-ghost use Rattle.merge_box.specs.State.{is_shared, shared_count};
+ghost use Rattle.merge_box.specs.State.{shared_count};
 ghost use Rattle.ejson_value.specs.Messages.{said};
 ghost use Rattle.ejson_value.specs.Changes.{news_of};
-ghost use Rattle.merge_box.specs.Inside.{after_at, IsGrown, IsReady, IsInside, IsPlannedAt, IsPublished};
+ghost use Rattle.merge_box.specs.Inside.{planned_at, after_at, IsGrown, IsReady, IsInside, IsPlannedAt, IsPublished};
 
-use crate::held::Held;
 use crate::index::{Index, list, unlist};
-use crate::messages::told;
 use ejson_value::{DataList, DataMsg, Key, Mem, Publish, Publishes};
+use kept_document::{Change, Held, told};
 use std::alloc::Global;
 use std::collections::{BTreeMap, BTreeSet};
 
-/// What is kept of documents, or what changes of them, by key.
+/// What is kept of documents, by key.
 pub(crate) type KeptMap = BTreeMap<Key, Held>;
 
+/// What changes of documents, by key.
+pub(crate) type ChangeMap = BTreeMap<Key, Change>;
+
 // Makes a place for the document, if there is none.
-fn make_room(kept: &mut KeptMap, alloc: Global, key: &Key) -> Result<(), Mem>
+fn make_room(kept: &mut KeptMap, key: &Key) -> Result<(), Mem>
     ensures grown { IsGrown kept.old.entries kept.new.entries }
     ensures room { OnOk result (IsSome (at key_cmp kept.new.entries key.now)) }
 {
     if !kept.contains_key(key) {
-        drop(kept.insert(key.copy()?, Held::new(alloc))?);
+        drop(kept.insert(key.copy()?, Held::new())?);
     }
     Ok(())
 }
@@ -56,18 +60,19 @@ fn list_published(
 }
 
 // What changes of a document once the subscription publishes this.
-fn change_at(kept: &KeptMap, alloc: Global, sub: u64, publish: &Publish) -> Result<Held, Mem>
+fn change_at(kept: &KeptMap, alloc: Global, sub: u64, publish: &Publish) -> Result<Change, Mem>
     ensures { IfOk result (λ change. IsChange sub publish.now.new (kept_at key_cmp kept.now.entries publish.now.key) change) }
 {
     match kept.get(&publish.key) {
-        None => Held::new(alloc).change(alloc, sub, publish.new.as_ref()),
+        None => Held::new().change(alloc, sub, publish.new.as_ref()),
         Some(held) => held.change(alloc, sub, publish.new.as_ref()),
     }
 }
 
 // Makes a place for each field of the change.
-fn make_places_at(kept: &mut KeptMap, alloc: Global, key: &Key, change: &Held) -> Result<(), Mem>
-    requires { IsSome (at key_cmp kept.old.entries key.now) }
+fn make_places_at(kept: &mut KeptMap, alloc: Global, key: &Key, change: &Change) -> Result<(), Mem>
+    requires place { IsSome (at key_cmp kept.old.entries key.now) }
+    requires form { IsFor (kept_at key_cmp kept.old.entries key.now) change.now }
     ensures grown { IsGrown kept.old.entries kept.new.entries }
     ensures room { OnOk result (HasPlaces (kept_at key_cmp kept.new.entries key.now) change.now) }
 {
@@ -79,7 +84,7 @@ fn make_places_at(kept: &mut KeptMap, alloc: Global, key: &Key, change: &Held) -
 
 // Plans what becomes of one document.
 fn plan_publish(
-    plan: &mut KeptMap,
+    plan: &mut ChangeMap,
     kept: &mut KeptMap,
     index: &mut Index,
     alloc: Global,
@@ -92,14 +97,14 @@ fn plan_publish(
     ensures room { OnOk result (IsSome (at key_cmp kept.new.entries publish.now.key)) }
     ensures listed_here { OnOk result (IsSome publish.now.new → is_listed (lists_of index.new.entries) sub publish.now.key ≡ true) }
     ensures planned { OnOk result ((k : Key) → at key_cmp plan.new.entries k ≡
-        (if eq_by_cmp key_cmp k publish.now.key then Some (kept_at key_cmp plan.new.entries publish.now.key)
+        (if eq_by_cmp key_cmp k publish.now.key then Some (planned_at plan.new.entries publish.now.key)
         else at key_cmp plan.old.entries k)) }
     ensures change { OnOk result (IsChange sub publish.now.new (kept_at key_cmp kept.new.entries publish.now.key)
-        (kept_at key_cmp plan.new.entries publish.now.key)) }
+        (planned_at plan.new.entries publish.now.key)) }
     ensures places { OnOk result (HasPlaces (kept_at key_cmp kept.new.entries publish.now.key)
-        (kept_at key_cmp plan.new.entries publish.now.key)) }
+        (planned_at plan.new.entries publish.now.key)) }
 {
-    make_room(kept, alloc, &publish.key)?;
+    make_room(kept, &publish.key)?;
     list_published(index, alloc, sub, &publish.key, publish.new.is_some())?;
     let change = change_at(kept, alloc, sub, publish)?;
     make_places_at(kept, alloc, &publish.key, &change)?;
@@ -114,7 +119,7 @@ pub(crate) fn plan_news(
     alloc: Global,
     sub: u64,
     news: &[Publish],
-) -> Result<KeptMap, Mem>
+) -> Result<ChangeMap, Mem>
     ensures grown { IsGrown kept.old.entries kept.new.entries }
     ensures listed { (s : ℕ) (k : Key) → is_listed (lists_of index.old.entries) s k ≡ true →
         is_listed (lists_of index.new.entries) s k ≡ true }
@@ -132,13 +137,19 @@ pub(crate) fn plan_news(
 }
 
 // The message about a document of the plan, if the client sees it otherwise afterwards.
-fn told_at(kept: &KeptMap, alloc: Global, key: &Key, change: &Held) -> Result<Option<DataMsg>, Mem>
+fn told_at(
+    kept: &KeptMap,
+    alloc: Global,
+    key: &Key,
+    change: &Change,
+) -> Result<Option<DataMsg>, Mem>
+    requires { IsFor (kept_at key_cmp kept.now.entries key.now) change.now }
     ensures { IfOk result (λ message. option_map said message ≡ option_map (λ step. (key.now, step))
         (between text_cmp same_value (merged_doc (kept_at key_cmp kept.now.entries key.now))
         (merged_doc (with_change (kept_at key_cmp kept.now.entries key.now) change.now)))) }
 {
     match kept.get(key) {
-        None => told(alloc, key, &Held::new(alloc), change),
+        None => told(alloc, key, &Held::new(), change),
         Some(old) => told(alloc, key, old, change),
     }
 }
@@ -154,7 +165,8 @@ fn push_message(messages: &mut DataList, message: Option<DataMsg>) -> Result<(),
 }
 
 /// The messages of the plan, by key.
-pub(crate) fn messages_of(kept: &KeptMap, alloc: Global, plan: &KeptMap) -> Result<DataList, Mem>
+pub(crate) fn messages_of(kept: &KeptMap, alloc: Global, plan: &ChangeMap) -> Result<DataList, Mem>
+    requires { (k : Key) (change : Change) → at key_cmp plan.now.entries k ≡ Some change → IsFor (kept_at key_cmp kept.now.entries k) change }
     ensures { IfOk result (λ messages. map said messages ≡ filter_map_entries (λ k change.
         between text_cmp same_value (merged_doc (kept_at key_cmp kept.now.entries k))
         (merged_doc (with_change (kept_at key_cmp kept.now.entries k) change))) plan.now.entries) }
@@ -168,7 +180,7 @@ pub(crate) fn messages_of(kept: &KeptMap, alloc: Global, plan: &KeptMap) -> Resu
 }
 
 // Carries out the change of one document, and takes its place away where nobody publishes it any more.
-fn take_or_trim(kept: &mut KeptMap, key: &Key, change: Held)
+fn take_or_trim(kept: &mut KeptMap, key: &Key, change: Change)
     requires { IsReady kept.old.entries key.now change }
     ensures same { SameDoc (with_change (kept_at key_cmp kept.old.entries key.now) change) (kept_at key_cmp kept.new.entries key.now) }
     ensures held { IsHeld (kept_at key_cmp kept.new.entries key.now) }
@@ -183,8 +195,8 @@ fn take_or_trim(kept: &mut KeptMap, key: &Key, change: Held)
 }
 
 // Lists the key under the subscription no more, where it does not publish the document.
-fn unlist_unpublished(index: &mut Index, sub: u64, key: &Key, change: &Held)
-    ensures { (k : Key) (s : ℕ) → (eq_by_cmp key_cmp k key.now ≡ true → has s change.now.publishers ≡ true) →
+fn unlist_unpublished(index: &mut Index, sub: u64, key: &Key, change: &Change)
+    ensures { (k : Key) (s : ℕ) → (eq_by_cmp key_cmp k key.now ≡ true → has s (held_in change.now).publishers ≡ true) →
         is_listed (lists_of index.old.entries) s k ≡ true → is_listed (lists_of index.new.entries) s k ≡ true }
 {
     if !change.publishes(sub) {
@@ -216,7 +228,7 @@ fn counted(count: u64, was: bool, is: bool) -> u64
 }
 
 // Carries out the change of one document, where so many were published by two or more subscriptions, and answers how many are.
-fn take_counted(kept: &mut KeptMap, count: u64, key: &Key, change: Held) -> u64
+fn take_counted(kept: &mut KeptMap, count: u64, key: &Key, change: Change) -> u64
     requires ready { IsReady kept.old.entries key.now change }
     requires count { count ≡ shared_count kept.old.entries }
     ensures same { SameDoc (with_change (kept_at key_cmp kept.old.entries key.now) change) (kept_at key_cmp kept.new.entries key.now) }
@@ -239,7 +251,7 @@ pub(crate) fn take_all(
     kept: &mut KeptMap,
     index: &mut Index,
     sub: u64,
-    changes: KeptMap,
+    changes: ChangeMap,
     count: u64,
 ) -> u64
     requires inside { IsInside kept.old.entries changes.entries (lists_of index.old.entries) }

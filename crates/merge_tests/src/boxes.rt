@@ -65,6 +65,21 @@ const SEVERAL_SHARED: &str = "1 x a=1 => added c/x a=1; [0]
 2 drop => changed c/x -b;removed c/y; [0]
 ";
 
+const ALONE_AND_SHARED_BY_TURNS: &str = "1 x a=1 b=1 => added c/x a=1 b=1; [0]
+2 gone x =>  [0]
+2 x b=2 c=2 => changed c/x c=2; [1]
+1 x a=1 => changed c/x b=2; [1]
+2 gone x => changed c/x -b -c; [0]
+1 x a=3 b=3 => changed c/x a=3 b=3; [0]
+2 x a=4 b=4 =>  [1]
+1 drop => changed c/x a=4 b=4; [0]
+1 x a=5 =>  [1]
+2 x => changed c/x a=5 -b; [1]
+2 x a=6 =>  [1]
+1 drop => changed c/x a=6; [0]
+2 drop => removed c/x; [0]
+";
+
 fn number(n: i64) -> Value {
     match Whole::of(n) {
         None => Value::Null,
@@ -232,6 +247,7 @@ fn tables_of_calls(rt: HostRuntime) -> Result<(), Fail> {
         FIRST_ENDS,
         FIELDS_COME_AND_GO,
         SEVERAL_SHARED,
+        ALONE_AND_SHARED_BY_TURNS,
     ] {
         assert_eq!(rt;
             right_in(rt.alloc(), rows)?,

@@ -5,7 +5,7 @@ use Rattle.merge_model.specs.Kept.{nothing_kept}
 use Rattle.ejson_value.specs.declared.key.Key.{Key}
 use Rattle.ejson_value.specs.Key.{key_cmp, key_order}
 use Rattle.merge_box.proofs.Places.{IsGrown-equal}
-use Rattle.merge_box.proofs.Puts.{put_nothing, put_grows}
+use Rattle.kept_document.proofs.Puts.{put_nothing, put_grows}
 use Rattle.merge_box.proofs.plan.make_room.Goals as goal
 
 change : (c : goal.After-drop) (k : Key) → at key_cmp c.insert.new.self.entries k ≡ cond (is_eq (key_cmp c.args.key.now k)) (Some nothing_kept) (at key_cmp c.args.kept.now.entries k)

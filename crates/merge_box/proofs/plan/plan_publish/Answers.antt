@@ -1,8 +1,9 @@
 use Rattle.std.proofs.Common.{sym, subst}
 use Rattle.merge_model.specs.Kept.{kept_at}
 use Rattle.ejson_value.specs.Key.{key_cmp}
-use Rattle.merge_box.specs.Held.{IsChange, HasPlaces}
-use Rattle.merge_box.proofs.Places.{change_grown, IsGrown-on}
+use Rattle.kept_document.specs.Changes.{IsChange, HasPlaces}
+use Rattle.kept_document.proofs.Places.{change_grown}
+use Rattle.merge_box.proofs.Places.{IsGrown-on}
 use Rattle.merge_box.proofs.Plans.{put_planned, put_planned_here}
 use Rattle.merge_box.proofs.plan.plan_publish.Goals as goal
 

@@ -1,6 +1,6 @@
 use Rattle.std.proofs.Common.{◌∷◌, [], ◌++◌, None, ap, ap₂, ◌∙◌}
 use Rattle.ejson_value.specs.Changes.{news_of}
-use Rattle.merge_box.proofs.Walks.{walk_on, walk_end}
+use Rattle.kept_document.proofs.Walks.{walk_on, walk_end}
 use Rattle.merge_box.proofs.Plans.{news_push, gone_push, removed}
 use Rattle.merge_box.proofs.plan.removals_of.Goals as goal
 

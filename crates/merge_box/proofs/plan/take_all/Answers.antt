@@ -1,4 +1,4 @@
-use Rattle.merge_box.proofs.Places.{same_on}
+use Rattle.kept_document.proofs.Places.{same_on}
 use Rattle.merge_box.proofs.Plans.{same_step, held_step, ready_step, will_list_step, kept_listed_step}
 use Rattle.merge_box.specs.Inside.{after_at}
 use Rattle.merge_box.proofs.plan.take_all.Goals as goal

@@ -1,5 +1,5 @@
 use Rattle.std.proofs.Common.{arith, ap, sym, ◌∙◌}
-use Rattle.merge_box.specs.State.{is_shared}
+use Rattle.kept_document.specs.Held.{is_shared}
 use Rattle.merge_box.proofs.Counting.{one_if, count_changed, shared_counts, count_le}
 use Rattle.merge_box.proofs.plan.take_counted.Goals as goal
 

@@ -1,9 +1,10 @@
 use Rattle.std.proofs.Common.{Bool, true, false, not, ◌≡◌, Some, None, unwrap_or, is_some, refl, ap, sym, subst, true≢false}
 use Rattle.merge_model.specs.Kept.{kept_at, nothing_kept}
 use Rattle.ejson_value.specs.Key.{key_cmp, key_order}
-use Rattle.merge_box.specs.Held.{with_change, IsHeld, SameDoc}
-use Rattle.merge_box.proofs.Places.{gone_same, nothing_held}
-use Rattle.merge_box.proofs.Puts.{put_here, put_others}
+use Rattle.kept_document.specs.Held.{IsHeld, SameDoc}
+use Rattle.kept_document.specs.Changes.{with_change}
+use Rattle.kept_document.proofs.Places.{gone_same, nothing_held}
+use Rattle.kept_document.proofs.Puts.{put_here, put_others}
 use Rattle.merge_box.proofs.plan.take_or_trim.Goals as goal
 
 not_false : (b : Bool) → not b ≡ false → b ≡ true

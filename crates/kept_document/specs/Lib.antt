@@ -1,0 +1,5 @@
+pub mod Claims
+pub mod Held
+pub mod Forms
+pub mod Changes
+pub mod Sides
