@@ -6,6 +6,7 @@ use Rattle.std.proofs.lemmas.List.{length-append}
 use Rattle.std.proofs.lemmas.List.Sums.{sum_by-cons}
 use Rattle.app_model.specs.App.{App}
 use Rattle.client_model.specs.Taking.{told_text}
+use Rattle.client_model.specs.Asking.{can_take}
 use Rattle.history_model.specs.declared.entry.Entry.{Entry}
 use Rattle.journal_model.specs.Items.{Item}
 use Rattle.journal_model.specs.Items as item
@@ -160,11 +161,11 @@ unblock_less st k is =
 
 -- ---- what holds of a client and its session
 
--- a refusal that is kept is of the call that blocks, which runs; no text that comes down asks anything
+-- a refusal that is kept is of the call that blocks, which runs; no text that comes down to a client that takes texts asks anything
 pub record IsTidy (c : Conn) : Type 0 where
   pub kept : IfSome c.kept (λ (r : Refusal). is_blocked_by r.k (state_in c).blocking ≡ true)
   pub runs : IfSome (state_in c).blocking (λ (b : Blocking). phase_at b.k (state_in c).methods ≡ Some running)
-  pub calm : AreCalm c.downward
+  pub calm : can_take c.client ≡ true → AreCalm c.downward
 
 pub running_is : (o : Option Phase) → is_running o ≡ true → o ≡ Some running
 running_is (Some running) e = refl

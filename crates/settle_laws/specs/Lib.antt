@@ -5,3 +5,5 @@ pub mod Learning
 pub mod Lowering
 pub mod Settled
 pub mod Stuck
+pub mod Journal
+pub mod Rest

@@ -240,7 +240,7 @@ module _ (w : World) (name : List ℕ) (c : Conn) (sorted : IsSorted text_cmp w.
       let is_there = all_three (not c.is_dropped) (has_some c.downward) (can_take c.client) e in
       let d = takes c c.downward in
       plain d [] refl
-      (by_texts d (not-true c.is_dropped is_there.0) (take_there c c.downward) (take_asks c c.downward tidy.calm) (take_calls w.app w.history c c.downward)
+      (by_texts d (not-true c.is_dropped is_there.0) (take_there c c.downward) (take_asks c c.downward (tidy.calm is_there.2)) (take_calls w.app w.history c c.downward)
       (take_learns c c.downward) (take_cursors (length w.history) c c.downward) (take_less c c.downward refl is_there.1))
 
 -- ---- in any world
