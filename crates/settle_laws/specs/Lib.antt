@@ -7,3 +7,4 @@ pub mod Settled
 pub mod Stuck
 pub mod Journal
 pub mod Rest
+pub mod Calm
