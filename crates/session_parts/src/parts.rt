@@ -1,0 +1,127 @@
+//! The parts of a session that an item changes.
+ghost use Rattle.std.specs.Prelude.{◌≡◌, ◌<◌, ◌≤◌, ◌+◌, length, IfOk, OnOk, OnErr, IsTrue};
+ghost use Rattle.std.specs.VecDeque.{deque_len, deque_capacity};
+ghost use Rattle.session_journal.specs.Journal.{max_items};
+ghost use Rattle.session_state.specs.Own.{as_state, stepped, told_with, CanStep, HasRoom, SameOwn};
+ghost use Rattle.session_state.specs.Progress.{progress_of};
+ghost use Rattle.session_parts.specs.Adding.{call_by, CanArm, texts_with};
+ghost use Rattle.session_parts.specs.Parts.{IsNew, HasGained, AreSame};
+
+use crate::adding::{Addition, News, arm, fire_all, plan_of, texts_of};
+use ejson_value::{DataMsg, Mem};
+use merge_box::MergeBox;
+use session_journal::{Journal, Line};
+use session_state::{Own, Progress, Step};
+use session_texts::Texts;
+use std::alloc::Global;
+use write_fence::Fences;
+
+/// Subscriptions and calls, what the client is shown, the fences that are armed, the journal, and
+/// the texts that are to be sent.
+#[derive(Drop)]
+pub struct Parts {
+    pub own: Own,
+    pub shown: MergeBox,
+    pub fences: Fences,
+    pub journal: Journal,
+    pub outbox: Texts,
+}
+
+// The texts of an item.
+fn texts_with(
+    alloc: Global,
+    own: &Own,
+    messages: &[DataMsg],
+    words: &mut Texts,
+    step: &Step,
+    progress: &Progress,
+) -> Result<Texts, Mem>
+    requires can { CanStep step.now (as_state own.now) }
+    requires progress { progress.now ≡ progress_of (stepped step.now (as_state own.now)).subs }
+    ensures { IfOk result (λ texts. texts.items ≡ texts_with messages.now words.old.items (told_with step.now (as_state own.now))) }
+{
+    let updated = own.told(alloc, step, progress)?;
+    let texts = texts_of(alloc, messages, words, &updated)?;
+    Ok(texts)
+}
+
+fn count_of(texts: &Texts) -> usize
+    ensures { result ≡ length texts.now.items }
+{
+    texts.len()
+}
+
+// Makes room for one more item, of so many texts.
+fn reserve(
+    own: &mut Own,
+    outbox: &mut Texts,
+    journal: &mut Journal,
+    count: usize,
+) -> Result<(), Mem>
+    ensures own { SameOwn own.old own.new }
+    ensures outbox { outbox.new.items ≡ outbox.old.items }
+    ensures lines { journal.new.lines ≡ journal.old.lines }
+    ensures counts { journal.new.counts ≡ journal.old.counts }
+    ensures own_room { OnOk result (HasRoom own.new) }
+    ensures outbox_room { OnOk result (deque_len outbox.new + count ≤ deque_capacity outbox.new) }
+    ensures journal_room { OnOk result (IsTrue journal.new.has_room) }
+{
+    own.reserve()?;
+    outbox.reserve(count)?;
+    journal.reserve()
+}
+
+impl Parts {
+    /// Those of a session that has taken nothing.
+    pub fn new(alloc: Global) -> Parts
+        ensures { IsNew result }
+    {
+        Parts {
+            own: Own::new(alloc),
+            shown: MergeBox::new(alloc),
+            fences: Fences::new(alloc),
+            journal: Journal::new(alloc),
+            outbox: Texts::new(alloc),
+        }
+    }
+
+    /// Adds an item: the texts of what is shown otherwise, the item's words, and an `updated` for
+    /// each call whose fence is open then are to be sent.
+    pub fn add(&mut self, alloc: Global, addition: Addition, news: &News<'_>) -> Result<(), Mem>
+        requires few { length self.old.journal.lines < max_items }
+        requires opened { self.old.own.opened < max_items }
+        requires steps { CanStep addition.step (as_state self.old.own) }
+        requires arms { CanArm addition.step self.old.fences }
+        ensures gained { OnOk result (HasGained addition (call_by news.now) (stepped addition.step (as_state self.old.own)) self.old self.new) }
+        ensures same { OnErr result (AreSame self.old self.new) }
+    {
+        let Addition {
+            item,
+            id,
+            step,
+            mut words,
+        } = addition;
+        self.shown.known();
+        self.fences.known();
+        let progress = self.own.progress_after(&step);
+        let plan = plan_of(&mut self.shown, alloc, news)?;
+        let mut texts = texts_with(
+            alloc,
+            &self.own,
+            plan.messages().as_slice(),
+            &mut words,
+            &step,
+            &progress,
+        )?;
+        let count = count_of(&texts);
+        reserve(&mut self.own, &mut self.outbox, &mut self.journal, count)?;
+        arm(&mut self.fences, &step)?;
+        let _messages = self.shown.commit(plan);
+        self.shown.known();
+        self.outbox.append(&mut texts).unwrap();
+        self.journal.push(Line { item, id }, count);
+        self.own.take(step, &progress);
+        fire_all(&mut self.fences, &progress);
+        Ok(())
+    }
+}
