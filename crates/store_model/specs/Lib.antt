@@ -1,0 +1,4 @@
+pub mod Store
+pub mod ModifierLaws
+pub mod OperationLaws
+pub mod StoreLaws
