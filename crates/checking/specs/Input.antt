@@ -1,14 +1,17 @@
 -- The lines of an input, and the value that a line is.
-use Rattle.std.specs.Prelude.{ℕ, List, [], ◌∷◌, Bool, Option, None, ◌||◌, ◌==◌, if◌then◌else◌}
+use Rattle.std.specs.Prelude.{ℕ, ◌<◌, ◌≤◌, ◌⊎◌, List, [], ◌∷◌, length, Bool, Option, None, ◌||◌, ◌==◌, if◌then◌else◌}
 use Rattle.std.specs.List.{list_all}
 use Rattle.std.specs.Str.{is_utf8}
 use Rattle.std.specs.Result.{result_ok}
 use Rattle.value_model.specs.Val.{Val}
 use Rattle.ejson_codec.specs.Reading.{parsed}
 
--- how long an input may be
+-- how many bytes and how many lines an input may have
 abbrev pub input_limit : ℕ
-input_limit = 65536
+input_limit = 67108864
+
+abbrev pub line_limit : ℕ
+line_limit = 1048576
 
 abbrev pub line_feed : ℕ
 line_feed = 10
@@ -22,6 +25,14 @@ with_byte b (line ∷ lines) = (b ∷ line) ∷ lines
 abbrev pub lines_in : List ℕ → List (List ℕ)
 lines_in [] = []
 lines_in (b ∷ bytes) = if b == line_feed then [] ∷ lines_in bytes else with_byte b (lines_in bytes)
+
+-- the input keeps to the limits, or passes one
+pub record IsWithin (input : List ℕ) : Type 0 where
+  pub bytes : length input ≤ input_limit
+  pub lines : length (lines_in input) ≤ line_limit
+
+abbrev pub IsTooLong : List ℕ → Type 0
+IsTooLong input = (input_limit < length input) ⊎ (line_limit < length (lines_in input))
 
 -- the lines behind the first
 abbrev pub rest_of : List (List ℕ) → List (List ℕ)

@@ -9,7 +9,10 @@ use std::alloc::Global;
 use std::str;
 
 /// How many bytes an input may have.
-pub const INPUT_LIMIT: u64 = 65536;
+pub const INPUT_LIMIT: u64 = 67_108_864;
+
+/// How many lines an input may have.
+pub const LINE_LIMIT: usize = 1_048_576;
 
 // The place of the first line feed, the length where there is none.
 fn line_end(input: &[u8]) -> usize
@@ -37,6 +40,19 @@ pub fn first_line(input: &[u8]) -> (&[u8], &[u8])
     } else {
         (input, &[])
     }
+}
+
+/// How many lines the input has.
+pub fn count_lines(input: &[u8]) -> usize
+    ensures { result ≡ length (lines_in input.now) }
+{
+    let mut rest = input;
+    let mut count = 0;
+    while !rest.is_empty() {
+        rest = first_line(rest).1;
+        count += 1;
+    }
+    count
 }
 
 /// Whether the line has spaces, tabs and carriage returns alone.

@@ -1,8 +1,8 @@
 -- When each status of a run comes, and what was read and written then.
-use Rattle.std.specs.Prelude.{◌≡◌, ℕ, ◌<◌, ◌≤◌, List, [], ◌∷◌, length, take, Bool, true, false, Option, None, Some, is_some, IfSome, codes, if◌then◌else◌}
+use Rattle.std.specs.Prelude.{◌≡◌, ℕ, List, [], ◌∷◌, take, Bool, true, false, Option, None, Some, is_some, IfSome, codes, if◌then◌else◌}
 use Rattle.value_model.specs.Size.{is_name}
 use Rattle.io_edge.specs.Outside.{Grows}
-use Rattle.checking.specs.Input.{input_limit}
+use Rattle.checking.specs.Input.{IsWithin, IsTooLong}
 use Rattle.checking.specs.Check.{check_text, check_bad}
 use Rattle.commands.specs.declared.command.Command.{Command}
 use Rattle.commands.specs.declared.command.Command.TheVariants as command
@@ -30,10 +30,10 @@ abbrev pub IsTrueRunOf : Command → List ℕ → Type 0
 IsTrueRunOf command.Check input = Unit {0}
 IsTrueRunOf command.Replay input = IsTrueReplay input
 
--- The input was read whole and is within the limit; whether a line is bad is so; the whole output was written; and what holds of a run of the command holds of this one.
+-- The input was read whole and is within the limits; whether a line is bad is so; the whole output was written; and what holds of a run of the command holds of this one.
 -- Where source and sink tell what they hold.
 pub record Ran (command : Command) (bad : Bool) (left rest written now : Option (List ℕ)) : Type 0 where
-  pub within : IfSome left (λ input. length input ≤ input_limit)
+  pub within : IfSome left IsWithin
   pub whole : IfSome left (λ input. rest ≡ Some [])
   pub bad_line : IfSome left (λ input. is_some (bad_line_of command input) ≡ bad)
   pub output : IfSome left (λ input. Grows written now (output_of command input))
@@ -41,7 +41,7 @@ pub record Ran (command : Command) (bad : Bool) (left rest written now : Option 
 
 -- a prefix of the output was written
 pub record CutShort (command : Command) (left written now : Option (List ℕ)) : Type 0 where
-  pub within : IfSome left (λ input. length input ≤ input_limit)
+  pub within : IfSome left IsWithin
   pub output : IfSome left (λ input. (n : ℕ) × Grows written now (take n (output_of command input)))
   pub true_run : IfSome left (λ input. IsTrueRunOf command input)
 
@@ -52,7 +52,7 @@ CauseOf c left rest written now status.Usage = ⊥
 CauseOf c left rest written now status.BadInput = Ran c true left rest written now
 CauseOf c left rest written now status.ReadFault = Grows written now []
 CauseOf c left rest written now status.WriteFault = CutShort c left written now
-CauseOf c left rest written now status.TooLong = IfSome left (λ input. input_limit < length input) × Grows written now []
+CauseOf c left rest written now status.TooLong = IfSome left IsTooLong × Grows written now []
 CauseOf c left rest written now status.Memory = Grows written now []
 
 -- `Usage` comes exactly where the words name no command

@@ -1,13 +1,14 @@
 -- What the command `replay` writes for an input: the first line is the application, and each further line that isn't blank is an event. The events before the
 -- first line that isn't of the grammar are run, and what they print is written, a line each; then that line is named.
-use Rattle.std.specs.Prelude.{◌≡◌, ◌⊎◌, ℕ, suc, true, false, map, List, [], ◌∷◌, ◌++◌, take, flat_map, Bool, Option, Some, None, option_and_then, Ok, Err, if◌then◌else◌}
+use Rattle.std.specs.Prelude.{◌≡◌, ◌⊎◌, ℕ, suc, ◌+◌, ◌<◌, length, true, false, map, List, [], ◌∷◌, ◌++◌, take, flat_map, Bool, Option, Some, None, option_and_then, Ok, Err, if◌then◌else◌}
 use Rattle.app_model.specs.App.{App}
 use Rattle.program_reading.specs.Faults.{Reading}
 use Rattle.app_model.specs.Reading.{app_reading}
 use Rattle.world_model.specs.declared.events.Event.{Event}
 use Rattle.world_model.specs.World.{World, start}
+use Rattle.world_model.specs.Acts.{journal_limit}
 use Rattle.world_model.specs.declared.events.Event.TheVariants as event
-use Rattle.world_model.specs.Run.{step, run, IsEvent, AreEvents, HoldsOf, IsSettled, IsLongAlone, IsTrueWorld}
+use Rattle.world_model.specs.Run.{step, run, IsEvent, AreEvents, HoldsOf, IsAtRest, IsSettled, IsLongAlone, IsTrueWorld}
 use Rattle.world_model.specs.Lines.{Line, value_line, line_text, lines_of}
 use Rattle.replay_events.specs.Events.{event_in}
 use Rattle.checking.specs.Input.{line_feed, lines_in, rest_of, is_blank, value_in}
@@ -77,11 +78,13 @@ abbrev pub replay_text : List ℕ → List ℕ
 replay_text input = all_bytes (printed_by (app_of (lines_in input)) (rest_of (lines_in input)) ++ bad_lines (first_bad input))
 
 -- Of a run of these events: after each number of them the headline holds, and the client isn't broken, or refusal 1 broke it and its session wrote a text that is too long;
--- and after each `settle` the session is quiescent, or its client refused a text.
+-- after each `settle` the session is quiescent, or its client refused a text, or its journal is full; and it isn't full where few events went before.
 pub record IsTrueRun (app : App) (events : List Event) : Type 0 where
   pub each : (n : ℕ) → IsTrueWorld (run (start app) (take n events))
   pub long : (n : ℕ) → HoldsOf (run (start app) (take n events)).client (IsLongAlone (run (start app) (take n events)).app (run (start app) (take n events)).history)
-  pub settled : (before later : List Event) → events ≡ before ++ (event.Settle ∷ later) → HoldsOf (run (start app) (before ++ event.Settle ∷ [])).client (IsSettled (run (start app) (before ++ event.Settle ∷ [])).app (run (start app) (before ++ event.Settle ∷ [])).history)
+  pub at_rest : (before later : List Event) → events ≡ before ++ (event.Settle ∷ later) → HoldsOf (run (start app) (before ++ event.Settle ∷ [])).client (IsAtRest (run (start app) (before ++ event.Settle ∷ [])).app (run (start app) (before ++ event.Settle ∷ [])).history)
+  pub settled : (before later : List Event) → events ≡ before ++ (event.Settle ∷ later) → 1 + length before < journal_limit →
+      HoldsOf (run (start app) (before ++ event.Settle ∷ [])).client (IsSettled (run (start app) (before ++ event.Settle ∷ [])).app (run (start app) (before ++ event.Settle ∷ [])).history)
 
 -- the same of the events of an input, if it has an application
 abbrev pub IsTrueReplay : List ℕ → Type 0

@@ -1,20 +1,19 @@
 -- The headline holds of every world of a replay whose events are events of the program.
-use Rattle.std.specs.Prelude.{◌≡◌, ◌==◌, ℕ, zero, suc, ◌+◌, ◌<◌, ◌≤◌, List, [], ◌∷◌, ◌++◌, length, take, Bool, true, false, cond, Option, Some, None, IfSome, refl}
+use Rattle.std.specs.Prelude.{◌≡◌, ℕ, zero, suc, ◌+◌, ◌<◌, ◌≤◌, List, [], ◌∷◌, ◌++◌, length, take, Option, Some, None, IfSome, refl}
 use Rattle.std.proofs.Common.{ap, sym, subst, ◌∙◌, arith}
-use Rattle.std.proofs.lemmas.List.{length-append}
 use Rattle.app_model.specs.App.{App}
 use Rattle.world_model.specs.declared.events.Event.{Event}
 use Rattle.world_model.specs.declared.events.Event.TheVariants as event
 use Rattle.world_model.specs.Acts.{journal_limit}
 use Rattle.world_model.specs.World.{World, start}
-use Rattle.world_model.specs.Run.{step, run, AreEvents, Reachable, HoldsOf, IsSettled, made}
+use Rattle.world_model.specs.Run.{step, run, AreEvents, Reachable, HoldsOf, IsAtRest, IsSettled, made}
 use Rattle.world_model.specs.HeadlineLaws.{run_is_true}
 use Rattle.world_model.specs.RunLaws.{start_kept}
 use Rattle.world_model.specs.CountLaws.{run_more}
 use Rattle.world_model.specs.BrokenLaws.{reachable_is_long}
-use Rattle.world_model.specs.RestLaws.{short_world_settles, same_app as settled_app}
-use Rattle.checking.specs.Input.{input_limit, line_feed, with_byte, lines_in, rest_of, is_blank}
-use Rattle.commands.specs.Replay.{app_of, event_of, before_bad, events_of, IsTrueRun, IsTrueReplay}
+use Rattle.world_model.specs.RestLaws.{reachable_settles, short_world_settles, same_app as settled_app}
+use Rattle.checking.specs.Input.{lines_in, rest_of}
+use Rattle.commands.specs.Replay.{app_of, events_of, IsTrueRun, IsTrueReplay}
 
 pub AreEvents-take : (n : ℕ) (events : List Event) → AreEvents events → AreEvents (take n events)
 AreEvents-take zero events p = tt
@@ -37,67 +36,45 @@ same_app w (e ∷ events) = same_app (step w e) events ∙ step_app w e
     step_app w (event.Client name) = refl
     step_app w (event.Sub who id name params) = refl
     step_app w (event.Raw who t) = refl
-    step_app w (event.Insert key doc) = refl
+    step_app w (event.Admin op) = refl
     step_app w (event.Do who a) = refl
     step_app w (event.Load who id place) = refl
     step_app w (event.Advance who id count) = refl
     step_app w event.Settle = settled_app w
     step_app w (event.Show who) = refl
     step_app w (event.Journal who) = refl
+    step_app w event.Store = refl
+    step_app w event.History = refl
 
 -- the events send and store one thing each at most
 run_made : (app : App) (events : List Event) → AreEvents events → made (run (start app) events) ≤ length events
 run_made app events p = omega (arith, (run_more (start app) events p (start_kept app) tt).0)
 
-shorter : (o : Option Event) (events : List Event) (n : ℕ) → length events ≤ n → length (before_bad o events) ≤ suc n
-shorter None events n h = omega arith
-shorter (Some e) events n h = omega (arith, h)
-
-length-events : (ls : List (List ℕ)) → length (events_of ls) ≤ length ls
-length-events [] = omega arith
-length-events (l ∷ ls) =
-    elim (is_blank l) as (λ b. length (cond b (events_of ls) (before_bad (event_of l) (events_of ls))) ≤ suc (length ls))
-    [ true ↦ omega (arith, length-events ls) | false ↦ shorter (event_of l) (events_of ls) (length ls) (length-events ls) ]
-
-length-with_byte : (b : ℕ) (ls : List (List ℕ)) → length (with_byte b ls) ≤ suc (length ls)
-length-with_byte b [] = omega arith
-length-with_byte b (l ∷ ls) = omega arith
-
-length-lines : (input : List ℕ) → length (lines_in input) ≤ length input
-length-lines [] = omega arith
-length-lines (b ∷ input) = by (b == line_feed) (length-lines input)
-  where
-    by : (t : Bool) → length (lines_in input) ≤ length input → length (cond t ([] ∷ lines_in input) (with_byte b (lines_in input))) ≤ suc (length input)
-    by true h = omega (arith, h)
-    by false h = omega (arith, h, length-with_byte b (lines_in input))
-
-length-rest : (ls : List (List ℕ)) → length (rest_of ls) ≤ length ls
-length-rest [] = omega arith
-length-rest (l ∷ ls) = omega arith
-
--- a run of few enough events is true
-pub run_is_true_throughout : (app : App) (events : List Event) → AreEvents events → length events ≤ input_limit → IsTrueRun app events
-run_is_true_throughout app events p few = record {
+-- a run of events of the program is true
+pub run_is_true_throughout : (app : App) (events : List Event) → AreEvents events → IsTrueRun app events
+run_is_true_throughout app events p = record {
   each = λ n. run_is_true app (take n events) (AreEvents-take n events p);
   long = λ n.
       let all : AreEvents (take n events) = AreEvents-take n events p in
       let same : (run (start app) (take n events)).app ≡ app = same_app (start app) (take n events) in
       reachable_is_long (run (start app) (take n events)) (take n events, all, ap (λ a. run (start a) (take n events)) same);
-  settled = λ before later is.
+  at_rest = λ before later is.
       let front : AreEvents before = AreEvents-front before (event.Settle ∷ later) (subst AreEvents is p) in
       let w = run (start app) before in
       let same : (run (start app) before).app ≡ app = same_app (start app) before in
       let reached : Reachable w = (before, front, ap (λ a. run (start a) before) same) in
-      let short : 1 + made w < journal_limit =
-      omega (arith, run_made app before front, few, ap (λ (es : List Event). length es) is, length-append before (event.Settle ∷ later)) in
+      subst (λ v. HoldsOf v.client (IsAtRest v.app v.history)) (sym (run-append (start app) before (event.Settle ∷ []))) (reachable_settles w reached);
+  settled = λ before later is few.
+      let front : AreEvents before = AreEvents-front before (event.Settle ∷ later) (subst AreEvents is p) in
+      let w = run (start app) before in
+      let same : (run (start app) before).app ≡ app = same_app (start app) before in
+      let reached : Reachable w = (before, front, ap (λ a. run (start a) before) same) in
+      let short : 1 + made w < journal_limit = omega (arith, run_made app before front, few) in
       subst (λ v. HoldsOf v.client (IsSettled v.app v.history)) (sym (run-append (start app) before (event.Settle ∷ []))) (short_world_settles w reached short);
 }
 
-pub replay_is_true : (input : List ℕ) → length input ≤ input_limit → ((app : App) → app_of (lines_in input) ≡ Some app → AreEvents (events_of (rest_of (lines_in input)))) → IsTrueReplay input
-replay_is_true input short p app is =
-    let ls = lines_in input in
-    run_is_true_throughout app (events_of (rest_of ls)) (p app is)
-    (omega (arith, length-events (rest_of ls), length-rest ls, length-lines input, short))
+pub replay_is_true : (input : List ℕ) → ((app : App) → app_of (lines_in input) ≡ Some app → AreEvents (events_of (rest_of (lines_in input)))) → IsTrueReplay input
+replay_is_true input p app is = run_is_true_throughout app (events_of (rest_of (lines_in input))) (p app is)
 
 -- what holds of the bytes that were read holds of the input, where the source told it
 pub of_the_input : (o : Option (List ℕ)) (P : List ℕ → Type 0) (bytes : List ℕ) → IfSome o (λ old. bytes ≡ old) → P bytes → IfSome o P

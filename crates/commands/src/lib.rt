@@ -7,6 +7,6 @@ mod replay;
 mod run;
 mod status;
 
-pub use checking::INPUT_LIMIT;
+pub use checking::{INPUT_LIMIT, LINE_LIMIT};
 pub use run::run_plain;
 pub use status::Status;

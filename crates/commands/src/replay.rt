@@ -141,7 +141,7 @@ fn run_app(alloc: Global, app: App, lines: &[u8], output: &mut Vec<u8>) -> Resul
     ensures bad { IfOk result (λ bad. bad ≡ bad_line 2 (lines_in lines.now)) }
     ensures events { OnOk result (AreEvents (events_of (lines_in lines.now))) }
 {
-    let mut world = World::new(alloc, app);
+    let mut world = World::new(alloc, app)?;
     run_lines(alloc, &mut world, lines, output)
 }
 

@@ -1,6 +1,7 @@
 //! All that a command does, over any source and sink.
-ghost use Rattle.std.specs.Prelude.{◌≡◌, ◌≢◌, ◌↔◌, ◌<◌, ◌≤◌, length, IfOk, OnOk};
-ghost use Rattle.checking.specs.Input.{input_limit};
+ghost use Rattle.std.specs.Prelude.{◌≡◌, ◌≢◌, ◌↔◌, ◌<◌, ◌≤◌, [], length, Some, Err, IfOk, IfSome, OnOk};
+ghost use Rattle.checking.specs.Input.{input_limit, IsWithin, IsTooLong};
+ghost use Rattle.io_edge.specs.declared.whole.ReadAll.TheVariants as ReadAll;
 ghost use Rattle.commands.specs.Cause.{Cause, CauseOf, command_in, output_of, bad_line_of, IsTrueRunOf};
 ghost use Rattle.commands.specs.declared.status.Status.TheVariants as status;
 
@@ -8,8 +9,8 @@ use crate::command::{Command, command_in};
 use crate::reason::reason_for;
 use crate::replay::replay;
 use crate::status::Status;
-use checking::{INPUT_LIMIT, Outcome, check};
-use ejson_value::{Mem, Text};
+use checking::{INPUT_LIMIT, LINE_LIMIT, Outcome, check, count_lines};
+use ejson_value::{Bytes, Mem, Text};
 use io_edge::{ReadAll, Sink, Source, read_all, write_all};
 use std::alloc::Global;
 
@@ -18,6 +19,25 @@ fn tell(alloc: Global, command: Command, input: &[u8], number: u32, reason: &mut
     if let Ok(told) = reason_for(alloc, command, input, number) {
         *reason = told;
     }
+}
+
+// Reads an input whole, if it keeps to the limits.
+#[tactic(auto, using(crate::proofs::Causes::too_many_bytes, crate::proofs::Causes::too_many_lines, crate::proofs::Causes::keeps_within))]
+fn read_input<I: Source>(alloc: Global, input: &mut I) -> Result<Bytes, ReadAll>
+    ensures all { IfOk result (λ bytes. IfSome (I.left input.old) (λ old. bytes ≡ old)) }
+    ensures end { OnOk result (IfSome (I.left input.old) (λ _. I.left input.new ≡ Some [])) }
+    ensures short { IfOk result (λ bytes. length bytes ≤ input_limit) }
+    ensures within { IfOk result IsWithin }
+    ensures too_long { result ≡ Err ReadAll.TooLong → IfSome (I.left input.old) IsTooLong }
+    ensures failed { result ≡ Err ReadAll.Failed → I.faults input.old < I.faults input.new }
+    ensures sound { I.faults input.old < I.faults input.new → result ≡ Err ReadAll.Failed }
+{
+    let bytes = read_all(alloc, input, INPUT_LIMIT)?;
+    let lines = count_lines(bytes.as_slice());
+    if lines > LINE_LIMIT {
+        return Err(ReadAll::TooLong);
+    }
+    Ok(bytes)
 }
 
 // What a command writes for an input.
@@ -47,7 +67,7 @@ fn run_command<I: Source, O: Sink>(
     ensures write_fault { (result ≡ Status.WriteFault) ↔ (O.faults output.old < O.faults output.new) }
     ensures told { result ≢ Status.BadInput → reason.new ≡ reason.old }
 {
-    let bytes = match read_all(alloc, input, INPUT_LIMIT) {
+    let bytes = match read_input(alloc, input) {
         Ok(bytes) => bytes,
         Err(ReadAll::Failed) => return Status::ReadFault,
         Err(ReadAll::TooLong) => return Status::TooLong,

@@ -51,7 +51,7 @@ impl Status {
             Status::WriteFault =>
                 "standard output could not be written whole: make room for it, or read it to its end, and run again",
             Status::TooLong =>
-                "the input is longer than 65536 bytes, and nothing was run: run fewer events at a time, each time with the application as line 1",
+                "the input has more than 67108864 bytes or 1048576 lines, and nothing was run: run fewer events at a time, each time with the application as line 1",
             Status::Memory =>
                 "there was no memory left, and nothing was written: run again with more memory or a shorter input",
         }

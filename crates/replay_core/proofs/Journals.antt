@@ -6,7 +6,7 @@ use Rattle.value_model.specs.Val.{Val}
 use Rattle.ejson_value.specs.Rows.{Rows}
 use Rattle.app_model.specs.App.{App}
 use Rattle.session_model.specs.declared.items.Item.{Item}
-use Rattle.session_model.specs.History.{Entry}
+use Rattle.history_model.specs.declared.entry.Entry.{Entry}
 use Rattle.session_model.specs.Texts.{server_text}
 use Rattle.session_model.specs.Journal.{Live as ALive, live_after, shown}
 use Rattle.session_model.specs.Out.{about, difference, own_text, texts_of}
@@ -16,12 +16,12 @@ use Rattle.session_core.specs.Laws.{item_text_is}
 
 -- the texts of an item, from what is shown before it and after it
 pub item_texts_are : (app : App) (h : List Entry) (number : ℕ) (live after : Option ALive) (i : Item) (shown_before shown_after : Rows) (texts : List (List ℕ)) →
-    shown_before ≡ shown h live → after ≡ live_after app live i → shown_after ≡ shown h after →
+    shown_before ≡ shown app h live → after ≡ live_after app live i → shown_after ≡ shown app h after →
     texts ≡ map server_text (map about (difference shown_before shown_after)) ++ text_of_item number live i → texts ≡ texts_of app number h live i
 item_texts_are app h number live after i shown_before shown_after texts before_is after_is shown_is made =
     made
-    ∙ (ap₂ (λ a b. map server_text (map about (difference a b)) ++ text_of_item number live i) before_is (shown_is ∙ ap (shown h) after_is)
-    ∙ ap (λ ts. map server_text (map about (difference (shown h live) (shown h (live_after app live i)))) ++ ts) (item_text_is number live i (text_of_item number live i) refl))
+    ∙ (ap₂ (λ a b. map server_text (map about (difference a b)) ++ text_of_item number live i) before_is (shown_is ∙ ap (shown app h) after_is)
+    ∙ ap (λ ts. map server_text (map about (difference (shown app h live) (shown app h (live_after app live i)))) ++ ts) (item_text_is number live i (text_of_item number live i) refl))
 
 -- an item's line, and its texts behind it
 pub item_printed : (i : Item) (before with_line with_texts : List (List ℕ)) (words : Val) (texts : List (List ℕ)) →

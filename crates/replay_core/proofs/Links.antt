@@ -4,7 +4,7 @@ use Rattle.std.specs.Prelude.{is_some, is_none, not, option_to_list, nat_lt, ◌
 use Rattle.value_model.specs.TruthLaws.{and_false}
 use Rattle.session_model.specs.declared.requests.Request.{Request}
 use Rattle.app_model.specs.App.{App}
-use Rattle.session_model.specs.History.{Entry}
+use Rattle.history_model.specs.declared.entry.Entry.{Entry}
 use Rattle.session_model.specs.Publication.{making}
 use Rattle.session_model.specs.Answers.{taken_text}
 use Rattle.session_model.specs.Journal.{is_connected}

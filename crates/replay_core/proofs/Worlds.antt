@@ -1,12 +1,16 @@
 -- Worlds that events lead to, and what the program's world keeps.
-use Rattle.std.proofs.Common.{◌≡◌, ℕ, zero, suc, ◌+◌, ◌<◌, Bool, true, false, List, [], ◌∷◌, ◌++◌, length, Option, Some, None, refl, ap, sym, subst, ◌∙◌, add-one, arith, inl, inr}
+use Rattle.std.proofs.Common.{◌≡◌, ℕ, zero, suc, ◌+◌, ◌<◌, Bool, true, false, cond, List, [], ◌∷◌, ◌++◌, length, Option, Some, None, refl, ap, sym, subst, ◌∙◌, add-one, arith, inl, inr}
 use Rattle.std.proofs.lemmas.Slice.Eq.{bytes_eq-Decides}
-use Rattle.std.specs.Borrow.{Bor}
 use Rattle.std.specs.Bool.{OnFalse}
 use Rattle.world_model.specs.declared.events.Act.TheVariants as act
-use Rattle.std.specs.Prelude.{◌||◌, option_copied, option_map, is_some, is_none, if◌then◌else◌}
+use Rattle.std.specs.Prelude.{◌||◌, option_map, if◌then◌else◌}
 use Rattle.app_model.specs.App.{App}
-use Rattle.session_model.specs.History.{Entry, contents, can_insert, IsStored}
+use Rattle.history_model.specs.declared.entry.Entry.{Entry}
+use Rattle.history_model.specs.declared.entry.Entry.TheVariants as entry
+use Rattle.history_model.specs.History.{held, can_follow}
+use Rattle.store_model.specs.Store.{programs}
+use Rattle.value_model.specs.Val.{Val, vals_of}
+use Rattle.value_model.specs.Valid.{AreValues}
 use Rattle.session_model.specs.Journal.{live_of}
 use Rattle.session_model.specs.OutLaws.{shown-longer, within_from}
 use Rattle.world_model.specs.declared.events.Act.{Act}
@@ -15,7 +19,7 @@ use Rattle.world_model.specs.declared.events.Event.TheVariants as event
 use Rattle.world_model.specs.Client.{Client}
 use Rattle.world_model.specs.World.{World, start, done, can, after_act}
 use Rattle.world_model.specs.Settle.{many, times, round, rounds, settled, is_stuck}
-use Rattle.world_model.specs.Run.{step, run, IsEvent, AreEvents, Reachable, HoldsOf}
+use Rattle.world_model.specs.Run.{operated, step, run, IsEvent, AreEvents, Reachable, HoldsOf}
 use Rattle.world_model.specs.InvariantLaws.{IsKept}
 use Rattle.world_model.specs.RunLaws.{IsKeptWorld, done_keeps, rounds_keep, settled_keeps, reachable_is_kept}
 use Rattle.world_model.specs.SettleLaws.{round_lowers, rounds_settle, Lowers}
@@ -30,13 +34,15 @@ app_stays : (w : World) (e : Event) → (step w e).app ≡ w.app
 app_stays w (event.Client name) = refl
 app_stays w (event.Sub who id name params) = refl
 app_stays w (event.Raw who t) = refl
-app_stays w (event.Insert key doc) = refl
+app_stays w (event.Admin op) = refl
 app_stays w (event.Do who a) = refl
 app_stays w (event.Load who id place) = refl
 app_stays w (event.Advance who id count) = refl
 app_stays w event.Settle = settled_keeps (λ v. v.app ≡ w.app) (λ a v p. p) w refl
 app_stays w (event.Show who) = refl
 app_stays w (event.Journal who) = refl
+app_stays w event.Store = refl
+app_stays w event.History = refl
 
 run-append : (w : World) (events : List Event) (e : Event) → run w (events ++ e ∷ []) ≡ step (run w events) e
 run-append w [] e = refl
@@ -56,6 +62,10 @@ reachable_step w e is r = (
 
 pub reachable_start : (app : App) → Reachable (start app)
 reachable_start app = ([], tt, refl)
+
+-- a store without entries, and no client
+pub kept_start : (app : App) (store : Stored) → store ≡ record { app = app; history = [] } → IsKeptInside (record { store = store; connection = None })
+kept_start app store is = subst (λ (s : Stored). IsKeptInside (record { store = s; connection = None })) (sym is) (record { stands = tt; reachable = reachable_start app })
 
 -- the client and its session are as they were
 pub kept_same : (a : Inside) (connection : Option Connection) → IsKeptInside a → Stands a.store connection → option_map client_of connection ≡ option_map client_of a.connection → IsKeptInside (record a { connection = connection })
@@ -102,22 +112,29 @@ longer_session store more (Some c) k s =
       connected = s.connected;
       failed = s.failed;
       live = s.live;
-      shown = s.shown ∙ sym (shown-longer store.history more live (within_from store.app (length store.history) false None c.session.journal.items tt k.fits));
+      shown = s.shown ∙ sym (shown-longer store.app store.history more live (within_from store.app (length store.history) false None c.session.journal.items tt k.fits));
     }
 
--- an insert that nothing refuses
-pub kept_insert : (a : Inside) (store : Stored) (entry : Entry) → IsStored entry.key entry.doc → IsKeptInside a → can_insert a.store.app (contents a.store.history) entry ≡ true →
-    store ≡ record a.store { history = a.store.history ++ entry ∷ [] } → IsKeptInside (record a { store = store })
-kept_insert a store entry is k can made =
-    let longer : Stored = record a.store { history = a.store.history ++ entry ∷ [] } in
-    let kept : IsKeptInside (record a { store = longer }) = record {
-      stands = longer_session a.store (entry ∷ []) a.connection (reachable_is_kept (world_of a) k.reachable).client k.stands;
-      reachable =
-          subst Reachable
-          (ap (λ b. let h : List Entry = if b then a.store.history ++ entry ∷ [] else a.store.history in let w : World = record (world_of a) { history = h } in w) can)
-          (reachable_step (world_of a) (event.Insert entry.key entry.doc) is k.reachable);
+operated_session : (store : Stored) (e : Entry) (b : Bool) (c : Option Connection) → HoldsOf (option_map client_of c) (IsKept store.app store.history) → Stands store c →
+    Stands (record store { history = cond b (store.history ++ e ∷ []) store.history }) c
+operated_session store e true c k s = longer_session store (e ∷ []) c k s
+operated_session store e false c k s = s
+
+-- an operation of an administrator, made or refused
+pub kept_operation : (a : Inside) (store : Stored) (op : List Val) → AreValues (vals_of op) → IsKeptInside a → store ≡ record a.store { history = operated a.store.app a.store.history op } →
+    IsKeptInside (record a { store = store })
+kept_operation a store op is k made =
+    let can = can_follow (programs a.store.app) (held (programs a.store.app) a.store.history) (entry.Admin op) in
+    let left : Stored = record a.store { history = operated a.store.app a.store.history op } in
+    let kept : IsKeptInside (record a { store = left }) = record {
+      stands = operated_session a.store (entry.Admin op) can a.connection (reachable_is_kept (world_of a) k.reachable).client k.stands;
+      reachable = reachable_step (world_of a) (event.Admin op) is k.reachable;
     } in
     subst (λ s. IsKeptInside (record a { store = s })) (sym made) kept
+
+-- nothing happened
+pub kept_store : (a : Inside) (store : Stored) → IsKeptInside a → store ≡ a.store → IsKeptInside (record a { store = store })
+kept_store a store k same = subst (λ s. IsKeptInside (record a { store = s })) (sym same) k
 
 not_below : (n : ℕ) → n < n → ⊥
 not_below n h = omega (arith, h)
@@ -135,10 +152,6 @@ pub settles : (n : ℕ) (w v : World) → IsKeptWorld w → v ≡ rounds n w →
 settles n w v k is same =
     let kept : IsKeptWorld v = subst IsKeptWorld (sym is) (rounds_keep IsKeptWorld done_keeps n w k) in
     is ∙ rounds_settle n w k (ap is_stuck (sym is) ∙ stays_is_stuck v kept same)
-
-pub none_there : {A : Type 0} (r : Option (Bor A)) (o : Option A) → option_copied r ≡ o → is_some r ≡ false → is_none o ≡ true
-none_there None o e f = ap is_none (sym e)
-none_there (Some x) o e f = cc
 
 pub many_none : (a : Act) (w : World) → w ≡ many 0 a w
 unfolding many

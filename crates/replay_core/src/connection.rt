@@ -374,7 +374,7 @@ impl Connection {
         Ok(done)
     }
 
-    /// The session leads the subscription of this id on, by so many inserts or to the end of the
+    /// The session leads the subscription of this id on, by so many entries or to the end of the
     /// history.
     pub(crate) fn advance_named(
         &mut self,

@@ -203,7 +203,7 @@ fn live_after(store: &Store, live: Option<&Live>, item: &Item) -> Result<Option<
 
 // What a subscription shows.
 fn shown(store: &Store, live: Option<&Live>) -> Result<Contents, Mem>
-    ensures { IfOk result (λ rows. rows ≡ shown store.now.history (option_map (λ l. as_live l.now) live.entry)) }
+    ensures { IfOk result (λ rows. rows ≡ shown store.now.app store.now.history (option_map (λ l. as_live l.now) live.entry)) }
 {
     let none = Contents::new(store.allocator());
     let Some(live) = live else {
@@ -218,9 +218,9 @@ fn shown(store: &Store, live: Option<&Live>) -> Result<Contents, Mem>
 impl Walk {
     // One more item, and its texts behind it.
     fn add(&mut self, store: &Store, number: u64, item: &Item) -> Result<(), Mem>
-        requires { self.old.shown ≡ shown store.now.history (option_map as_live self.old.live) }
+        requires { self.old.shown ≡ shown store.now.app store.now.history (option_map as_live self.old.live) }
         ensures live { OnOk result (option_map as_live self.new.live ≡ live_after store.now.app (option_map as_live self.old.live) item.now) }
-        ensures shown { OnOk result (self.new.shown ≡ shown store.now.history (option_map as_live self.new.live)) }
+        ensures shown { OnOk result (self.new.shown ≡ shown store.now.app store.now.history (option_map as_live self.new.live)) }
         ensures lines { OnOk result (self.new.lines ≡ self.old.lines ++ map line_text (value_line (item_line item.now) ∷ map out_line (texts_of store.now.app number store.now.history (option_map as_live self.old.live) item.now))) }
     {
         let alloc = store.allocator();

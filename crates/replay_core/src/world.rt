@@ -3,12 +3,11 @@ ghost use Rattle.std.specs.Prelude.{◌≡◌, ◌+◌, ◌<◌, [], false, true
 ghost use Rattle.std.specs.Bool.{OnFalse};
 ghost use Rattle.ddp_messages.specs.Answers.{client_answer};
 ghost use Rattle.ddp_messages.specs.Limits.{IsShort, AreShallow};
-ghost use Rattle.session_model.specs.History.{contents, IsStored};
 ghost use Rattle.world_model.specs.Acts.{acts, loading, leading, journal_limit};
 ghost use Rattle.world_model.specs.World.{start, done, can, after_act, can_by};
 ghost use Rattle.world_model.specs.Settle.{times_of, times, many, round, is_stuck, settled};
-ghost use Rattle.world_model.specs.Run.{after_client, after_sub, sub_text, can_subscribe, subscribes, can_send, after_raw, asks_in, after_named, can_named, after_by, can_by_name, is_called, inserted, step, made, IsEvent, Reachable, HoldsOf, IsAtRest, IsSettled, IsTrueWorld};
-ghost use Rattle.world_model.specs.Lines.{line_text, values, subscribed, refusal, shown_to, journal_of, lines_of};
+ghost use Rattle.world_model.specs.Run.{after_client, after_sub, sub_text, can_subscribe, subscribes, can_send, after_raw, asks_in, after_named, can_named, after_by, can_by_name, is_called, operated, step, made, IsEvent, Reachable, HoldsOf, IsAtRest, IsSettled, IsTrueWorld};
+ghost use Rattle.world_model.specs.Lines.{line_text, values, subscribed, refusal_code, refused_with, shown_to, journal_of, store_values, history_values, lines_of};
 ghost use Rattle.session_core.specs.Store.{Stored};
 ghost use Rattle.session_core.specs.Sessions.{IsTrueTo, Does};
 ghost use Rattle.replay_core.specs.Connections.{client_of, asking};
@@ -22,7 +21,7 @@ use crate::texts::text_of;
 use app_model::App;
 use ddp_messages::FromClient;
 use ejson_codec::Lines;
-use ejson_value::{Doc, Items, Key, Mem, Text, Whole};
+use ejson_value::{Items, Mem, Text, Whole};
 use replay_events::Event;
 use session_core::Store;
 use std::alloc::Global;
@@ -271,13 +270,13 @@ fn times_of(connection: &Connection, act: Act) -> usize
 
 impl World {
     /// The world of the application at its beginning.
-    pub fn new(alloc: Global, app: App) -> World
-        ensures { result ≡ start app }
+    pub fn new(alloc: Global, app: App) -> Result<World, Mem>
+        ensures { IfOk result (λ world. world ≡ start app) }
     {
-        World {
-            store: Store::new(alloc, app),
+        Ok(World {
+            store: Store::new(alloc, app)?,
             connection: None,
-        }
+        })
     }
 
     // A client of this name begins.
@@ -317,22 +316,19 @@ impl World {
         Ok(done)
     }
 
-    // A document is inserted from outside. What is printed.
-    fn insert(&mut self, key: &Key, doc: &Doc) -> Result<Lines, Mem>
-        requires { IsStored key.now doc.now }
-        ensures ok { OnOk result (self.new ≡ record self.old { history = inserted self.old.app self.old.history (record { key = key.now; doc = doc.now }) }) }
-        ensures lines { IfOk result (λ lines. lines ≡ map line_text (values (refusal self.old.app (contents self.old.history) key.now))) }
+    // An administrator's operation is made, or refused. What is printed.
+    fn admin(&mut self, op: &Items) -> Result<Lines, Mem>
+        ensures ok { OnOk result (self.new ≡ record self.old { history = operated self.old.app self.old.history op.now }) }
+        ensures lines { IfOk result (λ lines. lines ≡ map line_text (values (refused_with (refusal_code self.old.app self.old.history op.now)))) }
         ensures err { OnErr result (self.new ≡ self.old) }
     {
+        op.known();
         let alloc = self.store.allocator();
-        if !self.store.app().has_collection(&key.collection) {
-            return refused(alloc, 404);
-        }
-        if self.store.get(key).is_some() {
-            return refused(alloc, 409);
-        }
-        self.store.insert(key, doc)?;
-        Ok(Lines::new(alloc))
+        let code = self.store.admin(op)?;
+        let Some(code) = code else {
+            return Ok(Lines::new(alloc));
+        };
+        refused(alloc, code)
     }
 
     // A single step. Whether it is enabled.
@@ -493,6 +489,20 @@ impl World {
         }
     }
 
+    // The documents of the store, as lines.
+    fn store_lines(&self) -> Result<Lines, Mem>
+        ensures { IfOk result (λ lines. lines ≡ map line_text (values (store_values self.now.app self.now.history))) }
+    {
+        self.store.store_lines()
+    }
+
+    // The entries of its history, as lines.
+    fn history_lines(&self) -> Result<Lines, Mem>
+        ensures { IfOk result (λ lines. lines ≡ map line_text (values (history_values self.now.history))) }
+    {
+        self.store.history_lines()
+    }
+
     fn apply(&mut self, event: &Happening) -> Result<Lines, Mem>
         requires { IsEvent event.now }
         ensures step { OnOk result (self.new ≡ step self.old event.now) }
@@ -518,7 +528,7 @@ impl World {
                 let done = self.raw(client, text)?;
                 idle_unless(alloc, done)
             }
-            Happening::Insert { key, doc } => self.insert(key, doc),
+            Happening::Admin { op } => self.admin(op),
             Happening::Do { client, act } => {
                 let done = self.make_for(client, *act)?;
                 idle_unless(alloc, done)
@@ -534,11 +544,13 @@ impl World {
             Happening::Settle => self.settle_unprinted(),
             Happening::Show { client } => self.show(client),
             Happening::Journal { client } => self.journal(client),
+            Happening::Store => self.store_lines(),
+            Happening::History => self.history_lines(),
         }
     }
 
     /// The event happens. Answers the lines that it prints: `["idle"]` where it is not enabled, and
-    /// `["refused",code]` for an insert that is refused.
+    /// `["refused",code]` for an operation that is refused.
     pub fn event(&mut self, event: &Event) -> Result<Lines, Mem>
         ensures step { OnOk result (self.new ≡ step self.old event.now) }
         ensures lines { IfOk result (λ lines. lines ≡ map line_text (lines_of self.old event.now)) }

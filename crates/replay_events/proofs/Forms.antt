@@ -1,25 +1,25 @@
--- Lists and documents in their two forms.
+-- Lists in their two forms.
 use Rattle.std.specs.Prelude.{if◌then◌else◌, nat_le, ◌&&◌}
 use Rattle.std.proofs.Common.{Bool, true, false, ◌≡◌, List, [], ◌∷◌, Some, None, refl, ap, ap₂, sym, ◌∙◌}
 use Rattle.std.proofs.lemmas.Bool.{leb-true}
 use Rattle.std.specs.List.{list_all}
-use Rattle.value_model.specs.Val.{Val, Entries, val, vals_of, fields_of, entries_of}
-use Rattle.value_model.specs.ValLaws.{list_of-vals_of, entries_of-fields_of}
+use Rattle.value_model.specs.Val.{Val, val, vals_of, list_of}
+use Rattle.value_model.specs.ValLaws.{list_of-vals_of}
 use Rattle.ejson_value.specs.View.{view, views}
 use Rattle.ejson_value.specs.declared.value.Value.{Value}
 use Rattle.ejson_value.specs.declared.value.Value.TheVariants as shape
 use Rattle.value_model.specs.Depth.{depth}
 use Rattle.ejson_codec.specs.Reading.{max_levels}
 use Rattle.ddp_messages.specs.Limits.{AreShallow}
-use Rattle.replay_events.specs.Events.{is_nil, doc_alone, params_in}
+use Rattle.replay_events.specs.Events.{is_nil, list_alone, params_in}
 
--- the document that stands first, where nothing follows it
-pub doc_first : (values : List Value) (first : Value) (rest : List Value) (doc : Entries) → values ≡ first ∷ rest → first ≡ shape.Object doc → is_nil (vals_of (views rest)) ≡ true →
-    Some doc ≡ doc_alone (vals_of (views values))
-doc_first values first rest doc is is_object nothing =
-    sym (ap (λ vs. doc_alone (vals_of (views vs))) is
-    ∙ (ap (λ v. doc_alone (val (view v) (vals_of (views rest)))) is_object
-    ∙ (ap (λ b. if b then Some (entries_of (fields_of doc)) else None) nothing ∙ ap Some (entries_of-fields_of doc))))
+-- the list that stands first, where nothing follows it
+pub list_first : (values : List Value) (first : Value) (rest : List Value) (items : List Val) → values ≡ first ∷ rest → first ≡ shape.List items → is_nil (vals_of (views rest)) ≡ true →
+    Some items ≡ list_alone (vals_of (views values))
+list_first values first rest items is is_list nothing =
+    sym (ap (λ vs. list_alone (vals_of (views vs))) is
+    ∙ (ap (λ v. list_alone (val (view v) (vals_of (views rest)))) is_list
+    ∙ (ap (λ b. if b then Some (list_of (vals_of items)) else None) nothing ∙ ap Some (list_of-vals_of items))))
 
 -- the parameters of a list that stands first
 pub params_listed : (values : List Value) (first : Value) (rest : List Value) (items : List Val) (nothing few : Bool) → values ≡ first ∷ rest → first ≡ shape.List items →

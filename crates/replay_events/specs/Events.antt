@@ -1,9 +1,8 @@
 -- The event that a line describes.
 use Rattle.std.specs.Prelude.{ℕ, ℤ, List, [], length, Bool, true, false, Option, Some, None, option_and_then, option_map, nat_lt, nat_le, ◌&&◌, if◌then◌else◌, codes}
 use Rattle.std.specs.List.{list_all}
-use Rattle.value_model.specs.Val.{Val, int, text, list, object, Vals, list_of, no_vals, val, entries_of, fields_of, Entries}
+use Rattle.value_model.specs.Val.{Val, int, text, list, Vals, list_of, no_vals, val}
 use Rattle.value_model.specs.Depth.{depth}
-use Rattle.value_model.specs.Doc.{get, remove}
 use Rattle.value_model.specs.Size.{is_name}
 use Rattle.ejson_codec.specs.Reading.{max_levels}
 use Rattle.ddp_messages.specs.Answers.{client_answer}
@@ -27,14 +26,9 @@ abbrev pub text_alone : Vals → Option (List ℕ)
 text_alone vs = option_and_then (λ first. if is_nil first.1 then Some first.0 else None) (text_first vs)
 
 -- the list that stands alone
-abbrev pub list_alone : Vals → Option Vals
-list_alone (val (list vs) rest) = if is_nil rest then Some vs else None
+abbrev pub list_alone : Vals → Option (List Val)
+list_alone (val (list vs) rest) = if is_nil rest then Some (list_of vs) else None
 list_alone _ = None
-
--- the document that stands alone
-abbrev pub doc_alone : Vals → Option Entries
-doc_alone (val (object fs) rest) = if is_nil rest then Some (entries_of fs) else None
-doc_alone _ = None
 
 -- each value has at most 32 levels
 abbrev pub have_few_levels : Vals → Bool
@@ -89,35 +83,6 @@ raw_with who t = if asks_in (client_answer t) then None else Some (event.Raw who
 abbrev pub raw_in : Vals → Option Event
 raw_in vs = option_and_then (λ who. option_and_then (raw_with who.0) (text_alone who.1)) (text_first vs)
 
--- an id of a document has 1 to 256 bytes
-abbrev pub is_valid_id : List ℕ → Bool
-is_valid_id id = nat_lt 0 (length id) && nat_lt (length id) 257
-
--- a document has at most 32 levels
-abbrev pub is_shallow : Entries → Bool
-is_shallow doc = nat_le (depth (object (fields_of doc))) max_levels
-
-abbrev pub insert_with : List ℕ → Option Val → Entries → Option Event
-insert_with collection (Some (text id)) doc = if is_valid_id id && is_shallow doc then Some (event.Insert (record { collection = collection; id = id }) doc) else None
-insert_with collection _ doc = None
-
--- the insert of a document: its id is the field `_id`, and the other fields are the document
-abbrev pub insert_in : List ℕ → Entries → Option Event
-insert_in collection es = insert_with collection (get es (codes "_id")) (remove es (codes "_id"))
-
--- `["insert",collection,document]`
-abbrev pub operation_in : Vals → Option Event
-operation_in vs =
-    option_and_then (λ word.
-    if is_name word.0 (codes "insert")
-    then option_and_then (λ collection. option_and_then (λ doc. insert_in collection.0 doc) (doc_alone collection.1)) (text_first word.1)
-    else None)
-    (text_first vs)
-
--- `["admin",operation]`, after the word
-abbrev pub admin_in : Vals → Option Event
-admin_in vs = option_and_then operation_in (list_alone vs)
-
 -- the step that a word names
 abbrev pub act_of : List ℕ → Option Act
 act_of word =
@@ -132,18 +97,20 @@ act_of word =
 abbrev pub step_in : List ℕ → Vals → Option Event
 step_in word vs = option_and_then (λ a. option_map (λ who. event.Do who a) (text_alone vs)) (act_of word)
 
--- the event of this word and what follows it
+-- The event of this word and what follows it. An administrator's operation may be any list.
 abbrev pub row_in : List ℕ → Vals → Option Event
 row_in word vs =
     if is_name word (codes "client") then option_map event.Client (text_alone vs)
     else if is_name word (codes "sub") then sub_in vs
     else if is_name word (codes "raw") then raw_in vs
-    else if is_name word (codes "admin") then admin_in vs
+    else if is_name word (codes "admin") then option_map event.Admin (list_alone vs)
     else if is_name word (codes "settle") then (if is_nil vs then Some event.Settle else None)
     else if is_name word (codes "load") then option_map load_at (placed_in vs)
     else if is_name word (codes "advance") then option_map advance_by (placed_in vs)
     else if is_name word (codes "show") then option_map event.Show (text_alone vs)
     else if is_name word (codes "journal") then option_map event.Journal (text_alone vs)
+    else if is_name word (codes "store") then (if is_nil vs then Some event.Store else None)
+    else if is_name word (codes "history") then (if is_nil vs then Some event.History else None)
     else step_in word vs
 
 -- the event of a line

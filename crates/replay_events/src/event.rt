@@ -13,8 +13,8 @@ use std::marker::Model;
 use world_model::events::Event as Happening;
 
 /// An event of the program, as a line describes it. A contract sees it as what happens: an id of a
-/// subscription has at most 256 bytes and its parameters at most 32 levels, a document is one that a
-/// store keeps, and a text that is sent as it stands asks for nothing.
+/// subscription has at most 256 bytes and its parameters at most 32 levels, an operation is of values
+/// of the program, and a text that is sent as it stands asks for nothing.
 #[derive(Drop)]
 pub struct Event {
     happening: Happening,
@@ -40,10 +40,10 @@ impl Model for Event {
 impl Event {
     /// The event that the line describes: `["client",c]`, `["sub",c,id,name]` and
     /// `["sub",c,id,name,parameters]`, `["raw",c,text]` of a text that asks for nothing,
-    /// `["admin",["insert",collection,doc]]` with the id as the document's field `_id`, `["settle"]`,
-    /// `["show",c]`, `["journal",c]`, `["load",c,id]` and `["load",c,id,place]`,
-    /// `["advance",c,id]` and `["advance",c,id,count]`, and for a single step `["up",c]`,
-    /// `["recv",c]`, `["handle",c]`, `["send",c]` and `["take",c]`.
+    /// `["admin",op]` where `op` is any list, `["settle"]`, `["show",c]`, `["journal",c]`, `["store"]`,
+    /// `["history"]`, `["load",c,id]` and `["load",c,id,place]`, `["advance",c,id]` and
+    /// `["advance",c,id,count]`, and for a single step `["up",c]`, `["recv",c]`, `["handle",c]`,
+    /// `["send",c]` and `["take",c]`.
     pub fn read(alloc: Global, line: &Value) -> Result<Event, LineFault>
         ensures { GivesEvent result (event_in (view line.now)) }
     {

@@ -1,7 +1,7 @@
 //! What the lines of events look like.
 ghost use Rattle.std.specs.Prelude.{◌≡◌, length, nat_lt, IfOk, IfSome, MatchOption, Some, None, nat_le, if◌then◌else◌, option_copied, option_map};
 ghost use Rattle.std.specs.List.{list_all};
-ghost use Rattle.value_model.specs.Val.{vals_of, val, no_vals};
+ghost use Rattle.value_model.specs.Val.{vals_of};
 ghost use Rattle.value_model.specs.Depth.{depth};
 ghost use Rattle.ejson_value.specs.View.{view, views};
 ghost use Rattle.ejson_codec.specs.Reading.{max_levels};
@@ -10,14 +10,14 @@ ghost use Rattle.ddp_messages.specs.ClientMessage.{client_view};
 ghost use Rattle.ddp_messages.specs.Answers.{client_answer};
 ghost use Rattle.ddp_messages.specs.Limits.{AreShallow};
 ghost use Rattle.world_model.specs.Run.{IsEvent, asks, asks_in};
-ghost use Rattle.replay_events.specs.Events.{text_first, is_nil, text_alone, list_alone, doc_alone, params_in, sub_with, sub_in, number_in, placed_in, load_at, advance_by, raw_with, raw_in, is_valid_id, is_shallow, insert_in, operation_in, admin_in, act_of, step_in, row_in, event_in};
+ghost use Rattle.replay_events.specs.Events.{text_first, is_nil, text_alone, list_alone, params_in, sub_with, sub_in, number_in, placed_in, load_at, advance_by, raw_with, raw_in, act_of, step_in, row_in, event_in};
 
 use ddp_messages::{FromClient, MsgFault};
-use ejson_value::{Doc, Items, Key, Mem, Text, Value, Whole, depth};
+use ejson_value::{Items, Mem, Text, Value, Whole, depth};
 use std::alloc::Global;
 use world_model::events::{Act, Event};
 
-/// How many lists and objects may stand in one another in a document.
+/// How many lists and objects may stand in one another in a parameter.
 const MAX_LEVELS: u64 = 32;
 
 // The text that stands first, and what follows it.
@@ -53,8 +53,8 @@ fn text_alone(values: &[Value]) -> Option<&Text>
 }
 
 // The list that stands alone.
-fn list_alone(values: &[Value]) -> Option<&[Value]>
-    ensures { option_map (λ vs. vals_of (views vs.now)) result ≡ list_alone (vals_of (views values.now)) }
+fn list_alone(values: &[Value]) -> Option<&Items>
+    ensures { option_copied result ≡ list_alone (vals_of (views values.now)) }
 {
     let Some((first, rest)) = values.split_first() else {
         return None;
@@ -62,24 +62,7 @@ fn list_alone(values: &[Value]) -> Option<&[Value]>
     let Value::List(items) = first else {
         return None;
     };
-    if is_nil(rest) {
-        Some(items.as_slice())
-    } else {
-        None
-    }
-}
-
-// The document that stands alone.
-fn doc_alone(values: &[Value]) -> Option<&Doc>
-    ensures { option_copied result ≡ doc_alone (vals_of (views values.now)) }
-{
-    let Some((first, rest)) = values.split_first() else {
-        return None;
-    };
-    let Value::Object(doc) = first else {
-        return None;
-    };
-    if is_nil(rest) { Some(doc) } else { None }
+    if is_nil(rest) { Some(items) } else { None }
 }
 
 // Whether each value has at most 32 levels.
@@ -283,95 +266,23 @@ fn read_raw(alloc: Global, values: &[Value]) -> Result<Option<Event>, Mem>
     }
 }
 
-// An id of a document has 1 to 256 bytes.
-fn is_valid_id(id: &Text) -> bool
-    ensures { result ≡ is_valid_id id.now }
-{
-    0 < id.len() && id.len() < 257
-}
-
 fn has_few_levels(value: &Value) -> bool
     ensures { result ≡ nat_le (depth (view value.now)) max_levels }
 {
     depth(value) <= MAX_LEVELS
 }
 
-// The document that the value is.
-fn object_in(value: Value) -> Option<Doc>
-    ensures { result ≡ doc_alone (val (view value) no_vals) }
-{
-    match value {
-        Value::Object(doc) => Some(doc),
-        _ => None,
-    }
-}
-
-// The document, if it has at most 32 levels.
-fn shallow(doc: Doc) -> Option<Doc>
-    ensures { result ≡ (if is_shallow doc then Some doc else None) }
-{
-    let value = Value::Object(doc);
-    if has_few_levels(&value) {
-        object_in(value)
-    } else {
-        None
-    }
-}
-
-// The insert of the document, whose id is the field `_id`.
-fn read_insert(alloc: Global, collection: &Text, doc: &Doc) -> Result<Option<Event>, Mem>
-    ensures found { IfOk result (λ e. e ≡ insert_in collection.now doc.now) }
+// The operation of an administrator: any list.
+fn read_admin(values: &[Value]) -> Result<Option<Event>, Mem>
+    ensures found { IfOk result (λ e. e ≡ option_map event.Admin (list_alone (vals_of (views values.now)))) }
     ensures events { IfOk result (λ e. IfSome e IsEvent) }
 {
-    let name = Text::from_str(alloc, "_id")?;
-    let mut doc = doc.copy()?;
-    let Some(value) = doc.remove(&name) else {
+    let Some(op) = list_alone(values) else {
         return Ok(None);
     };
-    let Value::Text(id) = value else {
-        return Ok(None);
-    };
-    if !is_valid_id(&id) {
-        return Ok(None);
-    }
-    let Some(doc) = shallow(doc) else {
-        return Ok(None);
-    };
-    doc.known();
-    let collection = collection.copy()?;
-    Ok(Some(Event::Insert {
-        key: Key { collection, id },
-        doc,
-    }))
-}
-
-fn read_operation(alloc: Global, values: &[Value]) -> Result<Option<Event>, Mem>
-    ensures found { IfOk result (λ e. e ≡ operation_in (vals_of (views values.now))) }
-    ensures events { IfOk result (λ e. IfSome e IsEvent) }
-{
-    let Some((word, rest)) = text_first(values) else {
-        return Ok(None);
-    };
-    if word.as_str() != "insert" {
-        return Ok(None);
-    }
-    let Some((collection, rest)) = text_first(rest) else {
-        return Ok(None);
-    };
-    let Some(doc) = doc_alone(rest) else {
-        return Ok(None);
-    };
-    read_insert(alloc, collection, doc)
-}
-
-fn read_admin(alloc: Global, values: &[Value]) -> Result<Option<Event>, Mem>
-    ensures found { IfOk result (λ e. e ≡ admin_in (vals_of (views values.now))) }
-    ensures events { IfOk result (λ e. IfSome e IsEvent) }
-{
-    match list_alone(values) {
-        Some(operation) => read_operation(alloc, operation),
-        None => Ok(None),
-    }
+    let op = op.copy()?;
+    op.known();
+    Ok(Some(Event::Admin { op }))
 }
 
 fn read_client(values: &[Value]) -> Result<Option<Event>, Mem>
@@ -447,12 +358,14 @@ fn read_row(alloc: Global, word: &Text, values: &[Value]) -> Result<Option<Event
         "client" => read_client(values),
         "sub" => read_sub(alloc, values),
         "raw" => read_raw(alloc, values),
-        "admin" => read_admin(alloc, values),
+        "admin" => read_admin(values),
         "settle" if is_nil(values) => Ok(Some(Event::Settle)),
         "load" => read_load(values),
         "advance" => read_advance(values),
         "show" => read_show(values),
         "journal" => read_journal(values),
+        "store" if is_nil(values) => Ok(Some(Event::Store)),
+        "history" if is_nil(values) => Ok(Some(Event::History)),
         _ => read_step(word, values),
     }
 }

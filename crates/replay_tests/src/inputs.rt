@@ -1,5 +1,5 @@
 //! Inputs of the commands, and what comes of each: the status, what was written and the reason.
-use commands::{INPUT_LIMIT, Status, run_plain};
+use commands::{INPUT_LIMIT, LINE_LIMIT, Status, run_plain};
 use ejson_value::{Bytes, Mem, Text};
 use io_edge::{Calls, MemorySink, MemorySource};
 use std::alloc::Global;
@@ -68,7 +68,7 @@ const CHECKED: &str = r#"@ => 0; ["ok"]|;
 "#;
 
 // Each row: `calls`, a command and which call of `read` and of `write` fails, `words` and words that name no
-// command, or `bytes`, a command and how many an input has, ` => `, and what comes of it.
+// command, or `bytes` or `lines`, a command and how many of them an input has, ` => `, and what comes of it.
 const RUNS: &str = r#"calls replay 1 9 => 4; ; 
 calls replay 2 9 => 4; ; 
 calls replay 9 1 => 5; ; 
@@ -96,10 +96,12 @@ words -- check => 2; ;
 words Check => 2; ; 
 words checks => 2; ; 
 words serve 3000 1 => 2; ; 
-bytes replay 65536 => 0; ; 
-bytes replay 65537 => 6; ; 
-bytes check 65536 => 0; ["ok"]|; 
-bytes check 65537 => 6; ; 
+bytes replay 67108865 => 6; ; 
+bytes check 67108864 => 0; ["ok"]|; 
+lines replay 1048576 => 0; ; 
+lines replay 1048577 => 6; ; 
+lines check 1048576 => 0; ["ok"]|; 
+lines check 1048577 => 6; ; 
 "#;
 
 // An input that shows one line.
@@ -203,11 +205,26 @@ fn of_length(alloc: Global, word: &str, length: &str) -> Result<String, Fail> {
     ran_over(alloc, word, &mut source, 9)
 }
 
+// The application and empty lines, so many lines in all.
+fn lined(alloc: Global, count: u64) -> Result<Vec<u8>, Mem> {
+    let mut bytes = Vec::from_slice(alloc, APPLICATION.as_bytes())?;
+    let length = bytes.len().saturating_add(count as usize);
+    bytes.resize(length, b'\n')?;
+    Ok(bytes)
+}
+
+fn of_lines(alloc: Global, word: &str, count: &str) -> Result<String, Fail> {
+    let bytes = lined(alloc, count.parse::<u64>()?)?;
+    let mut source = MemorySource::new(Bytes::from_vec(bytes), Calls::new(alloc));
+    ran_over(alloc, word, &mut source, 9)
+}
+
 fn comes_of(alloc: Global, kind: &str, given: &str) -> Result<String, Fail> {
     let (word, number) = given.split_once(' ').unwrap_or((given, ""));
     match kind {
         "calls" => of_calls(alloc, word, number),
         "words" => outcome(alloc, given, SHOWN, 1, 1),
+        "lines" => of_lines(alloc, word, number),
         _ => of_length(alloc, word, number),
     }
 }
@@ -236,7 +253,9 @@ fn checked_inputs(rt: HostRuntime) -> Result<(), Fail> {
 
 #[test]
 fn runs(rt: HostRuntime) -> Result<(), Fail> {
-    assert!(rt; INPUT_LIMIT == 65536 && Status::TooLong.message().contains("65536"));
+    let message = Status::TooLong.message();
+    assert!(rt; INPUT_LIMIT == 67108864 && message.contains("67108864"));
+    assert!(rt; LINE_LIMIT == 1048576 && message.contains("1048576"));
     for row in RUNS.lines() {
         assert!(rt; comes_right(rt.alloc(), row)?, "at {row}");
     }

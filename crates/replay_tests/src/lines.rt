@@ -42,6 +42,11 @@ event ["sub","a","1","none"]
 event ["sub","a","1","all",[1,{"$date":0},[{}]]]
 event ["admin",["insert","none",{"_id":"t1"}]]
 event ["admin",["insert","tasks",{"_id":"t1","n":{"a":[1,{"$date":0}]}}]]
+event ["admin",["insert","tasks",{"n":1}]]
+event ["admin",["remove","tasks",{}]]
+event ["admin",["drop","tasks"]]
+event ["admin",[]]
+event ["admin",[[1],{}]]
 event ["settle"]
 event ["show",""]
 event ["up","a"]
@@ -55,6 +60,8 @@ event ["load","a","1",-9007199254740991]
 event ["advance","a","1"]
 event ["advance","a","1",9007199254740991]
 event ["journal","a"]
+event ["store"]
+event ["history"]
 none {}
 none []
 none null
@@ -66,13 +73,9 @@ none ["sub","a","1"]
 none ["sub","a","1","all",{}]
 none ["sub","a","1","all",[],[]]
 none ["sub","a",1,"all"]
-none ["admin",["insert","tasks",{"n":1}]]
-none ["admin",["insert","tasks",{"_id":""}]]
-none ["admin",["insert","tasks",{"_id":1}]]
-none ["admin",["insert","tasks",[]]]
-none ["admin",["insert","tasks",{"_id":"t1"},1]]
-none ["admin",["remove","tasks",{}]]
-none ["admin",[]]
+none ["admin"]
+none ["admin","insert"]
+none ["admin",[],[]]
 none ["admin",{}]
 none ["raw","a"]
 none ["raw","a",{}]
@@ -89,6 +92,9 @@ none ["advance","a"]
 none ["advance","a","1",[1]]
 none ["journal"]
 none ["journal","a","1"]
+none ["store","a"]
+none ["history",[]]
+none ["histories"]
 asks {"msg":"sub","id":"1","name":"all"}
 asks {"msg":"sub","id":"1","name":"none","params":[1,{}]}
 asks  {"id":"1","x":0,"msg":"sub","name":""} 
@@ -151,20 +157,6 @@ fn nested(alloc: Global, levels: u64) -> Result<Doc, Fail> {
     Ok(doc)
 }
 
-fn with_id(alloc: Global, mut doc: Doc) -> Result<Value, Fail> {
-    let id = text(alloc, "t1")?;
-    doc.put(Text::from_str(alloc, "_id")?, id)?;
-    Ok(Value::Object(doc))
-}
-
-// Whether a document of so many levels may be inserted.
-fn is_inserted(alloc: Global, levels: u64) -> Result<bool, Fail> {
-    let doc = with_id(alloc, nested(alloc, levels)?)?;
-    let operation = list_with(alloc, "insert tasks", doc)?;
-    let line = list_with(alloc, "admin", operation)?;
-    is_event(alloc, line)
-}
-
 fn alone(alloc: Global, value: Value) -> Result<Value, Fail> {
     let mut items = Items::new(alloc);
     items.push(value)?;
@@ -185,14 +177,9 @@ fn is_event_with(alloc: Global, before: &str, length: u64, after: &str) -> Resul
     is_event_line(alloc, line.as_str())
 }
 
-// Each row: a document or a parameter of so many levels, or a `sub` or an `insert` with an id of so
-// many bytes, and whether it is an event.
-const LIMITS: &str = "document 1 => event
-document 31 => event
-document 32 => event
-document 33 => none
-document 34 => none
-parameter 1 => event
+// Each row: a parameter of so many levels, or a `sub` with an id of so many bytes, and whether it is
+// an event.
+const LIMITS: &str = "parameter 1 => event
 parameter 31 => event
 parameter 32 => event
 parameter 33 => none
@@ -201,23 +188,12 @@ sub 0 => event
 sub 1 => event
 sub 256 => event
 sub 257 => none
-insert 0 => none
-insert 1 => event
-insert 256 => event
-insert 257 => none
 ";
 
 fn is_event_of(alloc: Global, kind: &str, size: u64) -> Result<bool, Fail> {
     match kind {
-        "document" => is_inserted(alloc, size),
         "parameter" => is_parameter(alloc, size),
-        "sub" => is_event_with(alloc, r#"["sub","a",""#, size, r#"","all"]"#),
-        _ => is_event_with(
-            alloc,
-            r#"["admin",["insert","tasks",{"_id":""#,
-            size,
-            r#""}]]"#,
-        ),
+        _ => is_event_with(alloc, r#"["sub","a",""#, size, r#"","all"]"#),
     }
 }
 

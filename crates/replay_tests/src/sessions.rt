@@ -9,7 +9,8 @@ use std::alloc::Global;
 use std::test::Fail;
 
 fn empty_store(alloc: Global) -> Result<Store, Fail> {
-    Ok(Store::new(alloc, app(alloc)?))
+    let app = app(alloc)?;
+    Ok(Store::new(alloc, app)?)
 }
 
 // What the session sends for the text; an empty text stands for nothing.

@@ -71,7 +71,7 @@ fn run(alloc: Global, world: &mut World, script: &str) -> Result<String, Fail> {
 // The same in a new world.
 fn transcript(alloc: Global, script: &str) -> Result<String, Fail> {
     let app = app(alloc)?;
-    let mut world = World::new(alloc, app);
+    let mut world = World::new(alloc, app)?;
     run(alloc, &mut world, script)
 }
 
@@ -419,6 +419,77 @@ const USER_VALUES: &str =
 > ["sub","1","ready"]
 "#;
 
+// Operations of an administrator: those that are refused change nothing and are no entries.
+const OPERATIONS: &str = r#"["store"]
+> ["store",0]
+["history"]
+> ["history",0]
+["admin",["insert","tasks",{"_id":"t1","n":1}]]
+["admin",["insert","tasks",{"_id":"t2","n":5}]]
+["admin",["insert","tasks",{"_id":"t1","n":9}]]
+> ["refused",409]
+["admin",["insert","notes",{"_id":"t1"}]]
+> ["refused",404]
+["admin",["insert","tasks",{"n":1}]]
+> ["refused",400]
+["admin",["insert","tasks",{"_id":""}]]
+> ["refused",400]
+["admin",[]]
+> ["refused",400]
+["admin",["drop","tasks"]]
+> ["refused",400]
+["admin",["update","tasks",{},{"$mod":{"n":1}}]]
+> ["refused",400]
+["admin",["remove","tasks",{"$param":0}]]
+> ["refused",400]
+["admin",["update","notes",{},{"$set":{"n":1}}]]
+> ["refused",404]
+["admin",["update","tasks",{},{"$inc":{"n":1}}]]
+["admin",["updateAll","tasks",{"n":{"$gte":0}},{"$inc":{"n":2}}]]
+["admin",["updateAll","tasks",{},{"$push":{"n":1}}]]
+> ["refused",422]
+["admin",["update","tasks",{"_id":"t9"},{"$set":{"n":1}}]]
+["client","a"]
+["settle"]
+["sub","a","1","all"]
+["settle"]
+["admin",["remove","tasks",{"_id":"t1"}]]
+["settle"]
+["show","a"]
+> ["show","a"]
+> ["doc","tasks","t2",{"n":7}]
+> ["sub","1","ready"]
+["admin",["update","tasks",{"_id":"t2"},{"m":[1]}]]
+["store"]
+> ["store",7]
+> ["doc","tasks","t2",{"m":[1]}]
+["history"]
+> ["history",7]
+> ["admin",["insert","tasks",{"_id":"t1","n":1}]]
+> ["admin",["insert","tasks",{"_id":"t2","n":5}]]
+> ["admin",["update","tasks",{},{"$inc":{"n":1}}]]
+> ["admin",["updateAll","tasks",{"n":{"$gte":0}},{"$inc":{"n":2}}]]
+> ["admin",["update","tasks",{"_id":"t9"},{"$set":{"n":1}}]]
+> ["admin",["remove","tasks",{"_id":"t1"}]]
+> ["admin",["update","tasks",{"_id":"t2"},{"m":[1]}]]
+["journal","a"]
+> ["journal","S1"]
+> ["connect"]
+> ["out",{"msg":"connected","session":"S1"}]
+> ["open",0,"1"]
+> ["load",0,5]
+> ["out",{"collection":"tasks","fields":{"n":4},"id":"t1","msg":"added"}]
+> ["out",{"collection":"tasks","fields":{"n":7},"id":"t2","msg":"added"}]
+> ["out",{"msg":"ready","subs":["1"]}]
+> ["advance",0,1]
+> ["out",{"collection":"tasks","id":"t1","msg":"removed"}]
+["settle"]
+["show","a"]
+> ["show","a"]
+> ["doc","tasks","t2",{"m":[1]}]
+> ["sub","1","ready"]
+"#;
+
 #[test]
 fn transcripts(rt: HostRuntime) -> Result<(), Fail> {
     for script in [
@@ -433,6 +504,7 @@ fn transcripts(rt: HostRuntime) -> Result<(), Fail> {
         SELECTED,
         PLACES,
         USER_VALUES,
+        OPERATIONS,
     ] {
         assert_eq!(rt; transcript(rt.alloc(), script)?.as_str(), script);
     }
@@ -466,7 +538,7 @@ fn run_settled(alloc: Global, world: &mut World, script: &str) -> Result<String,
 // The events of the script, run in a world that has a client and is settled.
 fn settled_transcript(alloc: Global, script: &str) -> Result<String, Fail> {
     let app = app(alloc)?;
-    let mut world = World::new(alloc, app);
+    let mut world = World::new(alloc, app)?;
     run_settled(alloc, &mut world, script)
 }
 

@@ -15,7 +15,7 @@ use Rattle.ejson_value.specs.Rows.{Rows, AreDocuments, AreRows}
 use Rattle.session_model.specs.declared.items.Item.{Item}
 use Rattle.session_model.specs.declared.items.Item.TheVariants as item
 use Rattle.app_model.specs.App.{App}
-use Rattle.session_model.specs.History.{Entry}
+use Rattle.history_model.specs.declared.entry.Entry.{Entry}
 use Rattle.session_model.specs.Texts.{server_text}
 use Rattle.session_model.specs.Journal.{Live as ALive, live_of, live_after, keeps_live, is_connected, connected_after, shown}
 use Rattle.session_model.specs.Out.{about, difference, own_text, texts_of}
@@ -37,14 +37,14 @@ with_item_is app h c i journal outbox j o = ap₂ (λ (js : List Item) (os : Lis
 
 -- the texts of an item, from what is known of the session
 pub texts_are : (store : Stored) (s : Session) (i : Item) (own : List (List ℕ)) (rows : Rows) (texts : List (List ℕ)) → IsTrueTo store s →
-    rows ≡ shown store.history (live_after store.app (live_of store.app s.journal.items) i) →
+    rows ≡ shown store.app store.history (live_after store.app (live_of store.app s.journal.items) i) →
     own ≡ own_text s.number (option_map as_live s.live) i →
     texts ≡ map server_text (map about (difference s.shown rows)) ++ own →
     texts ≡ texts_of store.app s.number store.history (live_of store.app s.journal.items) i
 texts_are store s i own rows texts stands rows_are own_is made =
     made
     ∙ (ap₂ (λ a b. map server_text (map about (difference a b)) ++ own) stands.shown rows_are
-    ∙ ap (λ ts. map server_text (map about (difference (shown store.history (live_of store.app s.journal.items)) (shown store.history (live_after store.app (live_of store.app s.journal.items) i)))) ++ ts)
+    ∙ ap (λ ts. map server_text (map about (difference (shown store.app store.history (live_of store.app s.journal.items)) (shown store.app store.history (live_after store.app (live_of store.app s.journal.items) i)))) ++ ts)
     (own_is ∙ ap (λ live. own_text s.number live i) stands.live))
 
 -- the documents of contents are maps
@@ -61,7 +61,7 @@ no_difference rows are = diff_itself key_order name_order (eq_by_cmp compare) (�
 pub own_texts : (store : Stored) (s : Session) (i : Item) (own : List (List ℕ)) → IsTrueTo store s → AreRows s.shown → keeps_live i →
     own ≡ own_text s.number (option_map as_live s.live) i → own ≡ texts_of store.app s.number store.history (live_of store.app s.journal.items) i
 own_texts store s i own stands are quiet own_is =
-    texts_are store s i own s.shown own stands (stands.shown ∙ sym (ap (shown store.history) (quiet store.app (live_of store.app s.journal.items)))) own_is
+    texts_are store s i own s.shown own stands (stands.shown ∙ sym (ap (shown store.app store.history) (quiet store.app (live_of store.app s.journal.items)))) own_is
     (ap (λ ms. map server_text (map about ms) ++ own) (sym (no_difference s.shown are)))
 
 or_false : (b : Bool) → b ≡ (b || false)
@@ -79,7 +79,7 @@ failed_append (j ∷ items) i = ap (λ b. is_fail j || b) (failed_append items i
 
 -- what stands after an item
 pub stands_after : (store : Stored) (old : Session) (i : Item) (live : Option Live) (rows : Rows) → IsTrueTo store old →
-    option_map as_live live ≡ live_after store.app (live_of store.app old.journal.items) i → rows ≡ shown store.history (live_after store.app (live_of store.app old.journal.items) i) →
+    option_map as_live live ≡ live_after store.app (live_of store.app old.journal.items) i → rows ≡ shown store.app store.history (live_after store.app (live_of store.app old.journal.items) i) →
     (new : Session) → new.journal.items ≡ old.journal.items ++ i ∷ [] → new.is_connected ≡ connected_after old.is_connected i → new.has_failed ≡ (old.has_failed || is_fail i) →
     new.live ≡ live → new.shown ≡ rows → IsTrueTo store new
 stands_after store old i live rows stands live_is rows_are new journal connected failed live_new shown_new =
@@ -89,7 +89,7 @@ stands_after store old i live rows stands live_is rows_are new journal connected
       connected = connected ∙ (ap (λ b. connected_after b i) stands.connected ∙ sym (ap is_connected journal ∙ connected_from-append false before i));
       failed = failed ∙ (ap (λ b. b || is_fail i) stands.failed ∙ sym (ap has_failed journal ∙ failed_append before i));
       live = ap (option_map as_live) live_new ∙ (live_is ∙ sym after);
-      shown = shown_new ∙ (rows_are ∙ ap (shown store.history) (sym after));
+      shown = shown_new ∙ (rows_are ∙ ap (shown store.app store.history) (sym after));
     }
 
 -- what stands after an item that leaves the live subscription
@@ -98,7 +98,7 @@ pub still_stands : (store : Stored) (old : Session) (i : Item) → IsTrueTo stor
     new.live ≡ old.live → new.shown ≡ old.shown → IsTrueTo store new
 still_stands store old i stands quiet =
     let same = sym (quiet store.app (live_of store.app old.journal.items)) in
-    stands_after store old i old.live old.shown stands (stands.live ∙ same) (stands.shown ∙ ap (shown store.history) same)
+    stands_after store old i old.live old.shown stands (stands.live ∙ same) (stands.shown ∙ ap (shown store.app store.history) same)
 
 -- what is known of the live subscription
 pub live_is : (store : Stored) (s : Session) (l : Live) → IsTrueTo store s → s.live ≡ Some l → live_of store.app s.journal.items ≡ Some (as_live l)

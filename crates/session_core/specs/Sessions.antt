@@ -3,7 +3,7 @@ use Rattle.std.specs.Prelude.{◌≡◌, ◌-◌, ℕ, ℤ, pos, negsuc, List, B
 use Rattle.value_model.specs.Size.{is_name}
 use Rattle.app_model.specs.App.{App}
 use Rattle.session_model.specs.declared.items.Item.{Item}
-use Rattle.session_model.specs.History.{Entry}
+use Rattle.history_model.specs.declared.entry.Entry.{Entry}
 use Rattle.session_model.specs.Out.{own_text}
 use Rattle.session_model.specs.Journal.{Live as ALive, live_of, is_connected, shown}
 use Rattle.world_model.specs.Client.{Client}
@@ -20,7 +20,7 @@ pub record IsTrueTo (store : Stored) (s : Session) : Type 0 where
   pub connected : s.is_connected ≡ is_connected s.journal.items
   pub failed : s.has_failed ≡ has_failed s.journal.items
   pub live : option_map as_live s.live ≡ live_of store.app s.journal.items
-  pub shown : s.shown ≡ shown store.history (live_of store.app s.journal.items)
+  pub shown : s.shown ≡ shown store.app store.history (live_of store.app s.journal.items)
 
 -- the item's own text, kept folded: a check of the code that writes it needn't look into texts
 unfoldable pub text_of_item : ℕ → Option ALive → Item → List (List ℕ)

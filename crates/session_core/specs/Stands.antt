@@ -1,16 +1,11 @@
 -- What a store keeps, and what it stands for.
-use Rattle.std.specs.Prelude.{◌≡◌, map}
-use Rattle.session_model.specs.History.{Entry, contents}
+use Rattle.std.specs.Prelude.{◌≡◌}
 use Rattle.session_core.specs.Store.{Stored}
-use Rattle.session_core.specs.declared.store.Insert.{Insert}
 use Rattle.session_core.specs.declared.store.Store.TheInside.{Inside}
 
-abbrev pub entry_of : Insert → Entry
-entry_of i = record { key = i.key; doc = i.doc }
-
 abbrev pub stored : Inside → Stored
-stored a = record { app = a.app; history = map entry_of a.history.items }
+stored a = record { app = a.app; history = a.machine.history }
 
--- the documents are the contents after the history
+-- the machine is the application's
 abbrev pub IsTrueStore : Inside → Type 0
-IsTrueStore a = a.contents ≡ contents (map entry_of a.history.items)
+IsTrueStore a = a.machine.app ≡ a.app

@@ -31,7 +31,7 @@ const OUTBOX_LIMIT: usize = 4096;
 /// How many items a journal holds.
 const JOURNAL_LIMIT: usize = 262144;
 
-/// An open subscription: the cursors of its publication, and how many inserts of the history its
+/// An open subscription: the cursors of its publication, and how many entries of the history its
 /// documents take in; None until it is loaded.
 #[derive(Drop)]
 pub struct Live {
@@ -367,7 +367,7 @@ impl Session {
     ) -> Result<(), Mem>
         requires stands { IsTrueTo store.now self.old }
         requires live { option_map as_live live ≡ live_after store.now.app (live_of store.now.app self.old.journal.items) item }
-        requires rows { rows ≡ shown store.now.history (live_after store.now.app (live_of store.now.app self.old.journal.items) item) }
+        requires rows { rows ≡ shown store.now.app store.now.history (live_after store.now.app (live_of store.now.app self.old.journal.items) item) }
         ensures added { OnOk result ((c : AClient) → with_session c self.new ≡ with_item store.now.app store.now.history (with_session c self.old) item) }
         ensures same { OnErr result ((c : AClient) → with_session c self.new ≡ with_session c self.old) }
         ensures stands { IsTrueTo store.now self.new }
@@ -557,7 +557,7 @@ impl Session {
         }
     }
 
-    // Leads the live subscription on by so many inserts. Whether it is loaded, and there are so many.
+    // Leads the live subscription on by so many entries. Whether it is loaded, and there are so many.
     fn advance_by(&mut self, store: &Store, count: u64) -> Result<bool, Mem>
         requires { IsTrueTo store.now self.old }
         ensures advanced { IfOk result (λ done. (c : AClient) → Does done (with_session c self.old) (with_session c self.new) (advances_live store.now.app store.now.history (with_session c self.old) count (live_of store.now.app self.old.journal.items))) }

@@ -1,31 +1,28 @@
 //! The store: its documents and its history.
-ghost use Rattle.std.specs.Prelude.{◌≡◌, ◌++◌, ◌∷◌, [], length, map, IfOk, OnOk, OnErr, option_copied};
-ghost use Rattle.map_model.specs.Maps.{at, set};
+ghost use Rattle.std.specs.Prelude.{◌≡◌, [], length, map, Some, IfOk, IfSome, OnOk, OnErr};
+ghost use Rattle.map_model.specs.Maps.{set};
 ghost use Rattle.ejson_value.specs.Key.{key_cmp};
-ghost use Rattle.session_model.specs.History.{contents, contents_at};
+ghost use Rattle.store_model.specs.Store.{contents_at};
 ghost use Rattle.session_model.specs.Publication.{queried};
+ghost use Rattle.world_model.specs.Run.{operated};
+ghost use Rattle.world_model.specs.Lines.{line_text, values, refusal_code, store_values, history_values};
 ghost use Rattle.session_core.specs.Store.{put_answer};
-ghost use Rattle.session_core.specs.Stands.{entry_of};
 
 use app_model::App;
-use ejson_value::{Contents, Doc, Key, Mem, Publish, Publishes};
+use ejson_codec::Lines;
+use ejson_value::{Contents, Doc, Items, Key, Mem, Publish, Publishes};
 use publication::{Cursors, query};
 use std::alloc::Global;
 use std::marker::Model;
+use store_machine::{AdminFault, Machine};
 
-/// An insert of a document at a key.
-#[derive(Drop)]
-pub(crate) struct Insert {
-    pub(crate) key: Key,
-    pub(crate) doc: Doc,
-}
-
-/// The application, the history of its inserts and the documents after them.
+/// The application, with the machine that makes the history of its store longer and keeps the
+/// documents that it leads to.
 #[derive(Drop)]
 pub struct Store {
+    alloc: Global,
     app: App,
-    history: Vec<Insert>,
-    contents: Contents,
+    machine: Machine,
 }
 
 impl Model for Store {
@@ -44,32 +41,12 @@ impl Model for Store {
     ghost invariant = { IsTrueStore };
 }
 
-fn insert_of(key: &Key, doc: &Doc) -> Result<Insert, Mem>
-    ensures { IfOk result (λ insert. entry_of insert ≡ record { key = key.now; doc = doc.now }) }
-{
-    Ok(Insert {
-        key: key.copy()?,
-        doc: doc.copy()?,
-    })
-}
-
 // Puts a copy of the document at a copy of the key.
 fn put_copy(rows: &mut Contents, key: &Key, doc: &Doc) -> Result<(), Mem>
     ensures ok { OnOk result (rows.new ≡ set key_cmp rows.old key.now (Some doc.now)) }
     ensures err { OnErr result (rows.new ≡ rows.old) }
 {
     rows.put(key.copy()?, doc.copy()?)
-}
-
-// The documents after these inserts.
-fn contents_of(alloc: Global, history: &[Insert]) -> Result<Contents, Mem>
-    ensures { IfOk result (λ rows. rows ≡ contents (map entry_of history.now)) }
-{
-    let mut rows = Contents::new(alloc);
-    for entry in history {
-        put_copy(&mut rows, &entry.key, &entry.doc)?;
-    }
-    Ok(rows)
 }
 
 // Puts what a query answers for a key.
@@ -107,19 +84,20 @@ fn queried(alloc: Global, cursors: &Cursors, contents: &Contents) -> Result<Cont
 
 impl Store {
     /// The application's store, without documents.
-    pub fn new(alloc: Global, app: App) -> Store
-        ensures { result ≡ record { app = app; history = [] } }
+    pub fn new(alloc: Global, app: App) -> Result<Store, Mem>
+        ensures { IfOk result (λ store. store ≡ record { app = app; history = [] }) }
     {
-        Store {
+        let machine = Machine::new(alloc, &app)?;
+        Ok(Store {
+            alloc,
             app,
-            history: Vec::new(alloc),
-            contents: Contents::new(alloc),
-        }
+            machine,
+        })
     }
 
     /// What the store takes its memory from.
     pub fn allocator(&self) -> Global {
-        *self.history.allocator()
+        self.alloc
     }
 
     /// The application.
@@ -129,41 +107,50 @@ impl Store {
         &self.app
     }
 
-    /// How many inserts the history has.
+    /// How many entries the history has.
     pub fn len(&self) -> u64
         ensures { result ≡ length self.now.history }
     {
-        self.history.len() as u64
+        self.machine.length()
     }
 
-    /// The document at the key.
-    pub fn get(&self, key: &Key) -> Option<&Doc>
-        ensures { option_copied result ≡ at key_cmp (contents self.now.history) key.now }
-    {
-        self.contents.get(key)
-    }
-
-    /// The documents that the cursors published after so many inserts, or now if there are no more.
+    /// The documents that the cursors published after so many entries, or now if there are no more.
     pub fn published(&self, cursors: &Cursors, place: u64) -> Result<Contents, Mem>
-        ensures { IfOk result (λ rows. rows ≡ queried cursors.now (contents_at self.now.history place)) }
+        ensures { IfOk result (λ rows. rows ≡ queried cursors.now (contents_at self.now.app self.now.history place)) }
     {
-        let alloc = self.allocator();
-        if place >= self.history.len() as u64 {
-            return queried(alloc, cursors, &self.contents);
+        if place >= self.machine.length() {
+            return queried(self.alloc, cursors, self.machine.contents());
         }
-        let contents = contents_of(alloc, &self.history[..place as usize])?;
-        queried(alloc, cursors, &contents)
+        let contents = self.machine.contents_at(place)?;
+        queried(self.alloc, cursors, &contents)
     }
 
-    /// Inserts the document, which nothing refuses.
-    pub fn insert(&mut self, key: &Key, doc: &Doc) -> Result<(), Mem>
-        ensures ok { OnOk result (self.new ≡ record { app = self.old.app; history = self.old.history ++ record { key = key.now; doc = doc.now } ∷ [] }) }
+    /// Makes an administrator's operation, which is an entry then, and answers None; or the code with
+    /// which it is refused.
+    pub fn admin(&mut self, op: &Items) -> Result<Option<u16>, Mem>
+        ensures code { IfOk result (λ code. code ≡ refusal_code self.old.app self.old.history op.now) }
+        ensures ok { OnOk result (self.new ≡ record self.old { history = operated self.old.app self.old.history op.now }) }
+        ensures refused { IfOk result (λ code. IfSome code (λ n. self.new ≡ self.old)) }
         ensures err { OnErr result (self.new ≡ self.old) }
     {
-        let entry = insert_of(key, doc)?;
-        self.history.reserve(1)?;
-        put_copy(&mut self.contents, key, doc)?;
-        self.history.push(entry).unwrap();
-        Ok(())
+        match self.machine.admin(op) {
+            Ok(()) => Ok(None),
+            Err(AdminFault::Refused { code }) => Ok(Some(code)),
+            Err(AdminFault::Memory) => Err(Mem),
+        }
+    }
+
+    /// The lines of the documents, by collection and id, behind the length of the history.
+    pub fn store_lines(&self) -> Result<Lines, Mem>
+        ensures { IfOk result (λ lines. lines ≡ map line_text (values (store_values self.now.app self.now.history))) }
+    {
+        self.machine.store_lines()
+    }
+
+    /// The lines of the history's entries, behind their number.
+    pub fn history_lines(&self) -> Result<Lines, Mem>
+        ensures { IfOk result (λ lines. lines ≡ map line_text (values (history_values self.now.history))) }
+    {
+        self.machine.history_lines()
     }
 }

@@ -22,7 +22,8 @@ use Rattle.session_model.specs.declared.items.Item.{Item}
 use Rattle.session_model.specs.declared.items.Item.TheVariants as item
 use Rattle.app_model.specs.App.{App}
 use Rattle.session_model.specs.Publication.{error_of}
-use Rattle.session_model.specs.History.{Entry, IsStored, AreEntries}
+use Rattle.history_model.specs.declared.entry.Entry.{Entry}
+use Rattle.store_model.specs.Store.{IsStored, AreGiven}
 use Rattle.session_model.specs.Texts.{server_text, or_unknown, message_in, messages_in}
 use Rattle.session_model.specs.Journal.{Live, live_after, shown, connected_after, CanFollow, FitsFrom, Fits}
 use Rattle.session_model.specs.Out.{session_name, about, own_message, own_text, changes_of, messages_of, texts_of, out_from, out_texts_from, out, out_texts}
@@ -77,12 +78,12 @@ collected_readable : (f : Key → Option (Step (List ℕ) Val)) → ((k : Key) �
 collected_readable f all [] = tt
 collected_readable f all (k ∷ ks) = keyed_readable k (f k) (collect f ks) (all k) (collected_readable f all ks)
 
-changes_readable : (app : App) (h : List Entry) (live : Option Live) (i : Item) → AreEntries h → AreReadable (map about (changes_of app h live i))
+changes_readable : (app : App) (h : List Entry) (live : Option Live) (i : Item) → AreGiven h → AreReadable (map about (changes_of app h live i))
 changes_readable app h live i all =
-    let a = shown h live in
-    let b = shown h (live_after app live i) in
+    let a = shown app h live in
+    let b = shown app h (live_after app live i) in
     collected_readable (λ k. between text_cmp (eq_by_cmp compare) (at key_cmp a k) (at key_cmp b k))
-    (λ k. step_readable k (at key_cmp a k) (at key_cmp b k) (stored_shown h live all k) (stored_shown h (live_after app live i) all k)) (keys_of (union key_cmp a b))
+    (λ k. step_readable k (at key_cmp a k) (at key_cmp b k) (stored_shown app h live all k) (stored_shown app h (live_after app live i) all k)) (keys_of (union key_cmp a b))
 
 -- ---- texts that read
 
@@ -149,7 +150,7 @@ own_reads app number n connected None (item.Load sub at) f s = absurd f
 own_reads app number n connected (Some l) (item.Load sub at) f s = all_read (server.ready (l.id ∷ []) ∷ []) ((tt, (s, tt)), tt)
 own_reads app number n connected live (item.Advance sub count) f s = (tt, refl)
 
-item_reads : (app : App) (number n : ℕ) (h : List Entry) (connected : Bool) (live : Option Live) (i : Item) → AreEntries h → CanFollow app n connected live i → IsLiveShort live →
+item_reads : (app : App) (number n : ℕ) (h : List Entry) (connected : Bool) (live : Option Live) (i : Item) → AreGiven h → CanFollow app n connected live i → IsLiveShort live →
     AreRead (texts_of app number h live i) × (messages_in (texts_of app number h live i) ≡ messages_of app number h live i)
 item_reads app number n h connected live i all f s =
     let ms = map about (changes_of app h live i) in
@@ -158,7 +159,7 @@ item_reads app number n h connected live i all f s =
     let b = own_reads app number n connected live i f s in
     (AreRead-append (map server_text ms) own a.0 b.0, map-append message_in (map server_text ms) own ∙ ap₂ (λ xs ys. xs ++ ys) a.1 b.1)
 
-pub out_from_reads : (app : App) (number n : ℕ) (h : List Entry) (connected : Bool) (live : Option Live) (items : List Item) → AreEntries h → FitsFrom app n connected live items → IsLiveShort live →
+pub out_from_reads : (app : App) (number n : ℕ) (h : List Entry) (connected : Bool) (live : Option Live) (items : List Item) → AreGiven h → FitsFrom app n connected live items → IsLiveShort live →
     AreRead (out_texts_from app number h live items) × (messages_in (out_texts_from app number h live items) ≡ out_from app number h live items)
 out_from_reads app number n h connected live [] all f s = (tt, refl)
 out_from_reads app number n h connected live (i ∷ items) all f s =
@@ -169,6 +170,6 @@ out_from_reads app number n h connected live (i ∷ items) all f s =
     (AreRead-append ts rest a.0 b.0, map-append message_in ts rest ∙ ap₂ (λ xs ys. xs ++ ys) a.1 b.1)
 
 -- The texts of a journal read as its messages.
-pub out_reads : (app : App) (number n : ℕ) (h : List Entry) (items : List Item) → AreEntries h → Fits app n items →
+pub out_reads : (app : App) (number n : ℕ) (h : List Entry) (items : List Item) → AreGiven h → Fits app n items →
     AreRead (out_texts app number h items) × (messages_in (out_texts app number h items) ≡ out app number h items)
 out_reads app number n h items all f = out_from_reads app number n h false None items all f tt

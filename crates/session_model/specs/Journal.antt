@@ -6,7 +6,8 @@ use Rattle.session_model.specs.declared.items.Item.{Item}
 use Rattle.session_model.specs.declared.items.Item.TheVariants as item
 use Rattle.app_model.specs.App.{App}
 use Rattle.publication.specs.Cursors.{ACursors}
-use Rattle.session_model.specs.History.{Entry, contents_at}
+use Rattle.history_model.specs.declared.entry.Entry.{Entry}
+use Rattle.store_model.specs.Store.{contents_at}
 use Rattle.session_model.specs.Publication.{making, IsMade, cursors_in, queried, error_of}
 use Rattle.ddp_messages.specs.Limits.{IsShort}
 use Rattle.session_model.specs.Answers.{Taken, at_once, to_queue, IsRefusal}
@@ -72,13 +73,13 @@ loaded_ids None = []
 loaded_ids (Some live) = loaded_by live.id live.cursor
 
 -- what a subscription shows: its published documents at its cursor, none until it is loaded
-abbrev pub shown_at : List Entry → ACursors → Option ℕ → Rows
-shown_at history cursors None = []
-shown_at history cursors (Some cursor) = queried cursors (contents_at history cursor)
+abbrev pub shown_at : App → List Entry → ACursors → Option ℕ → Rows
+shown_at app history cursors None = []
+shown_at app history cursors (Some cursor) = queried cursors (contents_at app history cursor)
 
-abbrev pub shown : List Entry → Option Live → Rows
-shown history None = []
-shown history (Some live) = shown_at history live.cursors live.cursor
+abbrev pub shown : App → List Entry → Option Live → Rows
+shown app history None = []
+shown app history (Some live) = shown_at app history live.cursors live.cursor
 
 -- whether the session is connected after one more item
 abbrev pub connected_after : Bool → Item → Bool

@@ -1,4 +1,3 @@
-pub mod History
 pub mod Publication
 pub mod Texts
 pub mod Answers
@@ -6,7 +5,6 @@ pub mod Journal
 pub mod Out
 pub mod ProjectedLaws
 pub mod PublicationLaws
-pub mod HistoryLaws
 pub mod OutLaws
 pub mod HeardLaws
 pub mod TakenLaws

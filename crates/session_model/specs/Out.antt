@@ -18,7 +18,7 @@ use Rattle.session_model.specs.declared.items.Item.{Item}
 use Rattle.session_model.specs.declared.items.Item.TheVariants as item
 use Rattle.app_model.specs.App.{App}
 use Rattle.session_model.specs.Publication.{error_of}
-use Rattle.session_model.specs.History.{Entry}
+use Rattle.history_model.specs.declared.entry.Entry.{Entry}
 use Rattle.session_model.specs.Texts.{server_text, message_in}
 use Rattle.session_model.specs.Journal.{Live, live_after, shown}
 
@@ -60,7 +60,7 @@ own_text number live i = map server_text (own_message number live i)
 
 -- what an item changes of what is shown
 abbrev pub changes_of : App → List Entry → Option Live → Item → List (Key × Step (List ℕ) Val)
-changes_of app history live i = difference (shown history live) (shown history (live_after app live i))
+changes_of app history live i = difference (shown app history live) (shown app history (live_after app live i))
 
 -- the messages of an item, which follows a journal with this live subscription
 abbrev pub messages_of : App → ℕ → List Entry → Option Live → Item → List ServerMessage

@@ -23,8 +23,9 @@ use Rattle.session_model.specs.declared.items.Item.{Item}
 use Rattle.session_model.specs.declared.items.Item.TheVariants as item
 use Rattle.app_model.specs.App.{App}
 use Rattle.publication.specs.Cursors.{ACursors}
-use Rattle.session_model.specs.History.{Entry, contents_at, AreEntries, AreStored}
-use Rattle.session_model.specs.HistoryLaws.{contents_at-longer, sorted_contents, stored_contents, docs_stored, AreEntries-take}
+use Rattle.history_model.specs.declared.entry.Entry.{Entry}
+use Rattle.store_model.specs.Store.{contents_at, AreGiven, AreStored}
+use Rattle.store_model.specs.StoreLaws.{contents_at-longer, sorted_contents, stored_contents, docs_stored, AreGiven-take}
 use Rattle.session_model.specs.Publication.{making, cursors_in, queried}
 use Rattle.session_model.specs.PublicationLaws.{sorted_queried, stored_queried}
 use Rattle.session_model.specs.Texts.{server_text, or_unknown, message_in}
@@ -114,24 +115,24 @@ data_of-messages app number n h connected live i f =
     ∙ (nil_append (data_of (map about d)) ∙ data_of-about d))
 
 -- what a subscription shows is contents
-pub sorted_shown : (h : List Entry) (live : Option Live) → IsSorted key_cmp (shown h live)
-sorted_shown h None = sorted-nil key_cmp
-sorted_shown h (Some live) = by live.cursor
+pub sorted_shown : (app : App) (h : List Entry) (live : Option Live) → IsSorted key_cmp (shown app h live)
+sorted_shown app h None = sorted-nil key_cmp
+sorted_shown app h (Some live) = by live.cursor
   where
-    by : (cursor : Option ℕ) → IsSorted key_cmp (shown_at h live.cursors cursor)
+    by : (cursor : Option ℕ) → IsSorted key_cmp (shown_at app h live.cursors cursor)
     by None = sorted-nil key_cmp
-    by (Some n) = sorted_queried live.cursors (contents_at h n) (sorted_contents (take n h))
+    by (Some n) = sorted_queried live.cursors (contents_at app h n) (sorted_contents app (take n h))
 
-pub stored_shown : (h : List Entry) (live : Option Live) → AreEntries h → AreStored (shown h live)
-stored_shown h None all = λ q. tt
-stored_shown h (Some live) all = by live.cursor
+pub stored_shown : (app : App) (h : List Entry) (live : Option Live) → AreGiven h → AreStored (shown app h live)
+stored_shown app h None all = λ q. tt
+stored_shown app h (Some live) all = by live.cursor
   where
-    by : (cursor : Option ℕ) → AreStored (shown_at h live.cursors cursor)
+    by : (cursor : Option ℕ) → AreStored (shown_at app h live.cursors cursor)
     by None = λ q. tt
-    by (Some n) = stored_queried live.cursors (contents_at h n) (sorted_contents (take n h)) (stored_contents (take n h) (AreEntries-take n h all))
+    by (Some n) = stored_queried live.cursors (contents_at app h n) (sorted_contents app (take n h)) (stored_contents app (take n h) (AreGiven-take n h all))
 
-pub docs_shown : (h : List Entry) (live : Option Live) → AreEntries h → AreDocs text_cmp key_cmp (shown h live)
-docs_shown h live all = docs_stored (shown h live) (stored_shown h live all)
+pub docs_shown : (app : App) (h : List Entry) (live : Option Live) → AreGiven h → AreDocs text_cmp key_cmp (shown app h live)
+docs_shown app h live all = docs_stored (shown app h live) (stored_shown app h live all)
 
 pub all_taken-append : (rows : Rows) (ms ns : List (Key × Step (List ℕ) Val)) →
     all_taken text_cmp key_cmp rows (ms ++ ns) ≡ all_taken text_cmp key_cmp (all_taken text_cmp key_cmp rows ms) ns
@@ -142,27 +143,27 @@ exact_values : (v w : Val) → eq_by_cmp compare v w ≡ true → v ≡ w
 exact_values v w e = (compare_is_eq v w).0 e
 
 -- a reader that takes an item's changes has what is shown after it
-pub changes_taken : (app : App) (h : List Entry) (live : Option Live) (i : Item) → AreEntries h →
-    all_taken text_cmp key_cmp (shown h live) (changes_of app h live i) ≡ shown h (live_after app live i)
+pub changes_taken : (app : App) (h : List Entry) (live : Option Live) (i : Item) → AreGiven h →
+    all_taken text_cmp key_cmp (shown app h live) (changes_of app h live i) ≡ shown app h (live_after app live i)
 changes_taken app h live i all =
-    diff_taken key_order name_order (eq_by_cmp compare) exact_values (shown h live) (shown h (live_after app live i))
-    (sorted_shown h live) (sorted_shown h (live_after app live i)) (docs_shown h live all) (docs_shown h (live_after app live i) all)
+    diff_taken key_order name_order (eq_by_cmp compare) exact_values (shown app h live) (shown app h (live_after app live i))
+    (sorted_shown app h live) (sorted_shown app h (live_after app live i)) (docs_shown app h live all) (docs_shown app h (live_after app live i) all)
 
 -- a reader that takes the messages has what is shown
-pub out_from-taken : (app : App) (number n : ℕ) (h : List Entry) (connected : Bool) (live : Option Live) (items : List Item) → AreEntries h → FitsFrom app n connected live items →
-    all_taken text_cmp key_cmp (shown h live) (data_of (out_from app number h live items)) ≡ shown h (live_from app live items)
+pub out_from-taken : (app : App) (number n : ℕ) (h : List Entry) (connected : Bool) (live : Option Live) (items : List Item) → AreGiven h → FitsFrom app n connected live items →
+    all_taken text_cmp key_cmp (shown app h live) (data_of (out_from app number h live items)) ≡ shown app h (live_from app live items)
 out_from-taken app number n h connected live [] all f = refl
 out_from-taken app number n h connected live (i ∷ items) all f =
     let ms = messages_of app number h live i in
     let rest = out_from app number h (live_after app live i) items in
-    ap (λ d. all_taken text_cmp key_cmp (shown h live) d) (data_of-append ms rest)
-    ∙ (all_taken-append (shown h live) (data_of ms) (data_of rest)
+    ap (λ d. all_taken text_cmp key_cmp (shown app h live) d) (data_of-append ms rest)
+    ∙ (all_taken-append (shown app h live) (data_of ms) (data_of rest)
     ∙ (ap (λ rows. all_taken text_cmp key_cmp rows (data_of rest))
-    (ap (λ d. all_taken text_cmp key_cmp (shown h live) d) (data_of-messages app number n h connected live i f.0) ∙ changes_taken app h live i all)
+    (ap (λ d. all_taken text_cmp key_cmp (shown app h live) d) (data_of-messages app number n h connected live i f.0) ∙ changes_taken app h live i all)
     ∙ out_from-taken app number n h (connected_after connected i) (live_after app live i) items all f.1))
 
-pub out-taken : (app : App) (number n : ℕ) (h : List Entry) (items : List Item) → AreEntries h → Fits app n items →
-    all_taken text_cmp key_cmp [] (data_of (out app number h items)) ≡ shown h (live_of app items)
+pub out-taken : (app : App) (number n : ℕ) (h : List Entry) (items : List Item) → AreGiven h → Fits app n items →
+    all_taken text_cmp key_cmp [] (data_of (out app number h items)) ≡ shown app h (live_of app items)
 out-taken app number n h items all f = out_from-taken app number n h false None items all f
 
 -- the subscription's documents lie within a history of this length
@@ -191,16 +192,16 @@ pub within_from : (app : App) (length : ℕ) (connected : Bool) (live : Option L
 within_from app length connected live [] w f = w
 within_from app length connected live (i ∷ items) w f = within_from app length (connected_after connected i) (live_after app live i) items (within_after app length connected live i w f.0) f.1
 
-shown_at-longer : (h more : List Entry) (cursors : ACursors) (cursor : Option ℕ) → IsCursorWithin (length h) cursor → shown_at (h ++ more) cursors cursor ≡ shown_at h cursors cursor
-shown_at-longer h more cursors None w = refl
-shown_at-longer h more cursors (Some n) w = ap (queried cursors) (contents_at-longer h more n w)
+shown_at-longer : (app : App) (h more : List Entry) (cursors : ACursors) (cursor : Option ℕ) → IsCursorWithin (length h) cursor → shown_at app (h ++ more) cursors cursor ≡ shown_at app h cursors cursor
+shown_at-longer app h more cursors None w = refl
+shown_at-longer app h more cursors (Some n) w = ap (queried cursors) (contents_at-longer app h more n w)
 
-pub shown-longer : (h more : List Entry) (live : Option Live) → IsWithin (length h) live → shown (h ++ more) live ≡ shown h live
-shown-longer h more None w = refl
-shown-longer h more (Some live) w = shown_at-longer h more live.cursors live.cursor w
+pub shown-longer : (app : App) (h more : List Entry) (live : Option Live) → IsWithin (length h) live → shown app (h ++ more) live ≡ shown app h live
+shown-longer app h more None w = refl
+shown-longer app h more (Some live) w = shown_at-longer app h more live.cursors live.cursor w
 
 changes-longer : (app : App) (h more : List Entry) (live : Option Live) (i : Item) → IsWithin (length h) live → IsWithin (length h) (live_after app live i) → changes_of app (h ++ more) live i ≡ changes_of app h live i
-changes-longer app h more live i w w' = ap₂ difference (shown-longer h more live w) (shown-longer h more (live_after app live i) w')
+changes-longer app h more live i w w' = ap₂ difference (shown-longer app h more live w) (shown-longer app h more (live_after app live i) w')
 
 -- a longer history leaves the texts of a journal
 pub out_texts_from-longer : (app : App) (number : ℕ) (h more : List Entry) (connected : Bool) (live : Option Live) (items : List Item) → IsWithin (length h) live → FitsFrom app (length h) connected live items →

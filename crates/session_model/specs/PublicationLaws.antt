@@ -17,7 +17,7 @@ use Rattle.publication.specs.Projected.{projected}
 use Rattle.publication.specs.Published.{is_shown, published_of, published_by, published, publish_of, IsQuery}
 use Rattle.publication.specs.Putting.{listed_behind}
 use Rattle.publication.proofs.QueryLaws.{IsQuery-put_all}
-use Rattle.session_model.specs.History.{IsStored, AreStored}
+use Rattle.store_model.specs.Store.{IsStored, AreStored}
 use Rattle.session_model.specs.Publication.{queried}
 use Rattle.session_model.specs.ProjectedLaws.{projected_keepable}
 

@@ -15,7 +15,8 @@ ghost use Rattle.app_model.specs.App.{App};
 ghost use Rattle.publication.specs.Cursors.{ACursors};
 ghost use Rattle.publication.specs.Published.{publish_of, IsQuery};
 ghost use Rattle.session_model.specs.declared.items.Item.{Item as AnItem};
-ghost use Rattle.session_model.specs.History.{Entry, AreEntries, AreStored};
+ghost use Rattle.history_model.specs.declared.entry.Entry.{Entry};
+ghost use Rattle.store_model.specs.Store.{AreGiven, AreStored};
 ghost use Rattle.session_model.specs.Publication.{queried};
 ghost use Rattle.session_model.specs.Journal.{live_of, shown, opened_ids, loaded_ids, Fits, handled, refusals};
 ghost use Rattle.session_model.specs.Texts.{messages_in};
@@ -37,8 +38,8 @@ pub fn what_is_published_can_be_stored()
 
 /// Whoever takes a session's messages has what its live subscription shows.
 pub fn messages_lead_to_what_is_shown()
-    ensures { (app : App) (number n : ℕ) (history : List Entry) (journal : List AnItem) → AreEntries history → Fits app n journal →
-        all_taken text_cmp key_cmp [] (data_of (out app number history journal)) ≡ shown history (live_of app journal) }
+    ensures { (app : App) (number n : ℕ) (history : List Entry) (journal : List AnItem) → AreGiven history → Fits app n journal →
+        all_taken text_cmp key_cmp [] (data_of (out app number history journal)) ≡ shown app history (live_of app journal) }
 {}
 
 /// A longer history leaves the texts of a journal that fits the history.
@@ -67,6 +68,6 @@ pub fn handled_subs_are_refused_or_open()
 
 /// The texts of a journal read as its messages.
 pub fn texts_read_as_the_messages()
-    ensures { (app : App) (number n : ℕ) (history : List Entry) (journal : List AnItem) → AreEntries history → Fits app n journal →
+    ensures { (app : App) (number n : ℕ) (history : List Entry) (journal : List AnItem) → AreGiven history → Fits app n journal →
         messages_in (out_texts app number history journal) ≡ out app number history journal }
 {}

@@ -7,7 +7,7 @@ use Rattle.session_model.specs.declared.items.Item.{Item}
 use Rattle.session_model.specs.declared.items.Item.TheVariants as item
 use Rattle.app_model.specs.App.{App}
 use Rattle.session_model.specs.Publication.{Making, making}
-use Rattle.session_model.specs.History.{Entry}
+use Rattle.history_model.specs.declared.entry.Entry.{Entry}
 use Rattle.session_model.specs.Journal.{Live, live_of, is_connected}
 use Rattle.session_model.specs.Answers.{Taken, at_once, to_queue, taken_text}
 use Rattle.session_model.specs.Out.{texts_of}

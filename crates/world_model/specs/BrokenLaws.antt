@@ -10,7 +10,10 @@ use Rattle.value_model.specs.Size.{is_name}
 use Rattle.session_model.specs.declared.items.Item.{Item}
 use Rattle.session_model.specs.declared.items.Item.TheVariants as item
 use Rattle.session_model.specs.Publication.{making}
-use Rattle.session_model.specs.History.{Entry, AreEntries, contents, can_insert}
+use Rattle.history_model.specs.declared.entry.Entry.{Entry}
+use Rattle.history_model.specs.declared.entry.Entry.TheVariants as entry
+use Rattle.history_model.specs.History.{held, can_follow}
+use Rattle.store_model.specs.Store.{programs, AreGiven}
 use Rattle.session_model.specs.Texts.{message_in}
 use Rattle.session_model.specs.Answers.{Taken, at_once, to_queue, taken_text}
 use Rattle.session_model.specs.Journal.{Live, live_of, is_connected}
@@ -97,13 +100,13 @@ module _ (app : App) (h : List Entry) where
       subst (λ a. IsLongAlone app h (told_answer (record c { downward = ts }) a)) (sym read)
       (subst (λ o. IsLongAlone app h (told_unless (record c { downward = ts }) (message_in t) o)) (sym accepted) p)
 
-  take_long : AreEntries h → (c : Client) (ts : List (List ℕ)) → c.downward ≡ ts → IsKept app h c → IsLongAlone app h c → IfSome (takes c ts) (IsLongAlone app h)
+  take_long : AreGiven h → (c : Client) (ts : List (List ℕ)) → c.downward ≡ ts → IsKept app h c → IsLongAlone app h c → IfSome (takes c ts) (IsLongAlone app h)
   take_long entries c [] e k p = tt
   take_long entries c (t ∷ ts) e k p = guarded_holds (IsLongAlone app h) (not c.is_failed && is_none c.broken) _ (λ on.
       let l = (is_none_true app h c.broken (second_true app h (not c.is_failed) (is_none c.broken) on)) in
       told_by (nat_lt max_server_text (length t)) c t ts refl e k l (next_reads app h entries c t ts e k l).0 (next_accepted app h c t ts entries e k l) p)
 
-  acts_long : AreEntries h → (c : Client) (a : Act) → IsKept app h c → IsLongAlone app h c → IfSome (acts app h c a) (IsLongAlone app h)
+  acts_long : AreGiven h → (c : Client) (a : Act) → IsKept app h c → IsLongAlone app h c → IfSome (acts app h c a) (IsLongAlone app h)
   acts_long entries c act.Up k p = up_long c c.waiting p
   acts_long entries c act.Recv k p = recv_long c c.upward p
   acts_long entries c act.Handle k p = handle_long c c.queue p
@@ -150,7 +153,7 @@ module _ (app : App) (h : List Entry) where
 
 -- ---- worlds
 
-act_long : (app : App) (h : List Entry) (a : Act) (o : Option Client) → AreEntries h → HoldsOf o (IsKept app h) → HoldsOf o (IsLongAlone app h) → HoldsOf (after_act app h a o) (IsLongAlone app h)
+act_long : (app : App) (h : List Entry) (a : Act) (o : Option Client) → AreGiven h → HoldsOf o (IsKept app h) → HoldsOf o (IsLongAlone app h) → HoldsOf (after_act app h a o) (IsLongAlone app h)
 act_long app h a None entries k p = tt
 act_long app h a (Some c) entries k p = chosen (IsLongAlone app h) c (acts app h c a) p (acts_long app h entries c a k p)
 
@@ -188,16 +191,16 @@ longer_long app h e None k p = tt
 longer_long app h e (Some c) k (inl none) = inl none
 longer_long app h e (Some c) k (inr p) = inr (p.0, ap has_long (out_texts-longer app c.number h (e ∷ []) c.journal k.fits) ∙ p.1)
 
-insert_long : (app : App) (h : List Entry) (e : Entry) (b : Bool) (o : Option Client) → HoldsOf o (IsKept app h) → HoldsOf o (IsLongAlone app h) → HoldsOf o (IsLongAlone app (cond b (h ++ e ∷ []) h))
-insert_long app h e true o k p = longer_long app h e o k p
-insert_long app h e false o k p = p
+operated_long : (app : App) (h : List Entry) (e : Entry) (b : Bool) (o : Option Client) → HoldsOf o (IsKept app h) → HoldsOf o (IsLongAlone app h) → HoldsOf o (IsLongAlone app (cond b (h ++ e ∷ []) h))
+operated_long app h e true o k p = longer_long app h e o k p
+operated_long app h e false o k p = p
 
 step_long : (w : World) (e : Event) → IsKeptWorld w → HoldsOf w.client (IsLongAlone w.app w.history) → HoldsOf (step w e).client (IsLongAlone (step w e).app (step w e).history)
 step_long w (event.Client name) k p = client_long w.app w.history name w.client p
 step_long w (event.Sub who id name params) k p = sub_long w.app w.history who id name params w.client p
 step_long w (event.Raw who t) k p = either_long w.app w.history (can_send who w.client) w.client (with_text t w.client) p (text_long w.app w.history t w.client p)
-step_long w (event.Insert key doc) k p =
-    let e : Entry = record { key = key; doc = doc } in insert_long w.app w.history e (can_insert w.app (contents w.history) e) w.client k.client p
+step_long w (event.Admin op) k p =
+    operated_long w.app w.history (entry.Admin op) (can_follow (programs w.app) (held (programs w.app) w.history) (entry.Admin op)) w.client k.client p
 step_long w (event.Do who a) k p =
     either_long w.app w.history (is_called who w.client) w.client (after_act w.app w.history a w.client) p (act_long w.app w.history a w.client k.entries k.client p)
 step_long w (event.Load who id place) k p = by_holds (IsLongAlone w.app w.history) who (loading w.app w.history id place) w.client (loading_long w.app w.history id place) p
@@ -205,6 +208,8 @@ step_long w (event.Advance who id count) k p = by_holds (IsLongAlone w.app w.his
 step_long w event.Settle k p = (settled_keeps IsLong done_long w (k, p)).1
 step_long w (event.Show who) k p = p
 step_long w (event.Journal who) k p = p
+step_long w event.Store k p = p
+step_long w event.History k p = p
 
 run_long : (w : World) (events : List Event) → AreEvents events → IsKeptWorld w → HoldsOf w.client (IsLongAlone w.app w.history) → HoldsOf (run w events).client (IsLongAlone (run w events).app (run w events).history)
 run_long w [] all k p = p

@@ -9,7 +9,7 @@ use Rattle.ddp_messages.specs.ServerMessage as server
 use Rattle.session_model.specs.declared.items.Item.{Item}
 use Rattle.session_model.specs.declared.items.Item.TheVariants as item
 use Rattle.app_model.specs.App.{App}
-use Rattle.session_model.specs.History.{Entry}
+use Rattle.history_model.specs.declared.entry.Entry.{Entry}
 use Rattle.session_model.specs.Publication.{error_of}
 use Rattle.session_model.specs.Journal.{Live, live_after, connected_after, CanFollow, FitsFrom, Fits}
 use Rattle.session_model.specs.Out.{about, own_message, changes_of, messages_of, out_from, out}

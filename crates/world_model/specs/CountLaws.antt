@@ -14,7 +14,10 @@ use Rattle.session_model.specs.declared.items.Item.{Item}
 use Rattle.session_model.specs.declared.items.Item.TheVariants as item
 use Rattle.app_model.specs.App.{App}
 use Rattle.session_model.specs.Publication.{Making, making}
-use Rattle.session_model.specs.History.{Entry, AreEntries, contents, can_insert}
+use Rattle.history_model.specs.declared.entry.Entry.{Entry}
+use Rattle.history_model.specs.declared.entry.Entry.TheVariants as entry
+use Rattle.history_model.specs.History.{held, can_follow}
+use Rattle.store_model.specs.Store.{programs, AreGiven}
 use Rattle.value_model.specs.Val.{Val}
 use Rattle.session_model.specs.Texts.{message_in}
 use Rattle.session_model.specs.Answers.{Taken, at_once, to_queue, max_text, taken_as, taken_named, taken_tree, taken_text}
@@ -160,14 +163,14 @@ module _ (app : App) (h : List Entry) where
   told_by true c t ts read calm = (refl, λ k. k)
   told_by false c t ts read calm = subst (λ a. Counts c (told_answer (record c { downward = ts }) a)) (sym read) (told_counts c t ts (message_refusal c.session c.rows (message_in t)) calm)
 
-  take_counts : AreEntries h → (c : Client) (ts : List (List ℕ)) → c.downward ≡ ts → IsKept app h c → IfSome (takes c ts) (Counts c)
+  take_counts : AreGiven h → (c : Client) (ts : List (List ℕ)) → c.downward ≡ ts → IsKept app h c → IfSome (takes c ts) (Counts c)
   take_counts entries c [] e k = tt
   take_counts entries c (t ∷ ts) e k = guarded_holds (Counts c) (not c.is_failed && is_none c.broken) _ (λ on.
       let l = (is_none_true app h c.broken (second_true app h (not c.is_failed) (is_none c.broken) on)) in
       let r = next_reads app h entries c t ts e k l in
       told_by (nat_lt max_server_text (length t)) c t ts r.0 r.1)
 
-  acts_count : AreEntries h → (c : Client) (a : Act) → IsKept app h c → IfSome (acts app h c a) (Counts c)
+  acts_count : AreGiven h → (c : Client) (a : Act) → IsKept app h c → IfSome (acts app h c a) (Counts c)
   acts_count entries c act.Up k = up_counts c c.waiting refl
   acts_count entries c act.Recv k = recv_counts c c.upward refl
   acts_count entries c act.Handle k = handle_counts c c.queue refl
@@ -228,7 +231,7 @@ chosen_counts : (c : Client) (o : Option Client) → IfSome o (Counts c) → Cou
 chosen_counts c None h = (refl, λ k. k)
 chosen_counts c (Some d) h = h
 
-act_counts : (app : App) (h : List Entry) (a : Act) (o : Option Client) → AreEntries h → HoldsOf o (IsKept app h) → CountsOf o (after_act app h a o)
+act_counts : (app : App) (h : List Entry) (a : Act) (o : Option Client) → AreGiven h → HoldsOf o (IsKept app h) → CountsOf o (after_act app h a o)
 act_counts app h a None entries k = (refl, λ c. c)
 act_counts app h a (Some c) entries k = chosen_counts c (acts app h c a) (acts_count app h entries c a k)
 
@@ -290,8 +293,8 @@ pub step_more : (w : World) (e : Event) → IsKeptWorld w → OneMore w (step w 
 step_more w (event.Client name) k = let c = client_more name w.client in (omega (arith, c.0), c.1)
 step_more w (event.Sub who id name params) k = let c = sub_more who id name params w.client in (omega (arith, c.0), c.1)
 step_more w (event.Raw who t) k = let c = raw_more (can_send who w.client) t w.client in (omega (arith, c.0), c.1)
-step_more w (event.Insert key doc) k =
-    let e : Entry = record { key = key; doc = doc } in (omega (arith, history_more (can_insert w.app (contents w.history) e) w.history e), λ c. c)
+step_more w (event.Admin op) k =
+    (omega (arith, history_more (can_follow (programs w.app) (held (programs w.app) w.history) (entry.Admin op)) w.history (entry.Admin op)), λ c. c)
 step_more w (event.Do who a) k =
     let c = named_more (is_called who w.client) w.client (after_act w.app w.history a w.client) (act_counts w.app w.history a w.client k.entries k.client) in (omega (arith, c.0), c.1)
 step_more w (event.Load who id place) k = let c = by_more who (loading w.app w.history id place) w.client (loading_counts w.app w.history id place) in (omega (arith, c.0), c.1)
@@ -299,6 +302,8 @@ step_more w (event.Advance who id count) k = let c = by_more who (leading w.app 
 step_more w event.Settle k = (omega (arith, (settled_keeps (λ v. IsKeptWorld v × (made v ≡ made w)) (λ a v p. (done_keeps a v p.0, omega (arith, (act_counts v.app v.history a v.client p.0.entries p.0.client).0, p.1))) w (k, refl)).1), λ c. (settled_counted w k c).2)
 step_more w (event.Show who) k = (omega arith, λ c. c)
 step_more w (event.Journal who) k = (omega arith, λ c. c)
+step_more w event.Store k = (omega arith, λ c. c)
+step_more w event.History k = (omega arith, λ c. c)
 
 pub run_more : (w : World) (events : List Event) → AreEvents events → IsKeptWorld w → HoldsOf w.client IsCounted → (made (run w events) ≤ made w + length events) × HoldsOf (run w events).client IsCounted
 run_more w [] all k c = (omega arith, c)

@@ -17,7 +17,8 @@ use Rattle.ddp_messages.specs.ServerMessage.{ServerMessage}
 use Rattle.session_model.specs.declared.items.Item.{Item}
 use Rattle.session_model.specs.declared.items.Item.TheVariants as item
 use Rattle.app_model.specs.App.{App}
-use Rattle.session_model.specs.History.{Entry, AreEntries}
+use Rattle.history_model.specs.declared.entry.Entry.{Entry}
+use Rattle.store_model.specs.Store.{AreGiven}
 use Rattle.session_model.specs.Texts.{message_in, messages_in}
 use Rattle.session_model.specs.Journal.{Live, live_after, shown, CanFollow, FitsFrom, Fits}
 use Rattle.session_model.specs.Out.{session_name, about, own_message, changes_of, messages_of, out_from, out, out_texts}
@@ -65,12 +66,12 @@ sorted_fit rows (m ∷ ms) s t all =
         subst (λ x. IfSome (at key_cmp ms q) (λ s. data_refusal x s ≡ None)) (sym (at-set key_order rows m.0 after q s ∙ ap (λ b. cond b after (at key_cmp rows q)) e))
         (subst (λ b. IfSome (cond b (Some m.1) (at key_cmp ms q)) (λ s. data_refusal (at key_cmp rows q) s ≡ None)) e (all q))
 
-changes_fit : (app : App) (h : List Entry) (live : Option Live) (i : Item) → AllFit (shown h live) (changes_of app h live i)
+changes_fit : (app : App) (h : List Entry) (live : Option Live) (i : Item) → AllFit (shown app h live) (changes_of app h live i)
 changes_fit app h live i =
-    let a = shown h live in
-    let b = shown h (live_after app live i) in
-    sorted_fit a (changes_of app h live i) (sorted_shown h live)
-    (diff_is key_order text_cmp (eq_by_cmp compare) a b (sorted_shown h (live_after app live i))).by_key
+    let a = shown app h live in
+    let b = shown app h (live_after app live i) in
+    sorted_fit a (changes_of app h live i) (sorted_shown app h live)
+    (diff_is key_order text_cmp (eq_by_cmp compare) a b (sorted_shown app h (live_after app live i))).by_key
     (λ q. subst (λ o. IfSome o (λ s. data_refusal (at key_cmp a q) s ≡ None)) (sym (at-diff key_order text_cmp (eq_by_cmp compare) a b q)) (between_fits (at key_cmp a q) (at key_cmp b q)))
 
 -- ---- messages
@@ -125,31 +126,31 @@ own_session app session number n None (item.Load sub at) f = refl
 own_session app session number n (Some l) (item.Load sub at) f = refl
 own_session app session number n live (item.Advance sub count) f = refl
 
-accepts_from : (app : App) (name : List ℕ) (number n : ℕ) (h : List Entry) (live : Option Live) (items : List Item) → AreEntries h → FitsFrom app n true live items →
-    Accepts (Some name) (shown h live) (out_from app number h live items)
+accepts_from : (app : App) (name : List ℕ) (number n : ℕ) (h : List Entry) (live : Option Live) (items : List Item) → AreGiven h → FitsFrom app n true live items →
+    Accepts (Some name) (shown app h live) (out_from app number h live items)
 accepts_from app name number n h live [] all f = tt
 accepts_from app name number n h live (i ∷ items) all f =
     let ds = changes_of app h live i in
     let own = own_message number live i in
     let ms = messages_of app number h live i in
     let rest = out_from app number h (live_after app live i) items in
-    let rows : rows_after (shown h live) ms ≡ shown h (live_after app live i) =
-    rows_told (shown h live) ms ∙ (ap (all_taken text_cmp key_cmp (shown h live)) (data_of-messages app number n h true live i f.0) ∙ changes_taken app h live i all) in
+    let rows : rows_after (shown app h live) ms ≡ shown app h (live_after app live i) =
+    rows_told (shown app h live) ms ∙ (ap (all_taken text_cmp key_cmp (shown app h live)) (data_of-messages app number n h true live i f.0) ∙ changes_taken app h live i all) in
     let session : session_after (Some name) ms ≡ Some name =
     session_after-append (Some name) (map about ds) own ∙ (ap (λ s. session_after s own) (data_session (Some name) ds) ∙ own_session app (Some name) number n live i f.0) in
-    Accepts-append (Some name) (shown h live) ms rest
-    (Accepts-append (Some name) (shown h live) (map about ds) own (accepts_data name (shown h live) ds (changes_fit app h live i))
-    (subst (λ s. Accepts s (rows_after (shown h live) (map about ds)) own) (sym (data_session (Some name) ds)) (accepts_own app name (rows_after (shown h live) (map about ds)) number n live i f.0)))
-    (subst (λ s. Accepts s (rows_after (shown h live) ms) rest) (sym session)
+    Accepts-append (Some name) (shown app h live) ms rest
+    (Accepts-append (Some name) (shown app h live) (map about ds) own (accepts_data name (shown app h live) ds (changes_fit app h live i))
+    (subst (λ s. Accepts s (rows_after (shown app h live) (map about ds)) own) (sym (data_session (Some name) ds)) (accepts_own app name (rows_after (shown app h live) (map about ds)) number n live i f.0)))
+    (subst (λ s. Accepts s (rows_after (shown app h live) ms) rest) (sym session)
     (subst (λ r. Accepts (Some name) r rest) (sym rows)
     (accepts_from app name number n h (live_after app live i) items all (subst (λ b. FitsFrom app n b (live_after app live i) items) (stays_connected i) f.1))))
 
 -- the messages of a journal that begins with `connect`
-out_accepted : (app : App) (number n : ℕ) (h : List Entry) (items : List Item) → AreEntries h → Fits app n (item.Connect ∷ items) → Accepts None [] (out app number h (item.Connect ∷ items))
+out_accepted : (app : App) (number n : ℕ) (h : List Entry) (items : List Item) → AreGiven h → Fits app n (item.Connect ∷ items) → Accepts None [] (out app number h (item.Connect ∷ items))
 out_accepted app number n h items all f = (refl, accepts_from app (session_name number) number n h None items all f.1)
 
 -- The next message on the link to a client is none that it refuses.
-pub next_accepted : (app : App) (h : List Entry) (c : Client) (t : List ℕ) (ts : List (List ℕ)) → AreEntries h → c.downward ≡ t ∷ ts → (k : IsKept app h c) → c.broken ≡ None →
+pub next_accepted : (app : App) (h : List Entry) (c : Client) (t : List ℕ) (ts : List (List ℕ)) → AreGiven h → c.downward ≡ t ∷ ts → (k : IsKept app h c) → c.broken ≡ None →
     message_refusal c.session c.rows (message_in t) ≡ None
 next_accepted app h c t ts entries e k u = by k.begun
   where

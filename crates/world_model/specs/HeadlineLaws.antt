@@ -10,7 +10,8 @@ use Rattle.ejson_value.specs.Key.{key_cmp}
 use Rattle.ejson_value.specs.Rows.{Rows}
 use Rattle.ddp_messages.specs.ServerMessage.{ServerMessage}
 use Rattle.app_model.specs.App.{App}
-use Rattle.session_model.specs.History.{Entry, contents, AreEntries}
+use Rattle.history_model.specs.declared.entry.Entry.{Entry}
+use Rattle.store_model.specs.Store.{contents, AreGiven}
 use Rattle.session_model.specs.Publication.{queried}
 use Rattle.session_model.specs.Texts.{messages_in}
 use Rattle.session_model.specs.Journal.{Live, live_of, shown, shown_at, opened_ids, loaded_by, loaded_ids, sub_items}
@@ -34,9 +35,9 @@ take_all [] = refl
 take_all (x ∷ xs) = ap (λ ys. x ∷ ys) (take_all xs)
 
 -- at the end of the history a subscription shows what is published of the whole store
-shown_at_end : (h : List Entry) (live : Option Live) → IsAtEnd (length h) live → shown h live ≡ whole h live
-shown_at_end h None e = refl
-shown_at_end h (Some live) e = ap (λ cursor. shown_at h live.cursors cursor) e ∙ ap (λ es. queried live.cursors (contents es)) (take_all h)
+shown_at_end : (app : App) (h : List Entry) (live : Option Live) → IsAtEnd (length h) live → shown app h live ≡ whole app h live
+shown_at_end app h None e = refl
+shown_at_end app h (Some live) e = ap (λ cursor. shown_at app h live.cursors cursor) e ∙ ap (λ es. queried live.cursors (contents app es)) (take_all h)
 
 loaded_at_end : (n : ℕ) (live : Option Live) → IsAtEnd n live → loaded_ids live ≡ opened_ids live
 loaded_at_end n None e = refl
@@ -82,7 +83,7 @@ lost_waiting None subs ms (id ∷ more ∷ ids) a ready words = absurd a
 lost_waiting (Some l) subs ms (id ∷ ids) a ready words = absurd a
 
 -- a quiescent session is whole
-pub quiescent_is_whole : (app : App) (h : List Entry) (c : Client) → AreEntries h → IsKept app h c → IsQuiescent app h c → IsWhole app h c
+pub quiescent_is_whole : (app : App) (h : List Entry) (c : Client) → AreGiven h → IsKept app h c → IsQuiescent app h c → IsWhole app h c
 quiescent_is_whole app h c entries k q =
     let live = live_of app c.journal in
     let a = k.told.asking in
@@ -102,7 +103,7 @@ quiescent_is_whole app h c entries k q =
           k.told.of_rows
           ∙ (rows_told [] (messages_in k.taken)
           ∙ (ap (λ ms. all_taken text_cmp key_cmp [] (data_of ms)) all
-          ∙ (out-taken app c.number (length h) h c.journal entries k.fits ∙ shown_at_end h live q.at_end)));
+          ∙ (out-taken app c.number (length h) h c.journal entries k.fits ∙ shown_at_end app h live q.at_end)));
       answered = ready;
       refused = nosubs_of-out_from app c.number (length h) h false None c.journal k.fits;
       live = is_ready;
@@ -112,7 +113,7 @@ quiescent_is_whole app h c entries k q =
       waits = λ id e. waits_lost live c.subs (requested (unread c.received)) id is_ready e (sym (ids ∙ ap (λ xs. opened_ids live ++ xs) (append-nil (requested (unread c.received)))) ∙ waiting_alone a.ids c.subs id a.current e);
     }
 
-by_client : (app : App) (h : List Entry) (o : Option Client) → AreEntries h → HoldsOf o (IsKept app h) → HoldsOf o (λ c. IsQuiescent app h c → IsWhole app h c)
+by_client : (app : App) (h : List Entry) (o : Option Client) → AreGiven h → HoldsOf o (IsKept app h) → HoldsOf o (λ c. IsQuiescent app h c → IsWhole app h c)
 by_client app h None entries k = tt
 by_client app h (Some c) entries k = λ q. quiescent_is_whole app h c entries k q
 

@@ -9,7 +9,7 @@ use Rattle.ddp_messages.specs.ServerMessage.{ServerMessage}
 use Rattle.session_model.specs.declared.items.Item.{Item}
 use Rattle.session_model.specs.declared.items.Item.TheVariants as item
 use Rattle.app_model.specs.App.{App}
-use Rattle.session_model.specs.History.{Entry}
+use Rattle.history_model.specs.declared.entry.Entry.{Entry}
 use Rattle.session_model.specs.Journal.{Fits, sub_items}
 use Rattle.session_model.specs.Texts.{messages_in}
 use Rattle.session_model.specs.Out.{out_texts, ready_ids, nosubs_of}

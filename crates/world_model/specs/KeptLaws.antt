@@ -19,7 +19,8 @@ use Rattle.session_model.specs.declared.requests.Request.{Request}
 use Rattle.session_model.specs.declared.items.Item.{Item}
 use Rattle.session_model.specs.declared.items.Item.TheVariants as item
 use Rattle.session_model.specs.Publication.{Making, making}
-use Rattle.session_model.specs.History.{Entry, AreEntries}
+use Rattle.history_model.specs.declared.entry.Entry.{Entry}
+use Rattle.store_model.specs.Store.{AreGiven}
 use Rattle.session_model.specs.Texts.{message_in, messages_in}
 use Rattle.session_model.specs.Answers.{Taken, at_once, to_queue, taken_text, max_text}
 use Rattle.session_model.specs.Journal.{Live, live_of, live_after, opened_ids, loaded_ids, is_connected, connected_from, CanFollow, Fits, handled_by, handled, refusals, sub_item, sub_items}
@@ -159,7 +160,7 @@ live_begun app journal received live is (inr b) = b
 
 module _ (app : App) (h : List Entry) where
   -- what a client took and what it hasn't taken yet, as messages
-  pub heard : AreEntries h → (c : Client) → (k : IsKept app h c) → messages_in k.taken ++ messages_in k.untaken ≡ out app c.number h c.journal
+  pub heard : AreGiven h → (c : Client) → (k : IsKept app h c) → messages_in k.taken ++ messages_in k.untaken ≡ out app c.number h c.journal
   heard entries c k = sym (map-append message_in k.taken k.untaken) ∙ (ap messages_in k.links ∙ (out_reads app c.number (length h) h c.journal entries k.fits).1)
 
   first_asked : (c : Client) (k : IsKept app h c) → asked (c.received ++ (c.upward ++ c.waiting)) ≡ asked k.more
@@ -176,7 +177,7 @@ module _ (app : App) (h : List Entry) where
       ∙ ap₂ (λ xs ys. xs ++ ys) (handled-sub_items c.journal) (handled-answers_to app (c.queue ++ unread c.received) ∙ requested-append c.queue (unread c.received))))
 
   -- The subscription that is waiting or ready, if there is one, is at one place: its refusal is on the way to the client, or it is open, or its `sub` waits or was too long, or is on the way to the session.
-  pub places : AreEntries h → (c : Client) → (k : IsKept app h c) →
+  pub places : AreGiven h → (c : Client) → (k : IsKept app h c) →
       k.told.asking.ids ≡ keys_of (nosubs_of (messages_in k.untaken)) ++ (opened_ids (live_of app c.journal) ++ ((requested c.queue ++ requested (unread c.received)) ++ (requested (asked c.upward) ++ requested (asked c.waiting))))
   places entries c k =
       let a = k.told.asking in
@@ -196,7 +197,7 @@ module _ (app : App) (h : List Entry) where
       ∙ (ap₂ (λ xs ys. xs ++ ys) (ids_counted c k ∙ ap (λ xs. xs ++ q) done) (asked_ids c.upward c.waiting) ∙ five n u o q x))))
 
   -- before a `sub` that waits in the queue or is on the link to the session there is none
-  none_open : AreEntries h → (c : Client) (k : IsKept app h c) (xs : List (List ℕ)) (id : List ℕ) (zs : List (List ℕ)) →
+  none_open : AreGiven h → (c : Client) (k : IsKept app h c) (xs : List (List ℕ)) (id : List ℕ) (zs : List (List ℕ)) →
       opened_ids (live_of app c.journal) ++ ((requested c.queue ++ requested (unread c.received)) ++ (requested (asked c.upward) ++ requested (asked c.waiting))) ≡ xs ++ id ∷ zs → xs ≡ []
   none_open entries c k xs id zs e =
       let u = keys_of (nosubs_of (messages_in k.untaken)) in
@@ -276,7 +277,7 @@ module _ (app : App) (h : List Entry) where
   }
 
   -- with a `sub` on the link to the session none was too long
-  none_lost : AreEntries h → (c : Client) (t : List ℕ) (ts : List (List ℕ)) (r : Request) → c.upward ≡ t ∷ ts → asked_in (client_answer t) ≡ r ∷ [] → (k : IsKept app h c) → unread c.received ≡ []
+  none_lost : AreGiven h → (c : Client) (t : List ℕ) (ts : List (List ℕ)) (r : Request) → c.upward ≡ t ∷ ts → asked_in (client_answer t) ≡ r ∷ [] → (k : IsKept app h c) → unread c.received ≡ []
   none_lost entries c t ts r e asks k =
       let o = opened_ids (live_of app c.journal) in
       let q = requested c.queue ++ requested (unread c.received) in
@@ -290,7 +291,7 @@ module _ (app : App) (h : List Entry) where
       ∙ (ap (λ rs. o ++ (q ++ (requested (rs ++ asked ts) ++ w))) asks ∙ sym (append_assoc o q (r.id ∷ rest)))))))
 
   -- a request that waits
-  queued_keeps : AreEntries h → (c : Client) (t : List ℕ) (ts : List (List ℕ)) (r : Request) → c.upward ≡ t ∷ ts → (items : List Item) × (c.journal ≡ item.Connect ∷ items) →
+  queued_keeps : AreGiven h → (c : Client) (t : List ℕ) (ts : List (List ℕ)) (r : Request) → c.upward ≡ t ∷ ts → (items : List Item) × (c.journal ≡ item.Connect ∷ items) →
       asked_in (client_answer t) ≡ r ∷ [] → IsShort r.id → nat_lt max_text (length t) ≡ false → IsKept app h c → IsKept app h (record c { upward = ts; received = c.received ++ t ∷ []; queue = c.queue ++ r ∷ [] })
   queued_keeps entries c t ts r e b asks short read k = let none = none_lost entries c t ts r e asks k in record {
     fits = k.fits;
@@ -311,7 +312,7 @@ module _ (app : App) (h : List Entry) where
     queued = inr b;
   }
 
-  taken_keeps : AreEntries h → (c : Client) (t : List ℕ) (ts : List (List ℕ)) (x : Taken) → c.upward ≡ t ∷ ts → (b : (items : List Item) × (c.journal ≡ item.Connect ∷ items)) →
+  taken_keeps : AreGiven h → (c : Client) (t : List ℕ) (ts : List (List ℕ)) (x : Taken) → c.upward ≡ t ∷ ts → (b : (items : List Item) × (c.journal ≡ item.Connect ∷ items)) →
       IsTakenWell (nat_lt max_text (length t)) (asked_in (client_answer t)) x → IsKept app h c → IsKept app h (after_taking app h (record c { upward = ts; received = c.received ++ t ∷ [] }) x)
   taken_keeps entries c t ts (at_once i) e b well k =
       let f = answer_follows app (length h) (live_of app c.journal) i well.0 in
@@ -346,7 +347,7 @@ module _ (app : App) (h : List Entry) where
         queued = inr b;
       }
 
-  recv_by : AreEntries h → (c : Client) (t : List ℕ) (ts : List (List ℕ)) → c.upward ≡ t ∷ ts → HasBegun c.journal c.received → IsKept app h c →
+  recv_by : AreGiven h → (c : Client) (t : List ℕ) (ts : List (List ℕ)) → c.upward ≡ t ∷ ts → HasBegun c.journal c.received → IsKept app h c →
       IsKept app h (after_taking app h (record c { upward = ts; received = c.received ++ t ∷ [] }) (taken_text (is_connected c.journal) t))
   recv_by entries c t ts e (inl b) k =
       let own = first_text t ts c.waiting k.more c.received b.1 (ap (λ up. c.received ++ (up ++ c.waiting)) (sym e) ∙ k.first) in
@@ -356,7 +357,7 @@ module _ (app : App) (h : List Entry) where
       taken_keeps entries c t ts (taken_text (is_connected c.journal) t) e b
       (subst (λ on. IsTakenWell (nat_lt max_text (length t)) (asked_in (client_answer t)) (taken_text on t)) (sym (begun_connected c.journal b.0 b.1)) (text_taken_well t)) k
 
-  recv_keeps : AreEntries h → (c : Client) (ts : List (List ℕ)) → c.upward ≡ ts → IsKept app h c → IfSome (receives app h c ts) (IsKept app h)
+  recv_keeps : AreGiven h → (c : Client) (ts : List (List ℕ)) → c.upward ≡ ts → IsKept app h c → IfSome (receives app h c ts) (IsKept app h)
   recv_keeps entries c [] e k = tt
   recv_keeps entries c (t ∷ ts) e k = guarded_holds (IsKept app h) (not (has_failed c.journal) && has_room c) _ (λ _. recv_by entries c t ts e k.begun k)
 
@@ -365,7 +366,7 @@ module _ (app : App) (h : List Entry) where
   waits_begun queue rs r journal e (inl none) = let no : r ∷ rs ≡ [] = sym e ∙ none in cc no
   waits_begun queue rs r journal e (inr b) = b
 
-  handle_keeps : AreEntries h → (c : Client) (rs : List Request) → c.queue ≡ rs → IsKept app h c → IfSome (handles app h c rs) (IsKept app h)
+  handle_keeps : AreGiven h → (c : Client) (rs : List Request) → c.queue ≡ rs → IsKept app h c → IfSome (handles app h c rs) (IsKept app h)
   handle_keeps entries c [] e k = tt
   handle_keeps entries c (r ∷ rs) e k =
       let i = answering r (making app r.name r.params) in
@@ -472,7 +473,7 @@ module _ (app : App) (h : List Entry) where
   }
 
   -- what the next message tells the client of its subscriptions
-  told_asking : AreEntries h → (c : Client) (t : List ℕ) (ts : List (List ℕ)) → c.downward ≡ t ∷ ts → (k : IsKept app h c) → c.broken ≡ None →
+  told_asking : AreGiven h → (c : Client) (t : List ℕ) (ts : List (List ℕ)) → c.downward ≡ t ∷ ts → (k : IsKept app h c) → c.broken ≡ None →
       IsAsking (subs_in c.subs (message_in t)) (messages_in k.taken ++ message_in t ∷ []) (requested (asked k.more))
   told_asking entries c t ts e k u =
       let rest = messages_in (ts ++ c.outbox) in
@@ -486,7 +487,7 @@ module _ (app : App) (h : List Entry) where
       message_told c.subs (messages_in k.taken) (message_in t) rest (requested (asked k.more)) live behind k.told.asking
       (places entries c k ∙ ap (λ ms. keys_of (nosubs_of ms) ++ (opened_ids live ++ behind)) next) ready
 
-  told_on : AreEntries h → (c : Client) (t : List ℕ) (ts : List (List ℕ)) → c.downward ≡ t ∷ ts → IsCalm (message_in t) → (k : IsKept app h c) → c.broken ≡ None →
+  told_on : AreGiven h → (c : Client) (t : List ℕ) (ts : List (List ℕ)) → c.downward ≡ t ∷ ts → IsCalm (message_in t) → (k : IsKept app h c) → c.broken ≡ None →
       let d = told (record c { downward = ts }) (message_in t) in IsTold d.rows d.session d.is_failed d.subs (k.taken ++ t ∷ []) (k.more ++ answers_in (message_in t))
   told_on entries c t ts e quiet k u =
       let m = message_in t in
@@ -502,7 +503,7 @@ module _ (app : App) (h : List Entry) where
             (subst (λ heard. IsAsking (subs_in c.subs m) heard (requested (asked k.more))) (sym more) (told_asking entries c t ts e k u));
       }
 
-  told_keeps : AreEntries h → (c : Client) (t : List ℕ) (ts : List (List ℕ)) → c.downward ≡ t ∷ ts → IsCalm (message_in t) → (k : IsKept app h c) → c.broken ≡ None →
+  told_keeps : AreGiven h → (c : Client) (t : List ℕ) (ts : List (List ℕ)) → c.downward ≡ t ∷ ts → IsCalm (message_in t) → (k : IsKept app h c) → c.broken ≡ None →
       IsKept app h (told (record c { downward = ts }) (message_in t))
   told_keeps entries c t ts e quiet k u = let m = message_in t in record {
     fits = k.fits;
@@ -521,12 +522,12 @@ module _ (app : App) (h : List Entry) where
     queued = k.queued;
   }
 
-  told_unless_keeps : AreEntries h → (c : Client) (t : List ℕ) (ts : List (List ℕ)) (o : Option ℕ) → c.downward ≡ t ∷ ts → IsCalm (message_in t) → IsKept app h c → c.broken ≡ None →
+  told_unless_keeps : AreGiven h → (c : Client) (t : List ℕ) (ts : List (List ℕ)) (o : Option ℕ) → c.downward ≡ t ∷ ts → IsCalm (message_in t) → IsKept app h c → c.broken ≡ None →
       IsKept app h (told_unless (record c { downward = ts }) (message_in t) o)
   told_unless_keeps entries c t ts None e quiet k u = told_keeps entries c t ts e quiet k u
   told_unless_keeps entries c t ts (Some n) e quiet k u = broken_keeps c ts n k
 
-  told_by : AreEntries h → (b : Bool) (c : Client) (t : List ℕ) (ts : List (List ℕ)) → c.downward ≡ t ∷ ts → IsRead t → IsCalm (message_in t) → IsKept app h c → c.broken ≡ None →
+  told_by : AreGiven h → (b : Bool) (c : Client) (t : List ℕ) (ts : List (List ℕ)) → c.downward ≡ t ∷ ts → IsRead t → IsCalm (message_in t) → IsKept app h c → c.broken ≡ None →
       IsKept app h (cond b (breaks 1 (record c { downward = ts })) (told_answer (record c { downward = ts }) (server_answer t)))
   told_by entries true c t ts e read quiet k u = broken_keeps c ts 1 k
   told_by entries false c t ts e read quiet k u =
@@ -537,7 +538,7 @@ module _ (app : App) (h : List Entry) where
   none_sent (x ∷ xs) ys t e = cc e
 
   -- the next text on the link to the client reads as a calm message
-  pub next_reads : AreEntries h → (c : Client) (t : List ℕ) (ts : List (List ℕ)) → c.downward ≡ t ∷ ts → IsKept app h c → c.broken ≡ None → IsRead t × IsCalm (message_in t)
+  pub next_reads : AreGiven h → (c : Client) (t : List ℕ) (ts : List (List ℕ)) → c.downward ≡ t ∷ ts → IsKept app h c → c.broken ≡ None → IsRead t × IsCalm (message_in t)
   next_reads entries c t ts e k u = by k.begun
     where
       by : HasBegun c.journal c.received → IsRead t × IsCalm (message_in t)
@@ -559,14 +560,14 @@ module _ (app : App) (h : List Entry) where
   is_none_true None e = refl
   is_none_true (Some a) e = cc
 
-  take_keeps : AreEntries h → (c : Client) (ts : List (List ℕ)) → c.downward ≡ ts → IsKept app h c → IfSome (takes c ts) (IsKept app h)
+  take_keeps : AreGiven h → (c : Client) (ts : List (List ℕ)) → c.downward ≡ ts → IsKept app h c → IfSome (takes c ts) (IsKept app h)
   take_keeps entries c [] e k = tt
   take_keeps entries c (t ∷ ts) e k = guarded_holds (IsKept app h) (not c.is_failed && is_none c.broken) _ (λ on.
       let u = is_none_true c.broken (second_true (not c.is_failed) (is_none c.broken) on) in
       let r = next_reads entries c t ts e k u in
       told_by entries (nat_lt max_server_text (length t)) c t ts e r.0 r.1 k u)
 
-  pub acts_keep : AreEntries h → (c : Client) (a : Act) → IsKept app h c → IfSome (acts app h c a) (IsKept app h)
+  pub acts_keep : AreGiven h → (c : Client) (a : Act) → IsKept app h c → IfSome (acts app h c a) (IsKept app h)
   acts_keep entries c act.Up k = up_keeps c c.waiting refl k
   acts_keep entries c act.Recv k = recv_keeps entries c c.upward refl k
   acts_keep entries c act.Handle k = handle_keeps entries c c.queue refl k

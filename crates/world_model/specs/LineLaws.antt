@@ -3,7 +3,7 @@ use Rattle.std.specs.Prelude.{◌≡◌, ℕ, List, [], ◌∷◌, ◌++◌, map
 use Rattle.std.proofs.Common.{ap, ◌∙◌}
 use Rattle.app_model.specs.App.{App}
 use Rattle.session_model.specs.declared.items.Item.{Item}
-use Rattle.session_model.specs.History.{Entry}
+use Rattle.history_model.specs.declared.entry.Entry.{Entry}
 use Rattle.session_model.specs.Journal.{Live, live_after}
 use Rattle.session_model.specs.Out.{texts_of, out_texts_from, out_texts}
 use Rattle.world_model.specs.Client.{Client}

@@ -1,19 +1,23 @@
 -- The lines that an event prints, as values.
-use Rattle.std.specs.Prelude.{ℕ, pos, List, [], ◌∷◌, ◌++◌, map, Bool, true, false, Option, Some, None, codes, is_none, if◌then◌else◌}
-use Rattle.map_model.specs.Maps.{at}
+use Rattle.std.specs.Prelude.{ℕ, pos, List, [], ◌∷◌, ◌++◌, length, map, Bool, true, false, Option, Some, None, Ok, Err, codes, is_none, if◌then◌else◌}
 use Rattle.value_model.specs.Val.{Val, text, int, list, object, vals_of, fields_of, Entries}
 use Rattle.value_model.specs.Size.{is_name}
 use Rattle.serde_json.specs.Written.{compact_text}
 use Rattle.ejson_codec.specs.Written.{written}
 use Rattle.ejson_value.specs.declared.key.Key.{Key}
-use Rattle.ejson_value.specs.Key.{key_cmp}
-use Rattle.ejson_value.specs.Rows.{Rows}
-use Rattle.app_model.specs.App.{App, has_collection}
+use Rattle.app_model.specs.App.{App}
 use Rattle.session_model.specs.declared.items.Item.{Item}
 use Rattle.session_model.specs.declared.items.Item.TheVariants as item
 use Rattle.session_model.specs.Journal.{Live, live_after}
 use Rattle.session_model.specs.Out.{session_name, texts_of}
-use Rattle.session_model.specs.History.{Entry, contents}
+use Rattle.history_model.specs.declared.entry.Entry.{Entry}
+use Rattle.history_model.specs.Operations.{operation_in}
+use Rattle.history_model.specs.History.{Programs, Held, held, room_in, is_full_for_operation}
+use Rattle.history_log.specs.Lines.{worded, doc_value, entry_value}
+use Rattle.store_model.specs.Store.{programs, contents}
+use Rattle.collection_store.specs.declared.operation.Op.{Op}
+use Rattle.collection_store.specs.Outcome.{Outcome, code_of}
+use Rattle.collection_store.specs.Applied.{Applied, applied}
 use Rattle.world_model.specs.declared.events.Event.{Event}
 use Rattle.world_model.specs.declared.events.Event.TheVariants as event
 use Rattle.world_model.specs.declared.subs.SubState.{SubState}
@@ -35,13 +39,27 @@ abbrev pub idle_unless : Bool → List Val
 idle_unless true = []
 idle_unless false = idle ∷ []
 
--- an insert that is refused with this code
+-- an operation that is refused with this code
 abbrev pub refused : ℕ → Val
 refused code = line (codes "refused") (int (pos code) ∷ [])
 
--- 404 for an unknown collection, 409 for a key that has a document
-abbrev pub refusal : App → Rows → Key → List Val
-refusal app rows key = if has_collection app key.collection then (if is_none (at key_cmp rows key) then [] else refused 409 ∷ []) else refused 404 ∷ []
+-- the code of the store's refusal
+abbrev pub answer_code : Outcome Applied → Option ℕ
+answer_code (Ok applied) = None
+answer_code (Err refusal) = code_of refusal
+
+abbrev pub operation_code : Programs → Held → Option Op → Option ℕ
+operation_code app h None = Some 400
+operation_code app h (Some op) = answer_code (applied app.collections h.rows op (room_in h))
+
+-- the code with which an administrator's operation is refused: 503 where the history is full, 400 where it is no operation, then the store's
+abbrev pub refusal_code : App → List Entry → List Val → Option ℕ
+refusal_code app history op =
+    if is_full_for_operation (held (programs app) history) then Some 503 else operation_code (programs app) (held (programs app) history) (operation_in op)
+
+abbrev pub refused_with : Option ℕ → List Val
+refused_with None = []
+refused_with (Some code) = refused code ∷ []
 
 abbrev pub doc_line : Key × Entries → Val
 doc_line row = line (codes "doc") (text row.0.collection ∷ text row.0.id ∷ object (fields_of row.1) ∷ [])
@@ -95,6 +113,16 @@ items_lines app n history live (i ∷ items) = value_line (item_line i) ∷ (map
 abbrev pub journal_lines : App → List Entry → Client → List Line
 journal_lines app history c = value_line (line (codes "journal") (text (session_name c.number) ∷ [])) ∷ items_lines app c.number history None c.journal
 
+-- ---- the store
+
+-- its documents by collection and id, behind the length of its history
+abbrev pub store_values : App → List Entry → List Val
+store_values app history = worded (codes "store") (number (length history) ∷ []) ∷ map doc_value (contents app history)
+
+-- the entries of the history in order, behind their number
+abbrev pub history_values : List Entry → List Val
+history_values history = worded (codes "history") (number (length history) ∷ []) ∷ map entry_value history
+
 -- ---- events
 
 abbrev pub shown_to : List ℕ → Option Client → List Val
@@ -116,13 +144,15 @@ abbrev pub lines_of : World → Event → List Line
 lines_of w (event.Client name) = values (idle_unless (is_none w.client))
 lines_of w (event.Sub who id name params) = values (idle_unless (subscribed w.client who))
 lines_of w (event.Raw who t) = values (idle_unless (can_send who w.client))
-lines_of w (event.Insert key doc) = values (refusal w.app (contents w.history) key)
+lines_of w (event.Admin op) = values (refused_with (refusal_code w.app w.history op))
 lines_of w (event.Do who a) = values (idle_unless (can_named w.app w.history who a w.client))
 lines_of w (event.Load who id place) = values (idle_unless (can_by_name who (loading w.app w.history id place) w.client))
 lines_of w (event.Advance who id count) = values (idle_unless (can_by_name who (leading w.app w.history id count) w.client))
 lines_of w event.Settle = []
 lines_of w (event.Show who) = values (shown_to who w.client)
 lines_of w (event.Journal who) = journal_of w.app w.history who w.client
+lines_of w event.Store = values (store_values w.app w.history)
+lines_of w event.History = values (history_values w.history)
 
 -- the texts of a session among printed lines
 abbrev pub texts_among : List Line → List (List ℕ)

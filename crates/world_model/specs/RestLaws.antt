@@ -10,7 +10,8 @@ use Rattle.session_model.specs.declared.requests.Request.{Request}
 use Rattle.session_model.specs.declared.items.Item.{Item}
 use Rattle.session_model.specs.declared.items.Item.TheVariants as item
 use Rattle.app_model.specs.App.{App}
-use Rattle.session_model.specs.History.{Entry, AreEntries}
+use Rattle.history_model.specs.declared.entry.Entry.{Entry}
+use Rattle.store_model.specs.Store.{AreGiven}
 use Rattle.session_model.specs.Texts.{messages_in}
 use Rattle.session_model.specs.Journal.{Live, live_of, live_after, CanFollow, Fits, FitsFrom}
 use Rattle.session_model.specs.Out.{messages_of, out_from, out, out_texts}
@@ -151,7 +152,7 @@ has_connected : (c : Client) (more : List (List ℕ)) → c.received ++ (c.upwar
 has_connected c more e up waiting (inl b) = absurd (nil_received c.received c.waiting more (ap (λ u. c.received ++ (u ++ c.waiting)) (sym up) ∙ e) waiting b.1)
 has_connected c more e up waiting (inr b) = b
 
-quiescent_by : (app : App) (h : List Entry) (c : Client) → AreEntries h → (k : IsKept app h c) → c.broken ≡ None → IsStuckClient app h c → c.downward ≡ [] → c.outbox ≡ [] →
+quiescent_by : (app : App) (h : List Entry) (c : Client) → AreGiven h → (k : IsKept app h c) → c.broken ≡ None → IsStuckClient app h c → c.downward ≡ [] → c.outbox ≡ [] →
     has_room c ≡ true → IsQuiescent app h c
 quiescent_by app h c entries k unbroken s down out_empty room =
     let ok = begun_unfailed app (length h) c.journal c.received k.begun k.fits in
@@ -174,7 +175,7 @@ quiescent_by app h c entries k unbroken s down out_empty room =
       at_end = live_at_end app h c (live_of app c.journal) (within_from app (length h) false None c.journal tt k.fits) room s.load s.advance;
     }
 
-unbroken_is_at_rest : (app : App) (h : List Entry) (c : Client) → AreEntries h → IsKept app h c → c.broken ≡ None → IsStuckClient app h c → IsAtRest app h c
+unbroken_is_at_rest : (app : App) (h : List Entry) (c : Client) → AreGiven h → IsKept app h c → c.broken ≡ None → IsStuckClient app h c → IsAtRest app h c
 unbroken_is_at_rest app h c entries k unbroken s =
     let down = not_taken c c.downward k.told.unfailed unbroken s.take in
     let free : length c.downward < link_limit = omega (arith, ap (λ (ms : List (List ℕ)). length ms) down) in
@@ -186,7 +187,7 @@ unbroken_is_at_rest app h c entries k unbroken s =
     by down out_empty small true e = inl (quiescent_by app h c entries k unbroken s down out_empty (ap (λ a. a && nat_lt (length c.journal) journal_limit) small ∙ e))
     by down out_empty small false e = inr (inr (ltb-false (length c.journal) journal_limit e))
 
-pub stuck_is_at_rest : (app : App) (h : List Entry) (c : Client) → AreEntries h → IsKept app h c → IsStuckClient app h c → IsAtRest app h c
+pub stuck_is_at_rest : (app : App) (h : List Entry) (c : Client) → AreGiven h → IsKept app h c → IsStuckClient app h c → IsAtRest app h c
 stuck_is_at_rest app h c entries k s = by c.broken refl
   where
     by : (o : Option ℕ) → c.broken ≡ o → IsAtRest app h c
@@ -217,7 +218,7 @@ client_stuck app h (Some c) e =
       take = not_true _ p7.0;
     }
 
-client_at_rest : (app : App) (h : List Entry) (o : Option Client) → AreEntries h → HoldsOf o (IsKept app h) → HoldsOf o (IsStuckClient app h) → HoldsOf o (IsAtRest app h)
+client_at_rest : (app : App) (h : List Entry) (o : Option Client) → AreGiven h → HoldsOf o (IsKept app h) → HoldsOf o (IsStuckClient app h) → HoldsOf o (IsAtRest app h)
 client_at_rest app h None entries k s = tt
 client_at_rest app h (Some c) entries k s = stuck_is_at_rest app h c entries k s
 

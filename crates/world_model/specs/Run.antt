@@ -19,7 +19,10 @@ use Rattle.world_model.specs.declared.subs.SubState.{SubState}
 use Rattle.world_model.specs.declared.subs.SubState.TheVariants as state
 use Rattle.app_model.specs.App.{App}
 use Rattle.session_model.specs.Answers.{max_text}
-use Rattle.session_model.specs.History.{Entry, contents, can_insert, IsLegal, IsStored}
+use Rattle.history_model.specs.declared.entry.Entry.{Entry}
+use Rattle.history_model.specs.declared.entry.Entry.TheVariants as entry
+use Rattle.history_model.specs.History.{held, can_follow, IsLegal}
+use Rattle.store_model.specs.Store.{programs, contents}
 use Rattle.session_model.specs.Publication.{making, queried}
 use Rattle.session_model.specs.Journal.{Live, live_of, opened_ids, refusals, sub_items}
 use Rattle.session_model.specs.declared.requests.Request.{Request}
@@ -100,21 +103,23 @@ abbrev pub can_by_name : List ℕ → (Client → Option Client) → Option Clie
 can_by_name who f None = false
 can_by_name who f (Some c) = is_name c.name who && is_some (f c)
 
--- an insert that is not refused is an entry of the history
-abbrev pub inserted : App → List Entry → Entry → List Entry
-inserted app history entry = if can_insert app (contents history) entry then history ++ entry ∷ [] else history
+-- an administrator's operation that is not refused is an entry of the history
+abbrev pub operated : App → List Entry → List Val → List Entry
+operated app history op = if can_follow (programs app) (held (programs app) history) (entry.Admin op) then history ++ entry.Admin op ∷ [] else history
 
 abbrev pub step : World → Event → World
 step w (event.Client name) = record w { client = after_client name w.client }
 step w (event.Sub who id name params) = record w { client = after_sub who id name params w.client }
 step w (event.Raw who t) = record w { client = after_raw who t w.client }
-step w (event.Insert key doc) = record w { history = inserted w.app w.history (record { key = key; doc = doc }) }
+step w (event.Admin op) = record w { history = operated w.app w.history op }
 step w (event.Do who a) = record w { client = after_named w.app w.history who a w.client }
 step w (event.Load who id place) = record w { client = after_by who (loading w.app w.history id place) w.client }
 step w (event.Advance who id count) = record w { client = after_by who (leading w.app w.history id count) w.client }
 step w event.Settle = settled w
 step w (event.Show who) = w
 step w (event.Journal who) = w
+step w event.Store = w
+step w event.History = w
 
 -- the world after these events
 abbrev pub run : World → List Event → World
@@ -132,11 +137,11 @@ abbrev pub asks_in : Result ClientMessage MsgFault → Bool
 asks_in (Ok m) = asks m
 asks_in (Err e) = false
 
--- An id of a subscription has at most 256 bytes, its parameters are values of the program of at most 32 levels, a document is as those of a store, and a text that is sent as it stands asks for nothing.
+-- An id of a subscription has at most 256 bytes, its parameters are values of the program of at most 32 levels, an operation is of values of the program, and a text that is sent as it stands asks for nothing.
 abbrev pub IsEvent : Event → Type 0
 IsEvent (event.Sub who id name params) = IsShort id × AreValues (vals_of params) × AreShallow params
 IsEvent (event.Raw who t) = asks_in (client_answer t) ≡ false
-IsEvent (event.Insert key doc) = IsStored key doc
+IsEvent (event.Admin op) = AreValues (vals_of op)
 IsEvent _ = Unit {0}
 
 abbrev pub AreEvents : List Event → Type 0
@@ -164,9 +169,9 @@ pub record IsQuiescent (app : App) (history : List Entry) (c : Client) : Type 0 
   pub at_end : IsAtEnd (length history) (live_of app c.journal)
 
 -- the documents of the session's live publication, queried anew over the store
-abbrev pub whole : List Entry → Option Live → Rows
-whole history None = []
-whole history (Some live) = queried live.cursors (contents history)
+abbrev pub whole : App → List Entry → Option Live → Rows
+whole app history None = []
+whole app history (Some live) = queried live.cursors (contents app history)
 
 -- ---- what was asked for and told of subscriptions
 
@@ -229,7 +234,7 @@ AreWaiting (id ∷ ids) subs = (at text_cmp subs id ≡ Some state.Waiting) × A
 -- is as the session's last word on it, or waits; and the session answered each `sub` that it took, in order and as the application says,
 -- but for those that are too long for it: these are the ones that wait, one at most.
 pub record IsWhole (app : App) (history : List Entry) (c : Client) : Type 0 where
-  pub rows : c.rows ≡ whole history (live_of app c.journal)
+  pub rows : c.rows ≡ whole app history (live_of app c.journal)
   pub answered : ready_ids (out app c.number history c.journal) ≡ opened_ids (live_of app c.journal)
   pub refused : nosubs_of (out app c.number history c.journal) ≡ refusals c.journal
   pub live : AreReady (opened_ids (live_of app c.journal)) c.subs
@@ -244,7 +249,7 @@ HoldsOf (Some c) P = P c
 
 -- THE HEADLINE: the store is the fold of one legal history, and whenever the session is quiescent its client has what is published of the store.
 pub record IsTrueWorld (w : World) : Type 0 where
-  pub legal : IsLegal w.app w.history
+  pub legal : IsLegal (programs w.app) w.history
   pub whole : HoldsOf w.client (λ c. IsQuiescent w.app w.history c → IsWhole w.app w.history c)
 
 -- A settled session is quiescent, or its client refused a text and is broken, or its journal is full.

@@ -7,7 +7,6 @@ use Rattle.value_model.specs.Val.{Val, vals_of}
 use Rattle.value_model.specs.Valid.{AreValues}
 use Rattle.value_model.specs.Order.{text_cmp}
 use Rattle.value_model.specs.Size.{is_name}
-use Rattle.ejson_value.specs.Rows.{Rows}
 use Rattle.ddp_messages.specs.Answers.{client_answer}
 use Rattle.ddp_messages.specs.ClientMessage.{ClientMessage}
 use Rattle.ddp_messages.specs.ClientMessage as client
@@ -16,8 +15,12 @@ use Rattle.ddp_messages.specs.declared.fault.MsgFault.{MsgFault}
 use Rattle.session_model.specs.declared.requests.Request.{Request}
 use Rattle.session_model.specs.declared.items.Item.{Item}
 use Rattle.app_model.specs.App.{App}
-use Rattle.session_model.specs.History.{Entry, applied, after, contents, can_insert, IsLegalFrom, IsLegal, IsStored, AreEntries}
-use Rattle.session_model.specs.HistoryLaws.{AreEntries-append}
+use Rattle.history_model.specs.declared.entry.Entry.{Entry}
+use Rattle.history_model.specs.declared.entry.Entry.TheVariants as entry
+use Rattle.history_model.specs.History.{held, can_follow, IsLegal}
+use Rattle.history_model.specs.HistoryLaws.{IsLegal-append}
+use Rattle.store_model.specs.Store.{programs, AreGiven}
+use Rattle.store_model.specs.StoreLaws.{AreGiven-append}
 use Rattle.session_model.specs.Texts.{messages_in}
 use Rattle.session_model.specs.Journal.{Fits}
 use Rattle.session_model.specs.Out.{out}
@@ -38,15 +41,15 @@ use Rattle.world_model.specs.AskLaws.{none_asked, one_asked}
 use Rattle.world_model.specs.KeptLaws.{acts_keep, loading_keeps, leading_keeps, asked-append, requested-append}
 
 pub record IsKeptWorld (w : World) : Type 0 where
-  pub legal : IsLegal w.app w.history
-  pub entries : AreEntries w.history
+  pub legal : IsLegal (programs w.app) w.history
+  pub entries : AreGiven w.history
   pub client : HoldsOf w.client (IsKept w.app w.history)
 
 pub chosen : (P : Client → Type 0) (c : Client) (o : Option Client) → P c → IfSome o P → P (unwrap_or o c)
 chosen P c None p h = p
 chosen P c (Some d) p h = h
 
-client_done : (app : App) (h : List Entry) (a : Act) (o : Option Client) → AreEntries h → HoldsOf o (IsKept app h) → HoldsOf (after_act app h a o) (IsKept app h)
+client_done : (app : App) (h : List Entry) (a : Act) (o : Option Client) → AreGiven h → HoldsOf o (IsKept app h) → HoldsOf (after_act app h a o) (IsKept app h)
 client_done app h a None entries k = tt
 client_done app h a (Some c) entries k = chosen (IsKept app h) c (acts app h c a) k (acts_keep app h entries c a k)
 
@@ -233,25 +236,20 @@ client_longer app h e (Some c) k = record {
   queued = k.queued;
 }
 
-legal_longer : (app : App) (rows : Rows) (h : List Entry) (e : Entry) → IsLegalFrom app rows h → IsTrue (can_insert app (after rows h) e) → IsLegalFrom app rows (h ++ e ∷ [])
-legal_longer app rows [] e l can = (can, tt)
-legal_longer app rows (f ∷ h) e l can = (l.0, legal_longer app (applied rows f) h e l.1 can)
-
-insert_keeps : (w : World) (e : Entry) (b : Bool) → (b ≡ true → IsTrue (can_insert w.app (contents w.history) e)) → IsStored e.key e.doc → IsKeptWorld w →
-    IsKeptWorld (record w { history = cond b (w.history ++ e ∷ []) w.history })
-insert_keeps w e false can doc k = k
-insert_keeps w e true can doc k = record {
-  legal = legal_longer w.app [] w.history e k.legal (can refl);
-  entries = AreEntries-append w.history e k.entries doc;
-  client = client_longer w.app w.history e w.client k.client;
+operated_keeps : (w : World) (op : List Val) (b : Bool) → (b ≡ true → IsTrue (can_follow (programs w.app) (held (programs w.app) w.history) (entry.Admin op))) → AreValues (vals_of op) → IsKeptWorld w →
+    IsKeptWorld (record w { history = cond b (w.history ++ entry.Admin op ∷ []) w.history })
+operated_keeps w op false can values k = k
+operated_keeps w op true can values k = record {
+  legal = IsLegal-append (programs w.app) w.history (entry.Admin op) k.legal (can refl);
+  entries = AreGiven-append w.history (entry.Admin op) k.entries values;
+  client = client_longer w.app w.history (entry.Admin op) w.client k.client;
 }
 
 pub step_keeps : (w : World) (e : Event) → IsEvent e → IsKeptWorld w → IsKeptWorld (step w e)
 step_keeps w (event.Client name) p k = record { legal = k.legal; entries = k.entries; client = client_began w.app w.history name w.client k.client }
 step_keeps w (event.Sub who id name params) p k = record { legal = k.legal; entries = k.entries; client = client_subscribed w.app w.history who id name params w.client p.0 p.1 p.2 k.client }
 step_keeps w (event.Raw who t) p k = record { legal = k.legal; entries = k.entries; client = client_sent w.app w.history who t w.client p k.client }
-step_keeps w (event.Insert key doc) p k =
-    let e : Entry = record { key = key; doc = doc } in insert_keeps w e (can_insert w.app (contents w.history) e) (λ h. h) p k
+step_keeps w (event.Admin op) p k = operated_keeps w op (can_follow (programs w.app) (held (programs w.app) w.history) (entry.Admin op)) (λ h. h) p k
 step_keeps w (event.Do who a) p k = record { legal = k.legal; entries = k.entries; client = client_stepped w.app w.history who a w.client (done_keeps a w k).client k.client }
 step_keeps w (event.Load who id place) p k = record {
   legal = k.legal;
@@ -266,6 +264,8 @@ step_keeps w (event.Advance who id count) p k = record {
 step_keeps w event.Settle p k = settled_keeps IsKeptWorld done_keeps w k
 step_keeps w (event.Show who) p k = k
 step_keeps w (event.Journal who) p k = k
+step_keeps w event.Store p k = k
+step_keeps w event.History p k = k
 
 pub run_keeps : (w : World) (events : List Event) → AreEvents events → IsKeptWorld w → IsKeptWorld (run w events)
 run_keeps w [] p k = k

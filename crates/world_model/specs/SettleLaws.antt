@@ -10,7 +10,8 @@ use Rattle.session_model.specs.declared.items.Item.{Item}
 use Rattle.session_model.specs.declared.items.Item.TheVariants as item
 use Rattle.app_model.specs.App.{App}
 use Rattle.session_model.specs.Publication.{Making, making}
-use Rattle.session_model.specs.History.{Entry, AreEntries}
+use Rattle.history_model.specs.declared.entry.Entry.{Entry}
+use Rattle.store_model.specs.Store.{AreGiven}
 use Rattle.session_model.specs.Texts.{message_in}
 use Rattle.session_model.specs.Answers.{Taken, at_once, to_queue, taken_text}
 use Rattle.session_model.specs.Journal.{Live, live_of, live_after, is_connected}
@@ -128,14 +129,14 @@ module _ (app : App) (h : List Entry) where
   told_by false c t ts e read calm =
       subst (λ a. LowersClient app (length h) c (told_answer (record c { downward = ts }) a)) (sym read) (told_lowers c t ts (message_refusal c.session c.rows (message_in t)) e calm)
 
-  take_lowers : AreEntries h → (c : Client) (ts : List (List ℕ)) → c.downward ≡ ts → IsKept app h c → IfSome (takes c ts) (LowersClient app (length h) c)
+  take_lowers : AreGiven h → (c : Client) (ts : List (List ℕ)) → c.downward ≡ ts → IsKept app h c → IfSome (takes c ts) (LowersClient app (length h) c)
   take_lowers entries c [] e k = tt
   take_lowers entries c (t ∷ ts) e k = guarded_holds (LowersClient app (length h) c) (not c.is_failed && is_none c.broken) _ (λ on.
       let l = (is_none_true app h c.broken (second_true app h (not c.is_failed) (is_none c.broken) on)) in
       let r = next_reads app h entries c t ts e k l in
       told_by (nat_lt max_server_text (length t)) c t ts e r.0 r.1)
 
-  pub acts_lower : AreEntries h → (c : Client) (a : Act) → IsKept app h c → IfSome (acts app h c a) (LowersClient app (length h) c)
+  pub acts_lower : AreGiven h → (c : Client) (a : Act) → IsKept app h c → IfSome (acts app h c a) (LowersClient app (length h) c)
   acts_lower entries c act.Up k = up_lowers c c.waiting refl
   acts_lower entries c act.Recv k = recv_lowers c c.upward refl
   acts_lower entries c act.Handle k = handle_lowers c c.queue refl
@@ -202,7 +203,7 @@ by_acts : (app : App) (h : List Entry) (c : Client) (o : Option Client) → IfSo
 by_acts app h c None l = inl (refl, refl)
 by_acts app h c (Some d) l = inr (refl, l)
 
-done_by : (app : App) (h : List Entry) (a : Act) (o : Option Client) → AreEntries h → HoldsOf o (IsKept app h) →
+done_by : (app : App) (h : List Entry) (a : Act) (o : Option Client) → AreGiven h → HoldsOf o (IsKept app h) →
     ((can_by app h a o ≡ false) × (after_act app h a o ≡ o)) ⊎
     ((can_by app h a o ≡ true) × ((work_by app (length h) (after_act app h a o) < work_by app (length h) o) ⊎ ((work_by app (length h) (after_act app h a o) ≡ work_by app (length h) o) × (texts_by (after_act app h a o) < texts_by o))))
 done_by app h a None entries k = inl (refl, refl)

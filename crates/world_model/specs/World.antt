@@ -1,7 +1,7 @@
 -- A world: an application, the history of its store, and perhaps a client.
 use Rattle.std.specs.Prelude.{List, [], Option, Some, None, Bool, false, is_some, unwrap_or}
 use Rattle.app_model.specs.App.{App}
-use Rattle.session_model.specs.History.{Entry}
+use Rattle.history_model.specs.declared.entry.Entry.{Entry}
 use Rattle.world_model.specs.declared.events.Act.{Act}
 use Rattle.world_model.specs.Client.{Client}
 use Rattle.world_model.specs.Acts.{acts}

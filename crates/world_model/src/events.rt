@@ -1,5 +1,5 @@
 //! What can happen in a world.
-use ejson_value::{Doc, Items, Key, Text, Whole};
+use ejson_value::{Items, Text, Whole};
 
 /// A step that a client or its session makes by itself.
 #[derive(Clone, Copy, Debug, PartialEq, Eq)]
@@ -39,10 +39,9 @@ pub enum Event {
         client: Text,
         text: Text,
     },
-    /// A document is inserted into the store from outside.
-    Insert {
-        key: Key,
-        doc: Doc,
+    /// An administrator's operation is made, if the list is one that isn't refused.
+    Admin {
+        op: Items,
     },
     /// A single step of the client of this name, or of its session.
     Do {
@@ -71,4 +70,8 @@ pub enum Event {
     Journal {
         client: Text,
     },
+    /// The documents of the store are printed.
+    Store,
+    /// The entries of its history are printed.
+    History,
 }

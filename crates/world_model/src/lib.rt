@@ -5,7 +5,7 @@
 
 ghost use Rattle.std.specs.Prelude.{◌≡◌, ℕ, ◌+◌, ◌<◌, List, true};
 ghost use Rattle.app_model.specs.App.{App};
-ghost use Rattle.session_model.specs.History.{Entry};
+ghost use Rattle.history_model.specs.declared.entry.Entry.{Entry};
 ghost use Rattle.session_model.specs.Out.{out_texts};
 ghost use Rattle.world_model.specs.declared.events.Event.{Event as AnEvent};
 ghost use Rattle.world_model.specs.Client.{Client};

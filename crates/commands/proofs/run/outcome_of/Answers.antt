@@ -9,4 +9,4 @@ pub returns-in-Replay-clause-true_run : goal.returns-in-Replay-clause-true_run
 returns-in-Replay-clause-true_run c =
     let input = c.args.input.now in
     on_ok c.replay.result (AreReplayed input) (IsTrueRunOf c.args.command input)
-    (λ events. subst (λ k. IsTrueRunOf k input) (sym c.in-Replay.is) (replay_is_true input c.requires events)) c.replay.ensures.events
+    (λ events. subst (λ k. IsTrueRunOf k input) (sym c.in-Replay.is) (replay_is_true input events)) c.replay.ensures.events

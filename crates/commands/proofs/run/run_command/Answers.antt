@@ -23,7 +23,7 @@ returns-in-None-clause-cause g c =
     let before = g.O.Sink.written c.args.output.now in
     let now = g.O.Sink.written c.write_all.new.output in
     let text = c.as_slice-2.ensures.value ∙ (c.in-Ok-outcome_of.ensures.text ∙ ap (output_of command) c.as_slice.ensures.value) in
-    ran command false (g.I.Source.left c.args.input.now) (g.I.Source.left c.read_all.new.input) c.in-Ok.bytes before now c.in-Ok.ensures.all c.in-Ok.ensures.within
+    ran command false (g.I.Source.left c.args.input.now) (g.I.Source.left c.read_input.new.input) c.in-Ok.bytes before now c.in-Ok.ensures.all c.in-Ok.ensures.within
     (subst (IsTrueRunOf command) c.as_slice.ensures.value c.in-Ok-outcome_of.ensures.true_run)
     c.in-Ok.ensures.end
     (ap (λ bytes. is_some (bad_line_of command bytes)) (sym c.as_slice.ensures.value) ∙ ap is_some (sym c.in-Ok-outcome_of.ensures.bad ∙ c.in-None.is))
@@ -35,7 +35,7 @@ returns-clause-cause g c =
     let before = g.O.Sink.written c.args.output.now in
     let now = g.O.Sink.written c.write_all.new.output in
     let text = c.as_slice-2.ensures.value ∙ (c.in-Ok-outcome_of.ensures.text ∙ ap (output_of command) c.as_slice.ensures.value) in
-    ran command true (g.I.Source.left c.args.input.now) (g.I.Source.left c.read_all.new.input) c.in-Ok.bytes before now c.in-Ok.ensures.all c.in-Ok.ensures.within
+    ran command true (g.I.Source.left c.args.input.now) (g.I.Source.left c.read_input.new.input) c.in-Ok.bytes before now c.in-Ok.ensures.all c.in-Ok.ensures.within
     (subst (IsTrueRunOf command) c.as_slice.ensures.value c.in-Ok-outcome_of.ensures.true_run)
     c.in-Ok.ensures.end
     (ap (λ bytes. is_some (bad_line_of command bytes)) (sym c.as_slice.ensures.value) ∙ ap is_some (sym c.in-Ok-outcome_of.ensures.bad ∙ c.in-Some.is))

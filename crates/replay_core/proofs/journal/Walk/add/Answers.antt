@@ -21,6 +21,6 @@ returns-clause-lines c =
     let made = c.in_ok-texts.ensures
     ∙ ap (λ l. map server_text (map about (difference old.shown rows)) ++ text_of_item n l item) (live_ref c.as_ref-before.result old.live c.as_ref-before.ensures.value) in
     let after_is = c.in_ok-live.ensures ∙ ap (λ l. live_after store.app l item) (live_ref c.as_ref.result old.live c.as_ref.ensures.value) in
-    let shown_is = c.in_ok-rows.ensures ∙ ap (shown store.history) (live_ref c.as_ref-2.result c.in_ok-live.live c.as_ref-2.ensures.value) in
+    let shown_is = c.in_ok-rows.ensures ∙ ap (shown store.app store.history) (live_ref c.as_ref-2.result c.in_ok-live.live c.as_ref-2.ensures.value) in
     let are = item_texts_are store.app store.history n live (option_map as_live c.in_ok-live.live) item old.shown rows texts c.requires after_is shown_is made in
     c.in_ok-push_item.ensures ∙ ap (λ ts. old.lines ++ map line_text (value_line (item_line item) ∷ map out_line ts)) are
