@@ -1,0 +1,17 @@
+use Rattle.std.proofs.Common.{◌≡◌, Some, refl, sym, subst, ◌∙◌}
+use Rattle.ddp_messages.specs.ClientMessage.{ClientMessage, sub as asks}
+use Rattle.journal_model.specs.Items.{id_of}
+use Rattle.journal_model.specs.Items as item
+use Rattle.session_parts.specs.declared.adding.Addition.{Addition}
+use Rattle.session_handling.specs.Handling.{Adds, state_in}
+use Rattle.session_handling.proofs.Adding.{if_adds}
+use Rattle.journal_model.specs.Publication.{Making, making}
+use Rattle.journal_model.specs.Fits.{opened_by}
+use Rattle.session_handling.proofs.handling.Asked.sub_made.Goals as goal
+
+pub returns-in-Err : goal.returns-in-Err
+returns-in-Err c =
+    let m = asks c.args.id.now c.args.name.now c.args.params.now in
+    let made = sym c.in_ok-fault.ensures ∙ c.in-Err.is in
+    if_adds c.args.self.now c.nosub.result (λ (x : Addition). (m : ClientMessage) → id_of m ≡ c.args.id.now → Adds c.args.self.now (item.nosub m (Some c.in-Err.fault)) x) (opened_by (state_in c.args.self.now).opened m (making c.args.self.now.app.now c.args.name.now c.args.params.now))
+    (λ x h. subst (λ (r : Making). Adds c.args.self.now (opened_by (state_in c.args.self.now).opened m r) x) (sym made) (h m refl)) c.nosub.ensures

@@ -1,0 +1,30 @@
+-- What a session makes of a message that it handles, before it changes anything.
+use Rattle.std.specs.Prelude.{◌≡◌, ℕ, [], map}
+use Rattle.ddp_messages.specs.ClientMessage.{ClientMessage}
+use Rattle.journal_model.specs.Texts.{server_text}
+use Rattle.journal_model.specs.Items.{Item}
+use Rattle.journal_model.specs.State.{State, own_after}
+use Rattle.journal_model.specs.Out.{own_messages}
+use Rattle.journal_model.specs.Fits.{item_for}
+use Rattle.session_laws.specs.Storing.{kept_as, shown_id}
+use Rattle.session_state.specs.Own.{as_state, stepped}
+use Rattle.session_parts.specs.declared.adding.Addition.{Addition}
+use Rattle.session_handling.specs.declared.handling.Asked.{Asked}
+
+-- what the addition does is what the item does, and its words are what the item says: it needs no store for that
+pub record IsAddition (number : ℕ) (st : State) (place : ℕ) (i : Item) (a : Addition) : Type 0 where
+  pub kept : a.item ≡ kept_as place i
+  pub id : a.id ≡ shown_id i
+  pub does : stepped a.step st ≡ own_after st i
+  pub says : a.words.items ≡ map server_text (own_messages [] number st i)
+
+abbrev pub state_in : Asked → State
+state_in a = as_state a.own.now
+
+-- the addition is that of the item
+abbrev pub Adds : Asked → Item → Addition → Type 0
+Adds a i addition = IsAddition a.number (state_in a) a.text i addition
+
+-- the item that is made of the message
+abbrev pub item_in : Asked → ClientMessage → Item
+item_in a m = item_for a.app.now a.number (state_in a) m
