@@ -264,17 +264,33 @@ step 7 => ended 15 done 1"#;
         }
     }
 
-    fn begin(alloc: Global, machine: &mut Machine, words: &str) -> Result<Text, Fail> {
-        let (k, rest) = split(words);
-        let (method, rest) = split(rest);
+    fn begun_told(
+        alloc: Global,
+        machine: &mut Machine,
+        k: u64,
+        method: &Text,
+        params: &Items,
+        seed: &Value,
+    ) -> Result<Text, Fail> {
+        match begun(machine, k, method, params, seed) {
+            Ok(status) => status_told(alloc, &status),
+            Err(fault) => Ok(Text::from_string(format!(in alloc; "{fault}")?)),
+        }
+    }
+
+    // The words are `METHOD PARAMS SEED`.
+    fn begin_by(alloc: Global, machine: &mut Machine, k: u64, words: &str) -> Result<Text, Fail> {
+        let (method, rest) = split(words);
         let (params, seed) = rest.rsplit_once(" ").unwrap_or((rest, "null"));
         let method = Text::from_str(alloc, method)?;
         let params = items(alloc, params)?;
         let seed = value(alloc, seed)?;
-        match begun(machine, number(k), &method, &params, &seed) {
-            Ok(status) => status_told(alloc, &status),
-            Err(fault) => Ok(Text::from_string(format!(in alloc; "{fault}")?)),
-        }
+        begun_told(alloc, machine, k, &method, &params, &seed)
+    }
+
+    fn begin(alloc: Global, machine: &mut Machine, words: &str) -> Result<Text, Fail> {
+        let (k, rest) = split(words);
+        begin_by(alloc, machine, number(k), rest)
     }
 
     fn step(alloc: Global, machine: &mut Machine, k: &str) -> Result<Text, Fail> {
@@ -420,18 +436,31 @@ step 7 => ended 15 done 1"#;
     }
 
     // Each call keeps 1,048,576 bytes for its parameters and 3 for its seed.
-    fn begins_127(alloc: Global) -> Result<bool, Fail> {
-        let params = long_params(alloc)?;
-        let method = Text::from_str(alloc, "e")?;
-        let seed = value(alloc, "\"s\"")?;
-        let mut machine = machine(alloc, APP)?;
-        let all = begins_all(&mut machine, &method, &params, &seed);
+    fn holds_127(machine: &mut Machine, method: &Text, params: &Items, seed: &Value) -> bool {
+        let all = begins_all(machine, method, params, seed);
+        let last = begun(machine, 127, method, params, seed);
         let full = BeginFault::Full {
             entries: 128,
             kept: 134_218_112,
         };
-        let last = begun(&mut machine, 127, &method, &params, &seed);
-        Ok(all && last.err() == Some(full) && machine.length() == 127)
+        all && last.err() == Some(full) && machine.length() == 127
+    }
+
+    fn new_holds_127(
+        alloc: Global,
+        method: &Text,
+        params: &Items,
+        seed: &Value,
+    ) -> Result<bool, Fail> {
+        let mut machine = machine(alloc, APP)?;
+        Ok(holds_127(&mut machine, method, params, seed))
+    }
+
+    fn begins_127(alloc: Global) -> Result<bool, Fail> {
+        let method = Text::from_str(alloc, "e")?;
+        let seed = value(alloc, "\"s\"")?;
+        let params = long_params(alloc)?;
+        new_holds_127(alloc, &method, &params, &seed)
     }
 
     #[test]
