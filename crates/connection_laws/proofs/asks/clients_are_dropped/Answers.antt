@@ -1,0 +1,5 @@
+use Rattle.connection_laws.specs.Asks.{drop_made}
+use Rattle.connection_laws.proofs.asks.clients_are_dropped.Goals as goal
+
+pub returns : goal.returns
+returns c = λ app name history old s p there r. drop_made app name history old p there s r

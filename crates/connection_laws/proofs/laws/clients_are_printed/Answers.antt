@@ -1,0 +1,5 @@
+use Rattle.connection_laws.specs.Printing.{show_is}
+use Rattle.connection_laws.proofs.laws.clients_are_printed.Goals as goal
+
+pub returns : goal.returns
+returns c = show_is

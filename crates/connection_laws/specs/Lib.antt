@@ -1,0 +1,11 @@
+pub mod Connection
+pub mod Acting
+pub mod Standing
+pub mod OneMore
+pub mod Links
+pub mod Asks
+pub mod Receiving
+pub mod Learning
+pub mod Showing
+pub mod Beginning
+pub mod Printing
