@@ -1,0 +1,2 @@
+pub mod StepsRead
+pub mod AppsRead
