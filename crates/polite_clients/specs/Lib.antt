@@ -1,0 +1,4 @@
+pub mod Texts
+pub mod Polite
+pub mod Acts
+pub mod Worlds
