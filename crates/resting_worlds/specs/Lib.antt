@@ -1,3 +1,4 @@
 pub mod Counts
 pub mod Sessions
 pub mod AtRest
+pub mod Rounds

@@ -2,13 +2,13 @@
 //! `core_model`, which its contract states.
 #![tactic(auto)]
 
-ghost use Rattle.std.specs.Prelude.{List};
+ghost use Rattle.std.specs.Prelude.{◌≡◌, List};
 ghost use Rattle.app_model.specs.App.{App};
 ghost use Rattle.stored_values.specs.Values.{HasValues};
 ghost use Rattle.core_model.specs.declared.events.Event.{Event as AnEvent};
 ghost use Rattle.core_model.specs.Store.{programs};
 ghost use Rattle.core_model.specs.World.{start};
-ghost use Rattle.core_model.specs.Settle.{settled};
+ghost use Rattle.core_model.specs.Settle.{round, settled};
 ghost use Rattle.core_model.specs.Events.{run, AreEvents};
 ghost use Rattle.core_model.specs.Headline.{AreAtRest};
 
@@ -17,4 +17,10 @@ ghost use Rattle.core_model.specs.Headline.{AreAtRest};
 /// long, or its journal is full.
 pub fn settled_worlds_are_at_rest()
     ensures { (app : App) (events : List AnEvent) → HasValues (programs app) → AreEvents events → AreAtRest (settled (run (start app) events)) }
+{}
+
+/// A further round leaves a settled world, and so does settling it again.
+pub fn further_rounds_leave_the_settled_world()
+    ensures round { (app : App) (events : List AnEvent) → HasValues (programs app) → AreEvents events → round (settled (run (start app) events)) ≡ settled (run (start app) events) }
+    ensures settling { (app : App) (events : List AnEvent) → HasValues (programs app) → AreEvents events → settled (settled (run (start app) events)) ≡ settled (run (start app) events) }
 {}
