@@ -1,3 +1,4 @@
 pub mod Places
 pub mod InPlace
 pub mod Telling
+mod Settled

@@ -1,5 +1,5 @@
 -- A kept call as the journal's definitions see it, and which calls are told, by how far the subscriptions are.
-use Rattle.std.specs.Prelude.{ℕ, zero, suc, List, [], ◌∷◌, ◌++◌, map, Bool, true, false, Option, if◌then◌else◌}
+use Rattle.std.specs.Prelude.{◌&&◌, min, ℕ, zero, suc, List, [], ◌∷◌, ◌++◌, map, Bool, true, false, Option, None, Some, if◌then◌else◌}
 use Rattle.std.specs.List.{list_any}
 use Rattle.journal_model.specs.Methods.{Phase, running, refused, finished, told, Method}
 use Rattle.session_state.specs.declared.calls.Phase.{Phase as ThePhase}
@@ -42,6 +42,28 @@ is_refused p = false
 
 abbrev pub has_refused : List Method → Bool
 has_refused ms = list_any (λ (m : Method). is_refused m.phase) ms
+
+-- ---- calls of which nothing more becomes
+
+-- it was told, or refused
+abbrev pub is_settled : Phase → Bool
+is_settled running = false
+is_settled refused = true
+is_settled (finished place) = false
+is_settled (told place) = true
+
+-- there are so many calls at least, and the first so many are settled
+abbrev pub are_settled : ℕ → List Method → Bool
+are_settled zero ms = true
+are_settled (suc n) [] = false
+are_settled (suc n) (m ∷ ms) = is_settled m.phase && are_settled n ms
+
+-- the number of calls that need not be looked at where so many are settled, the call of a number having ended
+abbrev pub passed_by : ℕ → Option (ℕ × ℕ) → ℕ
+passed_by n None = n
+passed_by n (Some ended) = min n ended.0
+
+-- ---- calls at a place
 
 -- what stands at a place is told if its fence is open
 abbrev pub fire_at : Progress → ℕ → List Method → List Method

@@ -7,7 +7,7 @@ use Rattle.journal_model.specs.Subscriptions.{Live, loaded, closed}
 use Rattle.journal_model.specs.Methods.{Blocking, Phase, running, refused, finished, phase_at, turned, freed, all_told}
 use Rattle.journal_model.specs.State.{State}
 use Rattle.session_state.specs.declared.own.Call.{Call}
-use Rattle.session_state.specs.declared.own.Own.{Own}
+use Rattle.session_state.specs.declared.kept.Own.{Own}
 use Rattle.session_state.specs.declared.own.Step.{Step}
 use Rattle.session_state.specs.declared.own.Step.TheVariants as step
 use Rattle.session_state.specs.Subs.{as_live, observers_of, observers_without}

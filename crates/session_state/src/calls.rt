@@ -1,7 +1,7 @@
 //! Calls of methods.
-ghost use Rattle.std.specs.Prelude.{◌≡◌, map, option_map, option_to_list};
+ghost use Rattle.std.specs.Prelude.{◌≡◌, map, true, option_map, option_to_list};
 ghost use Rattle.journal_model.specs.Methods.{phase_at, id_at, turned};
-ghost use Rattle.session_state.specs.Calls.{as_phase, as_method, fired_by, fire_at, fire_by, is_refused, has_refused};
+ghost use Rattle.session_state.specs.Calls.{as_phase, as_method, fired_by, fire_at, fire_by, is_refused, has_refused, is_settled, are_settled};
 
 use crate::progress::Progress;
 use ejson_value::Text;
@@ -92,11 +92,37 @@ fn fire_at(methods: &mut Vec<Method>, place: usize, progress: &Progress)
     }
 }
 
-/// Each finished call whose fence is open is told from now on.
-pub(crate) fn fire(methods: &mut Vec<Method>, progress: &Progress)
-    ensures { map as_method methods.new.items ≡ fire_by progress.now (map as_method methods.old.items) }
+/// Each finished call whose fence is open is told from now on. It looks at none of the first ones
+/// that are settled.
+pub(crate) fn fire(methods: &mut Vec<Method>, settled: usize, progress: &Progress)
+    requires { are_settled settled (map as_method methods.old.items) ≡ true }
+    ensures fired { map as_method methods.new.items ≡ fire_by progress.now (map as_method methods.old.items) }
+    ensures settled { are_settled settled (map as_method methods.new.items) ≡ true }
 {
-    for place in 0..methods.len() {
+    for place in settled..methods.len() {
         fire_at(methods, place, progress);
     }
+}
+
+// Nothing more becomes of it.
+fn is_settled(phase: Phase) -> bool
+    ensures { result ≡ is_settled (as_phase phase) }
+{
+    match phase {
+        Phase::Running | Phase::Finished { .. } => false,
+        Phase::Refused | Phase::Told { .. } => true,
+    }
+}
+
+/// How many calls are known to be settled, so many having been known before.
+pub(crate) fn more_settled(methods: &[Method], settled: usize) -> usize
+    requires { are_settled settled (map as_method methods.now) ≡ true }
+    ensures { are_settled result (map as_method methods.now) ≡ true }
+{
+    for place in settled..methods.len() {
+        if !is_settled(methods[place].phase) {
+            return place;
+        }
+    }
+    methods.len()
 }

@@ -2,11 +2,13 @@
 #![tactic(auto)]
 
 mod calls;
+mod kept;
 mod own;
 mod progress;
 mod subs;
 
 pub use calls::{Method, Phase, id_at, phase_at};
-pub use own::{Call, Own, Step};
+pub use kept::Own;
+pub use own::{Call, Step};
 pub use progress::Progress;
 pub use subs::{Sub, cursor_of, is_crowded, may_load, sub_named, sub_of};

@@ -7,10 +7,11 @@ ghost use Rattle.session_relation.specs.Stands.{fired_state};
 ghost use Rattle.session_state.specs.declared.own.Step.TheVariants as step;
 ghost use Rattle.session_state.specs.Own.{as_state, as_blocking, stepped, turned_state, started_by, ended_by, told_with, watch_after, CanStep, HasRoom, SameOwn, max_items};
 ghost use Rattle.session_state.specs.Subs.{observers_of, observer_at, observers_with};
-ghost use Rattle.session_state.specs.Calls.{as_phase, has_refused};
+ghost use Rattle.session_state.specs.Calls.{as_phase, has_refused, passed_by};
 ghost use Rattle.session_state.specs.Progress.{progress_of};
 
-use crate::calls::{Method, Phase, fire, has_refused, turn};
+use crate::calls::{Method, Phase, fire, has_refused, more_settled, turn};
+use crate::kept::Own;
 use crate::progress::{
     Progress, progress_closed, progress_loaded, progress_now, progress_opened, updated_ids,
 };
@@ -26,22 +27,6 @@ pub struct Call {
     pub method: Text,
     pub params: Items,
     pub seed: Value,
-}
-
-/// A session's subscriptions and calls.
-#[derive(Drop)]
-pub struct Own {
-    /// Whether a `connect` of the session's version was taken, and whether one of another version was.
-    pub connected: bool,
-    pub failed: bool,
-    pub subs: Vec<Sub>,
-    /// How many were opened.
-    pub opened: u64,
-    pub methods: Vec<Method>,
-    /// The call that blocks: no further message is handled.
-    pub blocking: Option<Call>,
-    /// The greatest place of the history at which a call ended or a subscription was.
-    pub reach: u64,
 }
 
 /// What an item of the journal does to subscriptions and calls.
@@ -69,6 +54,16 @@ fn freed(blocking: Option<Call>, k: u64) -> Option<Call>
     match blocking {
         Some(call) if call.k != k => Some(call),
         _ => None,
+    }
+}
+
+// The calls that need not be looked at where so many are settled and the call of that number ends.
+fn passed_by(settled: usize, ended: Option<(u64, u64)>) -> usize
+    ensures { result ≡ passed_by settled ended }
+{
+    match ended {
+        Some((k, _)) => settled.min(k as usize),
+        None => settled,
     }
 }
 
@@ -107,6 +102,7 @@ impl Own {
             methods: Vec::new(alloc),
             blocking: None,
             reach: 0,
+            settled: 0,
         }
     }
 
@@ -139,7 +135,9 @@ impl Own {
         requires progress { progress.now ≡ progress_of (stepped step.now (as_state self.now)).subs }
         ensures { IfOk result (λ ids. ids ≡ told_with step.now (as_state self.now)) }
     {
-        let ids = updated_ids(alloc, self.methods.as_slice(), step.ended(), progress)?;
+        let ended = step.ended();
+        let passed = passed_by(self.settled, ended);
+        let ids = updated_ids(alloc, self.methods.as_slice(), passed, ended, progress)?;
         Ok(ids)
     }
 
@@ -188,6 +186,7 @@ impl Own {
         ensures turned { as_state self.new ≡ turned_state k (as_phase phase) (as_state self.old) }
         ensures subs { self.new.subs ≡ self.old.subs }
     {
+        self.settled = self.settled.min(k as usize);
         turn(&mut self.methods, k, phase);
         self.free(k);
     }
@@ -258,6 +257,7 @@ impl Own {
         ensures observers { observers_of self.new.subs.items ≡ watch_after step self.old }
     {
         self.carry(step);
-        fire(&mut self.methods, progress);
+        fire(&mut self.methods, self.settled, progress);
+        self.settled = more_settled(self.methods.as_slice(), self.settled);
     }
 }

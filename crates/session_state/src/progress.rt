@@ -1,9 +1,9 @@
 //! How far the live subscriptions are, and which calls that tells.
-ghost use Rattle.std.specs.Prelude.{◌≡◌, ◌++◌, ◌∷◌, [], map, IfOk, OnOk, Some, if◌then◌else◌};
+ghost use Rattle.std.specs.Prelude.{true, ◌≤◌, IfSome, ◌≡◌, ◌++◌, ◌∷◌, [], map, IfOk, OnOk, Some, if◌then◌else◌};
 ghost use Rattle.journal_model.specs.Subscriptions.{loaded, closed};
 ghost use Rattle.session_relation.specs.Fired.{lesser};
 ghost use Rattle.session_state.specs.Subs.{as_live};
-ghost use Rattle.session_state.specs.Calls.{as_phase, as_method, told_by, told_now_by};
+ghost use Rattle.session_state.specs.Calls.{as_phase, as_method, told_by, told_now_by, are_settled};
 ghost use Rattle.session_state.specs.Progress.{nowhere, with_cursor, progress_with, is_open_by, turned_phase};
 
 use crate::calls::{Method, Phase};
@@ -145,17 +145,21 @@ fn push_told(ids: &mut Names, id: &Text, phase: Phase, progress: &Progress) -> R
 }
 
 /// The ids of the calls whose fences are open, by rising number, once the call of this number is
-/// found to have ended at that place.
+/// found to have ended at that place. It looks at none of the first ones, which are settled.
 pub(crate) fn updated_ids(
     alloc: Global,
     methods: &[Method],
+    passed: usize,
     ended: Option<(u64, u64)>,
     progress: &Progress,
 ) -> Result<Names, Mem>
+    requires settled { are_settled passed (map as_method methods.now) ≡ true }
+    requires before { IfSome ended (λ e. passed ≤ e.0) }
     ensures { IfOk result (λ ids. ids ≡ told_by progress.now ended (map as_method methods.now)) }
 {
     let mut ids = Names::new(alloc);
-    for (place, method) in methods.iter().enumerate() {
+    for place in passed..methods.len() {
+        let method = &methods[place];
         let phase = phase_with(ended, place, method.phase);
         push_told(&mut ids, &method.id, phase, progress)?;
     }

@@ -3,4 +3,4 @@
 
 mod tasks;
 
-pub use tasks::{Feed, Place, Work, tasks_of};
+pub use tasks::{Feed, Place, Work, running, tasks_of};

@@ -1,7 +1,7 @@
 //! The listing of what is to be done.
-ghost use Rattle.std.specs.Prelude.{◌≡◌, ◌++◌, map, option_map, IfOk, OnOk};
+ghost use Rattle.std.specs.Prelude.{◌≡◌, ◌++◌, map, true, option_map, IfOk, OnOk};
 ghost use Rattle.session_state.specs.Subs.{as_live};
-ghost use Rattle.session_state.specs.Calls.{as_phase, as_method};
+ghost use Rattle.session_state.specs.Calls.{as_phase, as_method, are_settled};
 ghost use Rattle.session_state.specs.Own.{as_state, as_blocking};
 ghost use Rattle.session_work.specs.Work.{as_work, work_of, as_place, as_source, source_of, unloaded_by, unloaded_in, cursors_by, cursors_in, feeds_by, feeds_in, running_by, running_from};
 
@@ -133,14 +133,23 @@ fn push_running(running: &mut Vec<u64>, place: usize, method: &Method) -> Result
     Ok(())
 }
 
-fn running(alloc: Global, methods: &[Method]) -> Result<Vec<u64>, Mem>
+// None of the first ones is looked at, which are settled.
+fn running_behind(alloc: Global, methods: &[Method], settled: usize) -> Result<Vec<u64>, Mem>
+    requires { are_settled settled (map as_method methods.now) ≡ true }
     ensures { IfOk result (λ made. made.items ≡ running_from 0 (map as_method methods.now)) }
 {
     let mut running = Vec::new(alloc);
-    for (place, method) in methods.iter().enumerate() {
-        push_running(&mut running, place, method)?;
+    for place in settled..methods.len() {
+        push_running(&mut running, place, &methods[place])?;
     }
     Ok(running)
+}
+
+/// The calls that run, by rising number.
+pub fn running(alloc: Global, own: &Own) -> Result<Vec<u64>, Mem>
+    ensures { IfOk result (λ made. made.items ≡ running_from 0 (as_state own.now).methods) }
+{
+    running_behind(alloc, own.methods.as_slice(), own.settled)
 }
 
 /// What is to be done.
@@ -151,7 +160,7 @@ pub fn tasks_of(alloc: Global, own: &Own) -> Result<Work, Mem>
     let unloaded = unloaded(alloc, subs)?;
     let cursors = cursors(alloc, subs)?;
     let feeds = feeds(alloc, subs)?;
-    let running = running(alloc, own.methods.as_slice())?;
+    let running = running(alloc, own)?;
     let call = copy_call(&own.blocking)?;
     Ok(Work {
         call,

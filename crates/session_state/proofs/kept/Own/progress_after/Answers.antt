@@ -7,7 +7,7 @@ use Rattle.session_state.specs.declared.own.Step.TheVariants as step
 use Rattle.session_state.specs.Subs.{as_live}
 use Rattle.session_state.specs.Progress.{progress_of, progress_is}
 use Rattle.session_state.specs.Own.{as_state, stepped}
-use Rattle.session_state.proofs.own.Own.progress_after.Goals as goal
+use Rattle.session_state.proofs.kept.Own.progress_after.Goals as goal
 
 quiet : (s : Step) (st : State) → ((x : Sub) → s ≡ step.Open x → ⊥) → ((n p : ℕ) → s ≡ step.Show n p → ⊥) → ((n : ℕ) → s ≡ step.Close n → ⊥) → progress_of st.subs ≡ progress_of (stepped s st).subs
 quiet (step.Open x) st not_open not_show not_close = absurd (not_open x refl)
