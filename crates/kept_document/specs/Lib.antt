@@ -3,3 +3,4 @@ pub mod Held
 pub mod Forms
 pub mod Changes
 pub mod Sides
+pub mod Row
