@@ -108,7 +108,7 @@ impl Asked<'_> {
 
     // The subscription is opened.
     fn open(&self, shown_id: Text, made: Sub) -> Addition
-        ensures { (m : ClientMessage) (cursors : ACursors) → id_of m ≡ shown_id → as_live made ≡ opening (state_in self.now) (state_in self.now).opened m cursors →
+        ensures { (m : ClientMessage) (cursors : ACursors) → id_of m ≡ shown_id → made.observer ≡ None → as_live made ≡ opening (state_in self.now) (state_in self.now).opened m cursors →
             Adds self.now (item.subscribe (state_in self.now).opened m cursors) result }
     {
         Addition {

@@ -1,0 +1,8 @@
+use Rattle.std.proofs.Common.{subst}
+use Rattle.session_laws.specs.Session.{ASession}
+use Rattle.session_laws.specs.Events.{Learns}
+use Rattle.session.specs.Kept.{seen}
+use Rattle.session.proofs.session.Session.learn.Goals as goal
+
+pub returns : goal.returns
+returns c = subst (λ (s : ASession). Learns c.args.k c.args.status.now s (seen c.learn.new.inner) c.learn.result) c.self.view_is c.learn.ensures.learns

@@ -1,0 +1,11 @@
+use Rattle.std.proofs.Common.{List, map, ap, ◌∙◌}
+use Rattle.journal_model.specs.Subscriptions.{sub_named}
+use Rattle.session_state.specs.declared.subs.Sub.{Sub}
+use Rattle.session_state.specs.Subs.{as_live}
+use Rattle.session_laws.specs.Session.{ASession}
+use Rattle.session.proofs.session.Session.sub_of.Goals as goal
+
+pub returns : goal.returns
+returns c =
+    c.sub_named.ensures
+    ∙ (ap (λ (xs : List Sub). sub_named c.args.id.now (map as_live xs)) c.as_slice.ensures.value ∙ ap (λ (s : ASession). sub_named c.args.id.now s.carried.own.subs) c.self.view_is)

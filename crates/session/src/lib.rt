@@ -1,0 +1,19 @@
+//! A session of the server: many overlapping subscriptions, methods in a queue, and fences (Meteor's DDP.md).
+#![tactic(auto)]
+
+mod handling;
+mod inner;
+mod learning;
+mod outside;
+mod session;
+mod showing;
+mod taking;
+
+pub use history_log::Batch;
+pub use session::Session;
+pub use session_journal::Line;
+pub use session_laws::EventFault;
+pub use session_relation::Stored;
+pub use session_state::Call;
+pub use session_texts::Texts;
+pub use session_work::{Feed, Place, Work};
