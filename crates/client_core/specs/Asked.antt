@@ -10,7 +10,7 @@ use Rattle.view_model.specs.Views.{simulated}
 use Rattle.ejson_value.specs.declared.change.Change.{Change}
 use Rattle.ejson_value.specs.Key.{key_cmp}
 use Rattle.ejson_value.specs.Changes.{changes_of}
-use Rattle.ejson_value.specs.ChangeLaws.{AllFit}
+use Rattle.ejson_value.specs.ChangeLaws.{AllFit, HaveDistinctKeys}
 use Rattle.ejson_value.specs.Rows.{Rows}
 use Rattle.program_model.specs.Steps.{Stepped}
 use Rattle.stub_simulation.specs.declared.simulation.Simulated.{Simulated}
@@ -56,9 +56,10 @@ Calls method params old new (Ok number) = (can_call old.client ≡ true) × (num
 Calls method params old new (Err Idle) = (can_call old.client ≡ false) × (new ≡ old)
 Calls method params old new (Err Memory) = new ≡ old
 
--- the changes are of what the rows have, and of documents that are touched
+-- the changes are of different documents, each of what the rows have, and of documents that are touched
 pub record AreOf (rows : Rows) (s : Simulated) : Type 0 where
   pub fit : AllFit rows s.changes
+  pub apart : HaveDistinctKeys s.changes
   pub among : All (λ (c : Change). list_any (eq_by_cmp key_cmp c.key) s.touched ≡ true) s.changes
 
 -- the call's text waits, and what it simulated is shown

@@ -6,6 +6,8 @@ ghost use Rattle.program_steps.specs.Runs.{outcome_view};
 ghost use Rattle.client_model.specs.Client.{new_client};
 ghost use Rattle.client_model.specs.Asking.{is_connected, can_sub, subscribed, can_unsub, unsubscribed, can_send, with_text, outcome_of, is_settled, seed_of, call_limit};
 ghost use Rattle.client_model.specs.Showing.{IsShown};
+ghost use Rattle.ejson_value.specs.View.{view as value_view};
+ghost use Rattle.stub_simulation.specs.Simulating.{simulation, IsSimulated};
 ghost use Rattle.client_core.specs.Asked.{Does, Calls, AreOf, IsEntered, IsSent, asked_for, called_by};
 ghost use Rattle.client_core.specs.State.{show_lines};
 ghost use Rattle.client_parts.specs.Lines.{line_texts};
@@ -24,7 +26,7 @@ use program_steps::Outcome;
 use std::alloc::Global;
 use std::collections::VecDeque;
 use std::marker::Model;
-use stub_simulation::{Simulated, simulate};
+use stub_simulation::{Simulated, simulate_over};
 
 /// How many calls a client makes.
 const CALL_LIMIT: usize = 65_536;
@@ -231,6 +233,22 @@ impl Client {
         Ok(())
     }
 
+    // What the method's stub does to the view.
+    fn simulated(&self, method: &Text, params: &Items, seed: &Value) -> Result<Simulated, Mem>
+        ensures { IfOk result (IsSimulated self.now.client.documents.view (simulation self.now.app method.now params.now (value_view seed.now) self.now.client.documents.view)) }
+    {
+        let view = &self.view;
+        simulate_over(
+            self.alloc,
+            &self.app,
+            method,
+            params,
+            seed,
+            view.contents(),
+            view.bytes(),
+        )
+    }
+
     // Makes the call of this number, whose ids are drawn from the seed.
     fn make_call(
         &mut self,
@@ -248,8 +266,7 @@ impl Client {
         let alloc = self.alloc;
         let text = texts::method(alloc, number, method, params, &seed)?;
         let seed = Value::Text(seed);
-        let contents = self.view.contents();
-        let simulated = simulate(alloc, &self.app, method, params, &seed, contents)?;
+        let simulated = self.simulated(method, params, &seed)?;
         self.enter_call(number, text, &simulated)
     }
 

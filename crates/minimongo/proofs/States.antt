@@ -2,12 +2,12 @@
 use Rattle.std.proofs.Common.{◌≡◌, ◌≢◌, ℕ, Bool, true, false, cond, not, ◌||◌, List, [], ◌∷◌, map, All, Option, Some, None, Result, Err, is_some, IfSome, IsTrue, ◌↔◌, unwrap_or, refl, sym, ap, ap₂, ◌∙◌, subst, true≢false}
 use Rattle.std.specs.Prelude.{option_and_then}
 use Rattle.std.specs.Option.{option_or}
-use Rattle.std.specs.List.{list_any}
+use Rattle.std.specs.List.{list_any, IsDistinct}
 use Rattle.std.specs.List.Sorted.{IsStrictlySortedBy}
 use Rattle.std.specs.Map.{keys_of}
 use Rattle.std.specs.Ordering.{eq_by_cmp}
 use Rattle.std.proofs.lemmas.List.Elements.{All-nil, All-cons, All-head, All-tail}
-use Rattle.std.proofs.lemmas.Map.Keys.{sorted_tail}
+use Rattle.std.proofs.lemmas.Map.Keys.{sorted_tail, IsDistinct-from_sorted}
 use Rattle.map_model.specs.Maps.{at, set, IsSorted}
 use Rattle.map_model.specs.MapLaws.{same_maps, key_is, eq_by_cmp-self, at-set, sorted-set, at-tail, at-filter_map_entries, sorted-filter_map_entries}
 use Rattle.map_model.specs.Changes.{changed, last_at}
@@ -24,6 +24,7 @@ use Rattle.ejson_value.specs.declared.change.Change.{Change}
 use Rattle.ejson_value.specs.Key.{key_cmp, key_order}
 use Rattle.ejson_value.specs.Rows.{Rows, AreRows}
 use Rattle.ejson_value.specs.Changes.{changes_of}
+use Rattle.ejson_value.specs.ChangeLaws.{HaveDistinctKeys}
 use Rattle.reconcile.specs.declared.save.Save.{Save}
 use Rattle.reconcile.specs.declared.fault.Served.{Served}
 use Rattle.reconcile.specs.declared.fault.Served.TheVariants as from
@@ -282,6 +283,16 @@ last_restored rows (save ∷ saves) q s =
 pub restores_fit : (rows : Rows) (saves : List Save) → All (λ (c : Change). at key_cmp rows c.key ≡ c.before) (map (restored rows) saves)
 restores_fit rows [] = All-nil (λ (c : Change). at key_cmp rows c.key ≡ c.before)
 restores_fit rows (save ∷ saves) = All-cons (λ (c : Change). at key_cmp rows c.key ≡ c.before) (restored rows save) (map (restored rows) saves) refl (restores_fit rows saves)
+
+-- and are of different documents
+pub restores_apart : (ns : List ℕ) (rows : Rows) (os : Originals) (saves : List Save) → AreOriginals os → saves_of saves ≡ due ns os → HaveDistinctKeys (map (restored rows) saves)
+restores_apart ns rows os saves o are =
+    subst (IsDistinct (eq_by_cmp key_cmp)) (sym (restored_keys rows saves))
+    (IsDistinct-from_sorted key_cmp (keys_of (saves_of saves)) (subst (IsSorted key_cmp) (sym are) (sorted-filter_map_entries key_cmp (λ k original. due_at (is_among ns) (Some original)) os o.by_key)))
+  where
+    restored_keys : (rows : Rows) (saves : List Save) → map (λ (c : Change). c.key) (map (restored rows) saves) ≡ keys_of (saves_of saves)
+    restored_keys rows [] = refl
+    restored_keys rows (save ∷ saves) = ap (λ ks. save.key ∷ ks) (restored_keys rows saves)
 
 module _ (ns : List ℕ) (rows rows' : Rows) (os os' : Originals) (saves : List Save) (r : AreRows rows) (o : AreOriginals os) (sorted : IsSorted key_cmp os') (are : saves_of saves ≡ due ns os) (made : rows' ≡ changed key_cmp rows (changes_of (map (restored rows) saves))) (gone : IsForgotten ns os os') where
   sorted_due : IsSorted key_cmp (saves_of saves)

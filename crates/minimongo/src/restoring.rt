@@ -10,6 +10,7 @@ ghost use Rattle.minimongo.specs.Faults.{IsFitting};
 ghost use Rattle.minimongo.specs.Restored.{saves_at, restored};
 
 use crate::fault::ViewFault;
+use counted_contents::CountedContents;
 use ejson_value::{Change, Changes, Contents, DataMsg, Doc, Key, Keys, Mem, copy_option};
 use reconcile::{Save, Saves, key_of, taken};
 use std::alloc::Global;
@@ -71,7 +72,7 @@ pub(crate) fn restoring(alloc: Global, contents: &Contents, saves: &Saves) -> Re
 }
 
 /// Takes a message about a document.
-pub(crate) fn take(contents: &mut Contents, message: &DataMsg) -> Result<(), ViewFault>
+pub(crate) fn take(contents: &mut CountedContents, message: &DataMsg) -> Result<(), ViewFault>
     ensures fits { IsFitting (at key_cmp contents.old (said message.now).0) (said message.now).1 result }
     ensures ok { OnOk result (contents.new ≡ set key_cmp contents.old (said message.now).0
         (taken text_cmp (at key_cmp contents.old (said message.now).0) (said message.now).1)) }

@@ -12,12 +12,15 @@ ghost use Rattle.ejson_value.specs.declared.key.Key.{Key};
 ghost use Rattle.ejson_value.specs.Key.{key_cmp};
 ghost use Rattle.ejson_value.specs.Messages.{said};
 ghost use Rattle.ejson_value.specs.Changes.{changes_of, news_of};
+ghost use Rattle.ejson_value.specs.ChangeLaws.{HaveDistinctKeys};
+ghost use Rattle.collection_store.specs.Limits.{bytes_of};
 ghost use Rattle.minimongo.specs.Faults.{IsFitting};
 ghost use Rattle.minimongo.specs.Finding.{matching, published};
 
 use crate::fault::ViewFault;
 use crate::finding::find;
 use crate::restoring::{restoring, saves_at, take};
+use counted_contents::CountedContents;
 use ejson_value::{Changes, Contents, DataMsg, Keys, Mem, Publishes, Text};
 use reconcile::{Originals, Served};
 use selector_match::Selector;
@@ -29,7 +32,7 @@ use std::marker::Model;
 #[derive(Drop)]
 pub struct View {
     alloc: Global,
-    contents: Contents,
+    contents: CountedContents,
     originals: Originals,
 }
 
@@ -50,7 +53,7 @@ impl View {
     {
         View {
             alloc,
-            contents: Contents::new(alloc),
+            contents: CountedContents::new(alloc),
             originals: Originals::new(alloc),
         }
     }
@@ -75,7 +78,14 @@ impl View {
     pub fn contents(&self) -> &Contents
         ensures { result.now ≡ self.now.view }
     {
-        &self.contents
+        self.contents.contents()
+    }
+
+    /// How many bytes the shown documents have. It looks at none of them.
+    pub fn bytes(&self) -> u64
+        ensures { result ≡ bytes_of self.now.view }
+    {
+        self.contents.bytes()
     }
 
     /// The documents of the collection that the selector holds of, by id. Where the selector names an
@@ -83,7 +93,7 @@ impl View {
     pub fn find(&self, collection: &Text, selector: &Selector) -> Result<Publishes, Mem>
         ensures { IfOk result (λ found. news_of found ≡ published (matching collection.now selector.now self.now.view)) }
     {
-        find(self.alloc, &self.contents, collection, selector)
+        find(self.alloc, self.contents.contents(), collection, selector)
     }
 
     /// Takes a message of the server about a document (Meteor's DDP.md, "Managing Data"). It is shown
@@ -110,13 +120,14 @@ impl View {
     pub fn simulate(&mut self, method: u32, changes: &Changes, touched: &Keys) -> Result<(), Mem>
         requires free { (k : Key) → is_among (holders key_cmp self.old.pending k) method ≡ false }
         requires fit { All (λ change. at key_cmp self.old.view change.key ≡ change.before) changes.now }
+        requires apart { HaveDistinctKeys changes.now }
         requires among { All (λ change. list_any (eq_by_cmp key_cmp change.key) touched.now ≡ true) changes.now }
         ensures ok { OnOk result (self.new ≡ simulated key_cmp method (changed key_cmp self.old.view (changes_of changes.now)) touched.now self.old) }
         ensures err { OnErr result (self.new ≡ self.old) }
     {
         self.originals.known();
         self.contents.known();
-        let saves = saves_at(self.alloc, &self.contents, touched)?;
+        let saves = saves_at(self.alloc, self.contents.contents(), touched)?;
         self.originals.save(method, &saves)?;
         self.originals.known();
         match self.contents.put_all(changes) {
@@ -138,7 +149,7 @@ impl View {
         self.originals.known();
         self.contents.known();
         let saves = self.originals.due(methods)?;
-        let changes = restoring(self.alloc, &self.contents, &saves)?;
+        let changes = restoring(self.alloc, self.contents.contents(), &saves)?;
         self.contents.put_all(&changes)?;
         self.originals.forget(methods);
         self.originals.known();

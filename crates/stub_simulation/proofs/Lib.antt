@@ -1,2 +1,5 @@
-pub mod Stepping
+pub mod Overlay
+pub mod Windows
+pub mod Following
 pub mod Meaning
+pub mod Stepping

@@ -63,7 +63,7 @@ is_some_cond : (b : Bool) (o : Option (Unit {0})) → is_some (cond b (Some tt) 
 is_some_cond true o = refl
 is_some_cond false o = refl
 
-among_put : (ks : List Key) (k q : Key) → list_any (eq_by_cmp key_cmp q) (insert_key key_cmp ks k) ≡ (eq_by_cmp key_cmp q k || list_any (eq_by_cmp key_cmp q) ks)
+pub among_put : (ks : List Key) (k q : Key) → list_any (eq_by_cmp key_cmp q) (insert_key key_cmp ks k) ≡ (eq_by_cmp key_cmp q k || list_any (eq_by_cmp key_cmp q) ks)
 among_put ks k q =
     ap (list_any (eq_by_cmp key_cmp q)) (sym (ap keys_of (bare_put ks k) ∙ bare_keys (insert_key key_cmp ks k)))
     ∙ sym (is_some-at key_cmp (insert_entry key_cmp (bare ks) k tt) q)
@@ -192,6 +192,10 @@ is_simulated view stepped s sorted on changes touched =
 pub if_ok_both : {X E : Type 0} {P Q R : X → Type 0} (r : Result X E) → ((x : X) → P x → Q x → R x) → IfOk r P → IfOk r Q → IfOk r R
 if_ok_both (Ok x) f p q = f x p q
 if_ok_both (Err e) f p q = tt
+
+pub if_ok_weaker : {X E : Type 0} {P Q : X → Type 0} (r : Result X E) → ((x : X) → P x → Q x) → IfOk r P → IfOk r Q
+if_ok_weaker (Ok x) f p = f x p
+if_ok_weaker (Err e) f p = tt
 
 -- nothing is simulated where there is no stub
 pub no_simulation : (view : Rows) (run : Run) (s : Simulated) → s.changes ≡ [] → s.touched ≡ [] → IsSimulated view (unchanged view run) s

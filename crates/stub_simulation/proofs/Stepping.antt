@@ -8,56 +8,25 @@ use Rattle.std.specs.BTreeSet.{insert_key}
 use Rattle.ejson_value.specs.declared.key.Key.{Key}
 use Rattle.ejson_value.specs.declared.change.Change.{Change}
 use Rattle.ejson_value.specs.Key.{key_cmp}
-use Rattle.collection_store.specs.State.{StoreState}
 use Rattle.program_steps.specs.declared.step.ProgramStep.{ProgramStep}
 use Rattle.program_steps.specs.Runs.{Outcome}
 use Rattle.value_model.specs.Val.{Val}
 use Rattle.ejson_value.specs.Rows.{Rows}
 use Rattle.program_model.specs.Run.{Run, begun}
 use Rattle.program_model.specs.Steps.{Setting, Stepped, stepped, stepped_by, further, all_stepped, unchanged, whole_run, client_setting, stub_room}
-use Rattle.program_run.specs.declared.run.Effect.{Effect}
 use Rattle.program_run.specs.Progress.{Progress, run_of, left_of}
-use Rattle.program_run.specs.Planned.{setting_of, stepped_as}
-use Rattle.stub_simulation.specs.declared.traces.Traces.{Traces}
 use Rattle.stub_simulation.specs.Simulating.{keys_put, each_once, changed_keys}
-use Rattle.stub_simulation.specs.Left.{IsLeft}
 
-keys_put-append : (keys xs ys : List Key) → keys_put keys (xs ++ ys) ≡ keys_put (keys_put keys xs) ys
+pub keys_put-append : (keys xs ys : List Key) → keys_put keys (xs ++ ys) ≡ keys_put (keys_put keys xs) ys
 keys_put-append keys [] ys = refl
 keys_put-append keys (x ∷ xs) ys = keys_put-append (insert_key key_cmp keys x) xs ys
 
--- one step more
-pub further_left : (steps : List ProgramStep) (so_far : Stepped) (store after : StoreState) (run next : Progress) (old new : Traces) (effect : Effect)
-    → IsLeft steps so_far store run old
-    → stepped (setting_of None store stub_room) store.rows (run_of steps run) ≡ stepped_as after.rows effect (run_of steps next)
-    → new.changed.keys ≡ keys_put old.changed.keys (changed_keys effect.changes) → new.touched.keys ≡ keys_put old.touched.keys effect.touched
-    → IsLeft steps (further (client_setting store.names) so_far) after next new
-further_left steps so_far store after run next old new effect w does changed touched =
-    let s = client_setting store.names in
-    let made : stepped s so_far.rows so_far.run ≡ stepped_as after.rows effect (run_of steps next) =
-    ap₂ (stepped s) (sym w.left.rows) (sym w.run) ∙ does in
-    record {
-      left = record {
-        rows = sym (ap (λ (x : Stepped). x.rows) made);
-        changed =
-            changed ∙ ap (λ ks. keys_put ks (changed_keys effect.changes)) w.left.changed
-            ∙ sym (keys_put-append [] (changed_keys so_far.changes) (changed_keys effect.changes))
-            ∙ ap each_once (sym (map-append (λ (c : Change). c.key) so_far.changes effect.changes))
-            ∙ ap (λ (x : Stepped). each_once (changed_keys (so_far.changes ++ x.changes))) (sym made);
-        touched =
-            touched ∙ ap (λ ks. keys_put ks effect.touched) w.left.touched
-            ∙ sym (keys_put-append [] so_far.touched effect.touched)
-            ∙ ap (λ (x : Stepped). each_once (so_far.touched ++ x.touched)) (sym made);
-      };
-      run = sym (ap (λ (x : Stepped). x.run) made);
-    }
-
-append-nil : {A : Type 0} (xs : List A) → xs ++ [] ≡ xs
+pub append-nil : {A : Type 0} (xs : List A) → xs ++ [] ≡ xs
 append-nil [] = refl
 append-nil (x ∷ xs) = ap (λ ys. x ∷ ys) (append-nil xs)
 
 -- a run that has ended makes no step
-over_stays : (s : Setting) (so_far : Stepped) (run : Run) → so_far.run ≡ run → run.left ≡ [] → further s so_far ≡ so_far
+pub over_stays : (s : Setting) (so_far : Stepped) (run : Run) → so_far.run ≡ run → run.left ≡ [] → further s so_far ≡ so_far
 over_stays s so_far run is over =
     let none : so_far.run.left ≡ [] = ap (λ (r : Run). r.left) is ∙ over in
     stays none

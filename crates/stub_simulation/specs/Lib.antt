@@ -1,2 +1,2 @@
 pub mod Simulating
-pub mod Left
+pub mod Drafts

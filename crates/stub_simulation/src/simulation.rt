@@ -1,26 +1,27 @@
 //! Running a stub.
-ghost use Rattle.std.specs.Prelude.{◌≡◌, [], map, IfOk, OnOk};
+ghost use Rattle.std.specs.Prelude.{◌≡◌, [], map, length, IfOk};
 ghost use Rattle.std.specs.Option.{option_copied};
 ghost use Rattle.map_model.specs.Maps.{at};
 ghost use Rattle.ejson_value.specs.Key.{key_cmp};
 ghost use Rattle.ejson_value.specs.View.{view as value_view};
 ghost use Rattle.app_model.specs.App.{method as method_of};
 ghost use Rattle.program_model.specs.Run.{begun};
-ghost use Rattle.program_model.specs.Steps.{Stepped, steps_of, stub_of, client_setting, further, all_stepped, whole_run};
+ghost use Rattle.program_model.specs.Steps.{steps_of, stub_of, client_setting, whole_run};
+ghost use Rattle.collection_store.specs.Limits.{bytes_of};
 ghost use Rattle.stub_simulation.specs.Simulating.{simulation, change_at, IsSimulated};
-ghost use Rattle.stub_simulation.specs.Left.{IsLeft, IsLeftBy};
+ghost use Rattle.stub_simulation.specs.Drafts.{IsLeftBy};
 
+use crate::draft::Draft;
+use crate::fitting::Totals;
+use crate::steps::{StubCall, make_steps};
 use crate::traces::Traces;
 use app_model::App;
-use collection_store::Store;
-use ejson_value::{Change, Changes, Contents, Doc, Items, Key, Keys, Mem, Names, Text, Value};
+use counted_contents::bytes_in;
+use ejson_value::{Change, Changes, Contents, Doc, Items, Key, Keys, Mem, Text, Value};
 use program_run::Run;
-use program_steps::{ProgramStep, ProgramSteps};
+use program_steps::ProgramSteps;
 use std::alloc::Global;
 use std::collections::BTreeSet;
-
-/// How many bytes the new documents of one step of a stub may have.
-const STUB_ROOM: u64 = 134_217_728;
 
 /// What a simulation does: the documents that differ from the view, each once and by key, and the
 /// keys of those that the stub inserted, changed, matched or removed, each once and rising.
@@ -40,55 +41,16 @@ fn stub_of<'a>(app: &'a App, method: &Text) -> Option<&'a ProgramSteps>
     }
 }
 
-// One step more.
-fn make_step(
-    alloc: Global,
-    steps: &[ProgramStep],
-    run: &mut Run,
-    store: &mut Store,
-    traces: &mut Traces,
-) -> Result<(), Mem>
-    ensures names { store.new.names ≡ store.old.names }
-    ensures left { OnOk result ((so_far : Stepped) → IsLeft steps.now so_far store.old run.old traces.old → IsLeft steps.now (further (client_setting store.old.names) so_far) store.new run.new traces.new) }
+// Runs the steps over the view, and answers what they left.
+fn run_stub(call: &StubCall, seed: &Value, totals: Totals) -> Result<Draft, Mem>
+    requires documents { totals.documents ≡ length call.now.view.now }
+    requires bytes { totals.bytes ≡ bytes_of call.now.view.now }
+    ensures { IfOk result (λ draft. IsLeftBy call.now.view.now (whole_run (client_setting call.now.names.now) call.now.view.now (begun call.now.params.now (value_view seed.now) call.now.steps.now)) draft) }
 {
-    let effect = run.step(alloc, steps, None, store, STUB_ROOM)?;
-    traces.add(&effect)?;
-    Ok(())
-}
-
-// As many steps as there are, up to the run's end.
-fn make_steps(
-    alloc: Global,
-    steps: &[ProgramStep],
-    run: &mut Run,
-    store: &mut Store,
-    traces: &mut Traces,
-) -> Result<(), Mem>
-    ensures { OnOk result ((so_far : Stepped) → IsLeft steps.now so_far store.old run.old traces.old → IsLeft steps.now (all_stepped (client_setting store.old.names) steps.now so_far) store.new run.new traces.new) }
-{
-    for _step in steps {
-        if run.outcome().is_some() {
-            return Ok(());
-        }
-        make_step(alloc, steps, run, store, traces)?;
-    }
-    Ok(())
-}
-
-// Runs the steps over the store, and answers which documents they changed and touched.
-fn run_stub(
-    alloc: Global,
-    steps: &[ProgramStep],
-    params: &Items,
-    seed: &Value,
-    store: &mut Store,
-) -> Result<Traces, Mem>
-    ensures { IfOk result (λ traces. IsLeftBy (whole_run (client_setting store.old.names) store.old.rows (begun params.now (value_view seed.now) steps.now)) store.new traces) }
-{
-    let mut run = Run::begin(alloc, steps, params, seed)?;
-    let mut traces = Traces::new(alloc);
-    make_steps(alloc, steps, &mut run, store, &mut traces)?;
-    Ok(traces)
+    let mut run = Run::begin(call.alloc, call.steps, call.params, seed)?;
+    let mut draft = Draft::new(call.alloc, totals);
+    make_steps(call, &mut run, &mut draft)?;
+    Ok(draft)
 }
 
 // A copy of what stands at the key.
@@ -153,26 +115,56 @@ fn differences(
     })
 }
 
-fn simulate_steps(
-    alloc: Global,
-    names: &Names,
-    steps: &[ProgramStep],
-    params: &Items,
-    seed: &Value,
-    view: &Contents,
-) -> Result<Simulated, Mem>
-    ensures { IfOk result (IsSimulated view.now (whole_run (client_setting names.now) view.now (begun params.now (value_view seed.now) steps.now))) }
+fn simulate_steps(call: &StubCall, seed: &Value, bytes: u64) -> Result<Simulated, Mem>
+    requires { bytes ≡ bytes_of call.now.view.now }
+    ensures { IfOk result (IsSimulated call.now.view.now (whole_run (client_setting call.now.names.now) call.now.view.now (begun call.now.params.now (value_view seed.now) call.now.steps.now))) }
 {
-    view.known();
-    let mut store = Store::over(alloc, names, view.copy()?)?;
-    let traces = run_stub(alloc, steps, params, seed, &mut store)?;
-    differences(alloc, view, store.contents(), &traces)
+    call.view.known();
+    let totals = Totals {
+        documents: call.view.len(),
+        bytes,
+    };
+    let draft = run_stub(call, seed, totals)?;
+    differences(call.alloc, call.view, &draft.left, &draft.traces)
 }
 
 /// Runs the method's stub on a view of the documents, whose collections are those of the application,
 /// until it ends, throws or is refused; what it wrote before that stays. It draws the ids that the
 /// method draws with the same seed. A method without a stub, or one that the application doesn't
-/// have, does nothing.
+/// have, does nothing. The documents of the view have this many bytes. It costs what the stub's steps
+/// look at and what they write, whatever else the view has.
+pub fn simulate_over(
+    alloc: Global,
+    app: &App,
+    method: &Text,
+    params: &Items,
+    seed: &Value,
+    view: &Contents,
+    bytes: u64,
+) -> Result<Simulated, Mem>
+    requires { bytes ≡ bytes_of view.now }
+    ensures { IfOk result (IsSimulated view.now (simulation app.now method.now params.now (value_view seed.now) view.now)) }
+{
+    match stub_of(app, method) {
+        Some(steps) => {
+            let call = StubCall {
+                alloc,
+                names: app.collections(),
+                steps: steps.as_slice(),
+                params,
+                view,
+            };
+            simulate_steps(&call, seed, bytes)
+        }
+        None => Ok(Simulated {
+            changes: Changes::new(alloc),
+            touched: Keys::new(alloc),
+        }),
+    }
+}
+
+/// The same where nobody knows how many bytes the view's documents have: it looks once at each of
+/// them.
 pub fn simulate(
     alloc: Global,
     app: &App,
@@ -183,18 +175,6 @@ pub fn simulate(
 ) -> Result<Simulated, Mem>
     ensures { IfOk result (IsSimulated view.now (simulation app.now method.now params.now (value_view seed.now) view.now)) }
 {
-    match stub_of(app, method) {
-        Some(steps) => simulate_steps(
-            alloc,
-            app.collections(),
-            steps.as_slice(),
-            params,
-            seed,
-            view,
-        ),
-        None => Ok(Simulated {
-            changes: Changes::new(alloc),
-            touched: Keys::new(alloc),
-        }),
-    }
+    let bytes = bytes_in(view)?;
+    simulate_over(alloc, app, method, params, seed, view, bytes)
 }

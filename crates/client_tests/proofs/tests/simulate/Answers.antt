@@ -1,17 +1,25 @@
 use Rattle.std.proofs.Common.{◌≡◌, true, List, [], ◌∷◌, All, ap, ◌||◌, false, sym, subst, refl, ◌∙◌}
-use Rattle.std.specs.List.{list_any}
+use Rattle.std.specs.List.{list_any, IsDistinct}
 use Rattle.std.specs.Ordering.{eq_by_cmp}
 use Rattle.std.proofs.lemmas.List.Elements.{All-nil, All-cons}
 use Rattle.map_model.specs.MapLaws.{eq_by_cmp-self}
 use Rattle.ejson_value.specs.declared.key.Key.{Key}
 use Rattle.ejson_value.specs.declared.change.Change.{Change}
 use Rattle.ejson_value.specs.Key.{key_cmp, key_order}
+use Rattle.ejson_value.specs.ChangeLaws.{HaveDistinctKeys}
 use Rattle.client_tests.proofs.tests.simulate.Goals as goal
 
 alone : (key : Key) (change : Change) → change.key ≡ key → All (λ (c : Change). list_any (eq_by_cmp key_cmp c.key) (key ∷ []) ≡ true) (change ∷ [])
 alone key change is =
     let P = λ (c : Change). list_any (eq_by_cmp key_cmp c.key) (key ∷ []) ≡ true in
     All-cons P change [] (ap (λ k. eq_by_cmp key_cmp k key || false) is ∙ ap (λ b. b || false) (eq_by_cmp-self key_order key)) (All-nil P)
+
+one_apart : (change : Change) → HaveDistinctKeys (change ∷ [])
+unfolding IsDistinct
+one_apart change = (tt, tt)
+
+pub simulate-requires-clause-apart : goal.simulate-requires-clause-apart
+simulate-requires-clause-apart c = subst HaveDistinctKeys (sym c.in_ok-changes.ensures) (one_apart _)
 
 pub simulate-requires-clause-among : goal.simulate-requires-clause-among
 simulate-requires-clause-among c =

@@ -1,17 +1,27 @@
-use Rattle.std.proofs.Common.{refl, subst}
+use Rattle.std.proofs.Common.{ap, subst, ◌∙◌}
+use Rattle.map_model.specs.Maps.{at}
+use Rattle.ejson_value.specs.Key.{key_cmp}
+use Rattle.ejson_value.specs.Rows.{Rows}
 use Rattle.ejson_value.specs.View.{view}
 use Rattle.program_model.specs.Run.{begun}
 use Rattle.program_model.specs.Steps.{Stepped, unchanged, client_setting}
-use Rattle.stub_simulation.specs.Left.{IsLeftBy}
+use Rattle.stub_simulation.specs.declared.fitting.Totals.{Totals}
+use Rattle.stub_simulation.specs.Drafts.{IsLeftBy}
 use Rattle.stub_simulation.proofs.Stepping.{whole}
+use Rattle.stub_simulation.proofs.Following.{first_draft}
 use Rattle.stub_simulation.proofs.simulation.run_stub.Goals as goal
+
+pub make_steps-requires : goal.make_steps-requires
+make_steps-requires c = λ k e. ap (λ (rows : Rows). at key_cmp rows k) c.new-draft.ensures.left
 
 pub returns : goal.returns
 returns c =
-    let rows = c.args.store.now.rows in
-    let run = begun c.args.params.now (view c.args.seed.now) c.args.steps.now in
-    let made = c.in_ok-make_steps.ensures (unchanged rows run) (record {
-      left = record { rows = refl; changed = c.new-traces.ensures.changed; touched = c.new-traces.ensures.touched };
-      run = c.in_ok-run.ensures;
-    }) in
-    subst (λ (s : Stepped). IsLeftBy s c.make_steps.new.store c.make_steps.new.traces) (whole (client_setting c.args.store.now.names) rows c.args.params.now (view c.args.seed.now) c.args.steps.now) made.left
+    let call = c.args.call.now in
+    let rows = call.view.now in
+    let steps = call.steps.now in
+    let run = begun call.params.now (view c.args.seed.now) steps in
+    let begin = c.new-draft.ensures in
+    let made = c.in_ok-make_steps.ensures (unchanged rows run)
+    (first_draft rows call.params.now (view c.args.seed.now) steps c.in_ok-run.run' c.new-draft.result c.in_ok-run.ensures begin.changed begin.touched begin.left begin.made begin.over
+    (ap (λ (t : Totals). t.documents) begin.totals ∙ c.requires.documents) (ap (λ (t : Totals). t.bytes) begin.totals ∙ c.requires.bytes)) in
+    subst (λ (s : Stepped). IsLeftBy rows s c.make_steps.new.draft) (whole (client_setting call.names.now) rows call.params.now (view c.args.seed.now) steps) made.left

@@ -1,3 +1,5 @@
+use Rattle.ejson_value.specs.Rows.{Rows}
+use Rattle.minimongo.specs.Restored.{saves_at}
 use Rattle.std.proofs.Common.{◌≡◌, false, sym, ap, ap₂, subst, ◌∙◌}
 use Rattle.map_model.specs.Changes.{changed}
 use Rattle.view_model.specs.Pending.{is_among, holders}
@@ -5,6 +7,7 @@ use Rattle.view_model.specs.Views.{simulated}
 use Rattle.ejson_value.specs.declared.key.Key.{Key}
 use Rattle.ejson_value.specs.Key.{key_cmp}
 use Rattle.ejson_value.specs.Changes.{changes_of}
+use Rattle.ejson_value.specs.ChangeLaws.{AllFit}
 use Rattle.reconcile.specs.Originals.{saves_of}
 use Rattle.minimongo.specs.State.{Documents, documents_of}
 use Rattle.minimongo.proofs.States.{is_free, is_simulated, is_undone}
@@ -23,6 +26,12 @@ returns-clause-err c =
 
 pub returns-in-Ok-clause-ok : goal.returns-in-Ok-clause-ok
 returns-in-Ok-clause-ok c =
-    is_simulated c.args.method c.self.inside.contents c.self.inside.originals c.save.new.self c.args.touched.now c.in_ok-saves.saves c.known-2.ensures c.known.ensures c.known-3.ensures.by_key c.in_ok-saves.ensures c.in_ok-save.ensures.ok
+    is_simulated c.args.method c.self.inside.contents c.self.inside.originals c.save.new.self c.args.touched.now c.in_ok-saves.saves c.known-2.ensures c.known.ensures c.known-3.ensures.by_key (c.in_ok-saves.ensures ∙ ap (λ (rows : Rows). saves_at rows c.args.touched.now) c.contents.ensures) c.in_ok-save.ensures.ok
     c.args.changes.now c.requires.among c.put_all.new.self c.in-Ok.ensures.ok
     ∙ ap (λ (d : Documents). simulated key_cmp c.args.method (changed key_cmp d.view (changes_of c.args.changes.now)) c.args.touched.now d) c.self.view_is
+
+pub put_all-requires : goal.put_all-requires
+put_all-requires c = record {
+  fit = subst (λ (d : Documents). AllFit d.view c.args.changes.now) (sym c.self.view_is) c.requires.fit;
+  apart = c.requires.apart;
+}

@@ -7,7 +7,7 @@ use Rattle.program_model.specs.Run.{begun}
 use Rattle.program_model.specs.Steps.{whole_run, client_setting, steps_of}
 use Rattle.stub_simulation.specs.Simulating.{IsSimulated}
 use Rattle.stub_simulation.proofs.Meaning.{no_simulation}
-use Rattle.stub_simulation.proofs.simulation.simulate.Goals as goal
+use Rattle.stub_simulation.proofs.simulation.simulate_over.Goals as goal
 
 pub returns-in-Some : goal.returns-in-Some
 returns-in-Some c =

@@ -1,0 +1,7 @@
+use Rattle.std.proofs.Common.{◌≡◌, ◌+◌, ◌<◌, ◌^◌, drop}
+use Rattle.ejson_value.specs.Measure.{capped}
+use Rattle.collection_store.specs.Limits.{old_bytes}
+use Rattle.counted_contents.proofs.sums.old_bytes.Given as goal
+
+abbrev pub invariant-loop-change : goal.invariant-loop-change
+invariant-loop-change l = (capped (l.total + old_bytes (drop l.change-index l.change-items)) ≡ capped (old_bytes l.change-items)) × (l.total < 2 ^ 64)
