@@ -1,5 +1,5 @@
 -- A subscription that is loaded, and one that goes on.
-use Rattle.std.specs.Prelude.{◌≡◌, ℕ, zero, suc, ◌+◌, ◌<◌, ◌≤◌, List, [], length, Bool, true, false, cond, ◌&&◌, ◌||◌, nat_lt, nat_le, Option, None, Some, is_some, Ok, Err, refl}
+use Rattle.std.specs.Prelude.{◌≡◌, ℕ, zero, suc, ◌+◌, ◌<◌, ◌≤◌, ◌==◌, List, [], ◌∷◌, length, Bool, true, false, cond, ◌&&◌, ◌||◌, nat_lt, nat_le, Option, None, Some, is_some, Ok, Err, refl}
 use Rattle.std.proofs.Common.{ap, ap₂, sym, subst, ◌∙◌, arith}
 use Rattle.std.proofs.lemmas.Bool.{ne_eqb, le-leb, lt-leb, lt-ltb}
 use Rattle.map_model.specs.Changes.{Leads}
@@ -17,15 +17,15 @@ use Rattle.history_model.specs.History.{held_at, changes_between}
 use Rattle.history_model.specs.HistoryLaws.{between_leads}
 use Rattle.journal_model.specs.Items.{Item}
 use Rattle.journal_model.specs.Items as item
-use Rattle.journal_model.specs.Subscriptions.{cursor_of, may_load}
-use Rattle.journal_model.specs.State.{State, own_after}
+use Rattle.journal_model.specs.Subscriptions.{Live, cursor_of, may_load}
+use Rattle.journal_model.specs.State.{State, started, own_after}
 use Rattle.journal_model.specs.Moments.{Moment, rows_of, rows_at}
 use Rattle.journal_model.specs.Out.{own_messages}
 use Rattle.session_laws.specs.Session.{ASession, is_at_work, place_on, can_load, can_advance}
 use Rattle.session_relation.specs.Resolved.{resolved}
 use Rattle.session_laws.specs.Storing.{kept_as, shown_id}
 use Rattle.session_laws.specs.Meaning.{Means}
-use Rattle.session_laws.specs.Events.{Outcome, HasDone, Waits, IsSnapshot, Loads, IsBatch, Advances, IsFeed, Feeds}
+use Rattle.session_laws.specs.Events.{Outcome, HasDone, Waits, IsSnapshot, Loads, IsBatch, Advances, IsFeed, Feeds, cursors_at}
 use Rattle.core_model.specs.declared.events.Act.{Act}
 use Rattle.core_model.specs.declared.events.Act.TheVariants as act
 use Rattle.core_model.specs.declared.events.Answer.TheVariants as answer
@@ -33,6 +33,11 @@ use Rattle.core_model.specs.Store.{programs, moments}
 use Rattle.core_model.specs.Conn.{state_in, is_at_work as is_at_work_of}
 use Rattle.core_model.specs.Acts.{with_item, may_advance, enabled, outcome, does as does_of}
 use Rattle.link_laws.specs.Moments.{moments_length, moment_there}
+use Rattle.publication.specs.Published.{published}
+use Rattle.live_observer.specs.Observing.{IsDifference, HaveNoLimit}
+use Rattle.journal_laws.specs.Longer.{IsPlace, AreWithin, within_from}
+use Rattle.session_relation.specs.Stands.{items_of}
+use Rattle.session_laws.specs.Differences.{difference_leads}
 use Rattle.connection_laws.specs.Connection.{AConnection, waiting_of, as_conn, IsConnection}
 use Rattle.connection_laws.specs.Acting.{with_session, Makes}
 use Rattle.connection_laws.specs.Standing.{state_is, at_work_is, idle_of, IsMade, made}
@@ -155,3 +160,43 @@ module _ (app : App) (name : List ℕ) (history : List Entry) (old : AConnection
         (shown_made (act.Advance sub count) (item.advance sub count) (apply sub (news_of news)) refl refl r.done.done r.done.waits (r.keeps old.received C old.sent p.means f))
     feed_makes news f few (Err e) r =
         made app name history (act.Advance sub count) old (with_session s old) p (can_advance sub count old.session) (advance_enabled f.from f.loaded (fed_within f) few) refl refl (Err e) tt r.cause tt
+
+-- ---- where it is, and what it may be fed with
+
+place_within : (n s place : ℕ) (ls : List Live) → AreWithin n ls → cursor_of s ls ≡ Some place → place < n
+place_within n s place [] w e = cc e
+place_within n s place (l ∷ ls) w e =
+    elim (s == l.sub) as (λ b. cond b l.cursor (cursor_of s ls) ≡ Some place → place < n) [
+      | true ↦ λ c. subst (IsPlace n) c w.0
+      | false ↦ λ c. place_within n s place ls w.1 c
+    ] e
+
+module _ (app : App) (name : List ℕ) (history : List Entry) (old : AConnection) (p : IsConnection app name history old) (sub start : ℕ) (is : cursor_of sub old.session.carried.own.subs ≡ Some start) where
+  -- a subscription is loaded at a place of the history
+  pub cursor_within : start ≤ length history
+  cursor_within =
+      let n = old.session.carried.number in
+      let C = moments app n history in
+      let own = old.session.carried.own in
+      let within : AreWithin (length C) own.subs = subst (λ (st : State). AreWithin (length C) st.subs) (sym p.means.stands.own) (within_from old.session.carried.app n C started (items_of old.received old.session.carried) p.means.stands.fits tt) in
+      omega (arith, place_within (length C) sub start own.subs within is, moments_length app n history)
+
+  -- The difference of what its cursors publish there and so many entries on feeds it, where none of them has a limit.
+  pub difference_feeds : (count : ℕ) (news : List Publish) → start + count ≤ length history → HaveNoLimit (cursors_at sub old.session) →
+      IsDifference (published (cursors_at sub old.session) (held_at (programs app) history start).rows) (published (cursors_at sub old.session) (held_at (programs app) history (start + count)).rows) (news_of news) →
+      IsFeed (moments app old.session.carried.number history) sub count news old.session
+  difference_feeds count news le none d =
+      let n = old.session.carried.number in
+      let C = moments app n history in
+      let cursors = cursors_at sub old.session in
+      let before : rows_at C start ≡ (held_at (programs app) history start).rows = ap rows_of (moment_there app n history start (omega (arith, le))) in
+      let later : rows_at C (start + count) ≡ (held_at (programs app) history (start + count)).rows = ap rows_of (moment_there app n history (start + count) le) in
+      record {
+        from = start;
+        loaded = is;
+        within = omega (arith, le, moments_length app n history);
+        no_limit = none;
+        leads = difference_leads cursors (rows_at C start) (rows_at C (start + count)) (news_of news) (p.means.order start) (p.means.order (start + count))
+            (subst (λ (rows : Rows). IsDifference (published cursors rows) (published cursors (rows_at C (start + count))) (news_of news)) (sym before)
+            (subst (λ (rows : Rows). IsDifference (published cursors (held_at (programs app) history start).rows) (published cursors rows) (news_of news)) (sym later) d));
+      }

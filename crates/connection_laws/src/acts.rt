@@ -4,7 +4,10 @@ ghost use Rattle.ejson_value.specs.declared.change.Change.{Change};
 ghost use Rattle.ejson_value.specs.declared.change.Publish.{Publish};
 ghost use Rattle.ejson_value.specs.declared.memory.Mem.{Mem};
 ghost use Rattle.ejson_value.specs.declared.value.Value.{Value as AValue};
+ghost use Rattle.ejson_value.specs.Changes.{news_of};
 ghost use Rattle.ejson_value.specs.Rows.{Rows};
+ghost use Rattle.publication.specs.Published.{published};
+ghost use Rattle.live_observer.specs.Observing.{IsDifference, HaveNoLimit};
 ghost use Rattle.ejson_value.specs.View.{view};
 ghost use Rattle.program_steps.specs.declared.outcome.Status.{Status};
 ghost use Rattle.app_model.specs.App.{App};
@@ -19,7 +22,7 @@ ghost use Rattle.store_machine.specs.State.{MachineState, held_by, begin_answer,
 ghost use Rattle.journal_model.specs.Methods.{Blocking};
 ghost use Rattle.journal_model.specs.Subscriptions.{cursor_of};
 ghost use Rattle.session_laws.specs.Session.{ASession};
-ghost use Rattle.session_laws.specs.Events.{Outcome, Takes, Handles, Loads, Advances, IsFeed, Feeds, Learns, Refuses, Sends};
+ghost use Rattle.session_laws.specs.Events.{Outcome, Takes, Handles, Loads, Advances, IsFeed, Feeds, Learns, Refuses, Sends, cursors_at};
 ghost use Rattle.core_model.specs.declared.events.Act.{Act as AnAct};
 ghost use Rattle.core_model.specs.declared.events.Act.TheVariants as act;
 ghost use Rattle.core_model.specs.declared.events.Answer.TheVariants as answer;
@@ -108,7 +111,17 @@ pub fn subscriptions_go_on()
         nat_le (start + count) (length history) ≡ false → outcome app history (as_conn old) (act.Advance sub count) ≡ answer.Idle }
 {}
 
-/// So does one that is fed.
+/// It shows a place of the history, and the difference of what its cursors publish there and later feeds it, where none of
+/// them has a limit.
+pub fn subscriptions_show_places()
+    ensures within { (app : App) (name : List ℕ) (history : List Entry) (old : AConnection) (sub start : ℕ) → IsConnection app name history old → cursor_of sub old.session.carried.own.subs ≡ Some start → start ≤ length history }
+    ensures feeds { (app : App) (name : List ℕ) (history : List Entry) (old : AConnection) (sub start count : ℕ) (news : List Publish) → IsConnection app name history old →
+        cursor_of sub old.session.carried.own.subs ≡ Some start → start + count ≤ length history → HaveNoLimit (cursors_at sub old.session) →
+        IsDifference (published (cursors_at sub old.session) (held_at (programs app) history start).rows) (published (cursors_at sub old.session) (held_at (programs app) history (start + count)).rows) (news_of news) →
+        IsFeed (moments app old.session.carried.number history) sub count news old.session }
+{}
+
+/// A subscription that is fed goes on too.
 pub fn subscriptions_are_fed()
     ensures { (app : App) (name : List ℕ) (history : List Entry) (old : AConnection) (sub count : ℕ) (news : List Publish) (s : ASession) (result : Outcome) → IsConnection app name history old →
         IsFeed (moments app old.session.carried.number history) sub count news old.session → length history < 18446744073709551616 → Feeds sub count news old.session s result →
