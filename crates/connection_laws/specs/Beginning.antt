@@ -12,10 +12,10 @@ use Rattle.ejson_value.specs.declared.value.Value.{Value}
 use Rattle.ejson_value.specs.declared.value.Value.TheVariants as shape
 use Rattle.ejson_value.specs.View.{view}
 use Rattle.program_steps.specs.declared.outcome.Status.{Status}
-use Rattle.app_model.specs.App.{App}
+use Rattle.app_model.specs.App.{App, method}
 use Rattle.history_model.specs.declared.entry.Entry.{Entry}
 use Rattle.history_model.specs.declared.entry.Entry.TheVariants as entry
-use Rattle.history_model.specs.History.{run_cmp, Begun, status_of, goes_on, held, status_in, status_at, begins, is_full}
+use Rattle.history_model.specs.History.{run_cmp, Begun, status_of, goes_on, held, status_in, status_at, begins, is_full, is_next}
 use Rattle.history_model.specs.BegunLaws.{run_where_begun}
 use Rattle.store_machine.specs.declared.fault.BeginFault.{BeginFault}
 use Rattle.store_machine.specs.declared.fault.BeginFault.TheVariants as fault
@@ -26,6 +26,8 @@ use Rattle.core_model.specs.declared.events.Act.TheVariants as act
 use Rattle.core_model.specs.declared.events.Answer.TheVariants as answer
 use Rattle.core_model.specs.Store.{programs, held_in, value_of}
 use Rattle.core_model.specs.Acts.{is_kept, without_run, unbegun, is_refused, begin_entry, begun, refusal_kept, outcome, entries}
+use Rattle.link_laws.specs.Session.{IsServed}
+use Rattle.link_laws.specs.Legal.{begin_next}
 use Rattle.connection_laws.specs.Connection.{AConnection, as_conn, IsConnection}
 use Rattle.connection_laws.specs.Acting.{with_refusal, IsDone}
 use Rattle.connection_laws.specs.Standing.{state_is, idle_of, done_of}
@@ -195,3 +197,8 @@ module _ (app : App) (name : List ℕ) (history : List Entry) (old : AConnection
       begin_makes (Ok x) gives = begun_made (is_refused app history b) refl (sym answer_is ∙ gives)
       begin_makes (Err (fault.Full many kept)) gives = refusal_made many kept (is_refused app history b) refl (sym answer_is ∙ gives)
       begin_makes (Err fault.Memory) gives = tt
+
+-- a call that blocks and has no run may be begun
+pub may_begin : (app : App) (name : List ℕ) (history : List Entry) (old : AConnection) → IsConnection app name history old → IsServed app history (as_conn old) → (b : Blocking) → old.session.carried.own.blocking ≡ Some b →
+    is_some (status_in (held_in app history) old.session.carried.number b.k) ≡ false → (is_some (method app b.method) ≡ true) × (is_next old.session.carried.number b.k (held_in app history).runs ≡ true)
+may_begin app name history old p known b blocks none = begin_next app history (as_conn old) b (ap (λ (st : State). st.blocking) (state_is app name history old p) ∙ blocks) none known

@@ -10,9 +10,9 @@ ghost use Rattle.publication.specs.Published.{published};
 ghost use Rattle.live_observer.specs.Observing.{IsDifference, HaveNoLimit};
 ghost use Rattle.ejson_value.specs.View.{view};
 ghost use Rattle.program_steps.specs.declared.outcome.Status.{Status};
-ghost use Rattle.app_model.specs.App.{App};
+ghost use Rattle.app_model.specs.App.{App, method};
 ghost use Rattle.history_model.specs.declared.entry.Entry.{Entry};
-ghost use Rattle.history_model.specs.History.{held_at, status_in, status_at, changes_between};
+ghost use Rattle.history_model.specs.History.{held_at, status_in, status_at, changes_between, is_next};
 ghost use Rattle.client_core.specs.declared.fault.TakeFault.{TakeFault};
 ghost use Rattle.client_core.specs.State.{Own};
 ghost use Rattle.client_core.specs.Asked.{IsSent};
@@ -67,6 +67,12 @@ pub fn calls_begin()
     ensures refused { (app : App) (name : List ℕ) (history : List Entry) (old : AConnection) (b : Blocking) → IsConnection app name history old → old.session.carried.own.blocking ≡ Some b → is_kept b.k old.kept ≡ true →
         outcome app history (as_conn old) act.Begin ≡ answer.Idle }
     ensures now { (app : App) (history : List Entry) (session k : ℕ) → status_at (programs app) history (length history) session k ≡ status_in (held_in app history) session k }
+{}
+
+/// Such a call may be begun: the application has its method, and its number is above those of the session's calls.
+pub fn calls_may_begin()
+    ensures { (app : App) (name : List ℕ) (history : List Entry) (old : AConnection) (b : Blocking) → IsConnection app name history old → IsServed app history (as_conn old) → old.session.carried.own.blocking ≡ Some b →
+        is_some (status_in (held_in app history) old.session.carried.number b.k) ≡ false → (is_some (method app b.method) ≡ true) × (is_next old.session.carried.number b.k (held_in app history).runs ≡ true) }
 {}
 
 /// The run of a call makes its next step.

@@ -8,7 +8,7 @@ mod asks;
 mod laws;
 
 pub use acts::{
-    calls_are_learnt_of, calls_begin, gone_clients_are_idle, messages_are_handled,
+    calls_are_learnt_of, calls_begin, calls_may_begin, gone_clients_are_idle, messages_are_handled,
     refusals_are_learnt_of, runs_step, subscriptions_are_fed, subscriptions_are_loaded,
     subscriptions_go_on, subscriptions_show_places, texts_are_sent, texts_are_taken_by_clients,
     texts_are_taken_by_sessions, texts_go_up,

@@ -148,14 +148,21 @@ begun_below app number h items b e none p =
     ap (λ bs. begun_in number h ++ bs) (sym own) ∙ (p.begun ∙ (ap (filter stands) l.is ∙ (filter-append stands l.older (b ∷ []) ∙ ap (λ c. filter stands l.older ++ cond (not c) (b ∷ []) []) l.stands))) in
     subst (AreBelow b.k) (sym (cancel (begun_in number h) (filter stands l.older) b whole)) (below_filtered b.k stands l.older l.below)
 
+-- the application has the method of a call that blocks and has no run, and the call's number is the next one
+pub begin_next : (app : App) (h : List Entry) (c : Conn) (b : Blocking) → (state_in c).blocking ≡ Some b → is_some (runs_of app c.number h b.k) ≡ false → IsServed app h c →
+    (is_some (method app b.method) ≡ true) × (is_next c.number b.k (held_in app h).runs ≡ true)
+begin_next app h c b e none p =
+    let l = p.begun.knows.last b e in (
+      of_last app l.older b (subst (AreOf app) l.is (calls_known app c.number (moments app c.number h) started c.items p.session.fits)),
+      next_is app c.number b.k h (begun_below app c.number h c.items b e none p.begun),
+    )
+
 begin_can : (app : App) (h : List Entry) (c : Conn) (b : Blocking) → (state_in c).blocking ≡ Some b → is_some (runs_of app c.number h b.k) ≡ false → is_refused app h b ≡ false → IsServed app h c →
     can_follow (programs app) (held_in app h) (begin_entry c.number b) ≡ true
 begin_can app h c b e none room p =
-    let l = p.begun.knows.last b e in
-    let known : is_some (method app b.method) ≡ true = of_last app l.older b (subst (AreOf app) l.is (calls_known app c.number (moments app c.number h) started c.items p.session.fits)) in
-    let next = next_is app c.number b.k h (begun_below app c.number h c.items b e none p.begun) in
+    let both = begin_next app h c b e none p in
     let free : is_full (programs app) (held_in app h) b.method b.params (view (value_of b.seed)) ≡ false = ap (λ v. is_full (programs app) (held_in app h) b.method b.params v) (view_of b.seed) ∙ room in
-    ap₂ (λ x y. x && y) (ap₂ (λ x y. x && y) known next) (ap not free)
+    ap₂ (λ x y. x && y) (ap₂ (λ x y. x && y) both.0 both.1) (ap not free)
 
 or_parts : (a b : Bool) → (a || b) ≡ false → (a ≡ false) × (b ≡ false)
 or_parts true b e = cc e
