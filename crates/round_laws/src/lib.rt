@@ -1,0 +1,54 @@
+//! Laws of a world's rounds: a round goes from client to client, the phases of a client change that client with its session
+//! and the history alone, and an act that is made until it can't be made any more makes up its phase. There is no code here:
+//! each function is a law, which its contract states.
+#![tactic(auto)]
+
+ghost use Rattle.std.specs.Prelude.{◌≡◌, ℕ, List, ◌<◌, true, false, Some};
+ghost use Rattle.std.specs.Map.{keys_of};
+ghost use Rattle.map_model.specs.Maps.{IsSorted};
+ghost use Rattle.value_model.specs.Order.{text_cmp};
+ghost use Rattle.app_model.specs.App.{App};
+ghost use Rattle.settling.specs.Rounds.{made};
+ghost use Rattle.core_model.specs.declared.events.Act.{Act as AnAct};
+ghost use Rattle.core_model.specs.declared.events.Act.TheVariants as act;
+ghost use Rattle.core_model.specs.Conn.{Conn};
+ghost use Rattle.core_model.specs.World.{World, conn_of};
+ghost use Rattle.core_model.specs.Settle.{ups, recvs, handles, sendings, takings, round};
+ghost use Rattle.round_laws.specs.Visits.{Side, can_on, act_on, phase_on, visited, visits, all_visited, is_idle};
+ghost use Rattle.round_laws.specs.Loops.{waiting_in, upward_in, queue_in, outbox_in, downward_in, IsLoop};
+
+/// In a round each client goes through its phases, by name.
+pub fn rounds_go_from_client_to_client()
+    ensures round { (w : World) → IsSorted text_cmp w.conns → round w ≡ all_visited (keys_of w.conns) w }
+    ensures sorted { (w : World) (name : List ℕ) → IsSorted text_cmp w.conns → IsSorted text_cmp (visits name w).conns }
+{}
+
+/// A client for whom no act of a phase can be made may be left out.
+pub fn idle_clients_are_left()
+    ensures side { (app : App) (x : Side) → is_idle app x ≡ true → visited app x ≡ x }
+    ensures world { (w : World) (name : List ℕ) (c : Conn) → IsSorted text_cmp w.conns → conn_of w name ≡ Some c → is_idle w.app (record { history = w.history; conn = c }) ≡ true → visits name w ≡ w }
+{}
+
+/// An act that is made leaves less for it to do.
+pub fn acts_leave_less()
+    ensures ups { (app : App) (x : Side) → can_on app x act.Up ≡ true → waiting_in (act_on app act.Up x) < waiting_in x }
+    ensures recvs { (app : App) (x : Side) → can_on app x act.Recv ≡ true → upward_in (act_on app act.Recv x) < upward_in x }
+    ensures handles { (app : App) (x : Side) → can_on app x act.Handle ≡ true → queue_in (act_on app act.Handle x) < queue_in x }
+    ensures sends { (app : App) (x : Side) → can_on app x act.Send ≡ true → outbox_in (act_on app act.Send x) < outbox_in x }
+    ensures takes { (app : App) (x : Side) → can_on app x act.Take ≡ true → downward_in (act_on app act.Take x) < downward_in x }
+{}
+
+/// An act is made again and again, each time with less to do.
+pub fn acts_are_repeated()
+    ensures begins { (app : App) (count : Side → ℕ) (a : AnAct) (x : Side) → IsLoop app count a x x }
+    ensures goes_on { (app : App) (count : Side → ℕ) (a : AnAct) (first now : Side) → IsLoop app count a first now → count (act_on app a now) < count now → IsLoop app count a first (act_on app a now) }
+{}
+
+/// Once the act can't be made any more, its phase is over.
+pub fn repeated_acts_are_phases()
+    ensures ups { (app : App) (first now : Side) → IsLoop app waiting_in act.Up first now → can_on app now act.Up ≡ false → made (act_on app) (phase_on app ups first) first ≡ now }
+    ensures recvs { (app : App) (first now : Side) → IsLoop app upward_in act.Recv first now → can_on app now act.Recv ≡ false → made (act_on app) (phase_on app recvs first) first ≡ now }
+    ensures handles { (app : App) (first now : Side) → IsLoop app queue_in act.Handle first now → can_on app now act.Handle ≡ false → made (act_on app) (phase_on app handles first) first ≡ now }
+    ensures sends { (app : App) (first now : Side) → IsLoop app outbox_in act.Send first now → can_on app now act.Send ≡ false → made (act_on app) (phase_on app sendings first) first ≡ now }
+    ensures takes { (app : App) (first now : Side) → IsLoop app downward_in act.Take first now → can_on app now act.Take ≡ false → made (act_on app) (phase_on app takings first) first ≡ now }
+{}
