@@ -14,6 +14,6 @@ pub use session::Session;
 pub use session_journal::Line;
 pub use session_laws::EventFault;
 pub use session_relation::Stored;
-pub use session_state::Call;
+pub use session_state::{Call, Sub};
 pub use session_texts::Texts;
 pub use session_work::{Feed, Place, Work};

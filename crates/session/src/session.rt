@@ -1,9 +1,11 @@
 //! Sessions.
-ghost use Rattle.std.specs.Prelude.{◌≡◌, ◌≤◌, ◌+◌, ◌*◌, length, slice_get, option_map, IfOk};
+ghost use Rattle.std.specs.Prelude.{◌≡◌, ◌≤◌, ◌+◌, ◌*◌, length, map, slice_get, option_map, option_copied, IfOk};
 ghost use Rattle.journal_model.specs.Subscriptions.{sub_named};
 ghost use Rattle.session_laws.specs.Session.{new_session};
 ghost use Rattle.session_laws.specs.Events.{Takes, Handles, Loads, Advances, Feeds, Learns, Refuses, Sends, Closes, observer_of};
-ghost use Rattle.session_work.specs.Work.{as_work, work_of};
+ghost use Rattle.session_state.specs.Own.{as_blocking};
+ghost use Rattle.session_state.specs.Subs.{as_live};
+ghost use Rattle.session_work.specs.Work.{as_work, work_of, running_from};
 ghost use Rattle.session_journal.specs.Journal.{runs};
 ghost use Rattle.session.specs.Limits.{is_limited, watched_count};
 ghost use Rattle.session.specs.Lines.{lines_of};
@@ -21,9 +23,9 @@ use program_steps::Status;
 use selector_match::Steps;
 use session_journal::Line;
 use session_laws::EventFault;
-use session_state::sub_named;
+use session_state::{Call, Sub, sub_named};
 use session_texts::Texts;
-use session_work::{Work, tasks_of};
+use session_work::{Work, running, tasks_of};
 use std::alloc::Global;
 use std::marker::Model;
 use std::sync::ledger::Ledger;
@@ -150,6 +152,27 @@ impl Session {
         ensures { result ≡ sub_named id.now self.now.carried.own.subs }
     {
         sub_named(self.inner.parts.own.subs.as_slice(), id)
+    }
+
+    /// The live subscriptions, by rising number.
+    pub fn subs(&self) -> &[Sub]
+        ensures { map as_live result.now ≡ self.now.carried.own.subs }
+    {
+        self.inner.parts.own.subs.as_slice()
+    }
+
+    /// The call that blocks, if one does.
+    pub fn blocking(&self) -> Option<&Call>
+        ensures { option_map as_blocking (option_copied result) ≡ self.now.carried.own.blocking }
+    {
+        self.inner.parts.own.blocking.as_ref()
+    }
+
+    /// The numbers of the calls that run, rising.
+    pub fn running(&self) -> Result<Vec<u64>, Mem>
+        ensures { IfOk result (λ calls. calls.items ≡ running_from 0 self.now.carried.own.methods) }
+    {
+        running(self.inner.alloc, &self.inner.parts.own)
     }
 
     /// Whether a `connect` of another version was taken.
