@@ -1,0 +1,15 @@
+pub mod World
+pub mod Repeating
+pub mod Single
+pub mod Phases
+pub mod Visits
+pub mod Names
+pub mod Gone
+pub mod Doing
+pub mod Reaching
+pub mod Changing
+pub mod Making
+pub mod Growing
+pub mod Settling
+pub mod Asking
+pub mod Promises

@@ -1,0 +1,37 @@
+-- What every world is that the code makes.
+use Rattle.std.specs.Prelude.{refl}
+use Rattle.std.proofs.Common.{subst, arith}
+use Rattle.map_model.specs.MapLaws.{sorted-nil}
+use Rattle.value_model.specs.Order.{text_cmp}
+use Rattle.app_model.specs.App.{App}
+use Rattle.stored_values.specs.Values.{HasValues}
+use Rattle.core_model.specs.Store.{programs}
+use Rattle.core_model.specs.World.{World}
+use Rattle.core_model.specs.Settle.{settled}
+use Rattle.core_model.specs.Headline.{IsTrueWorld, HaveLongAlone, AreAtRest}
+use Rattle.headline.specs.Worlds.{worlds_are_true}
+use Rattle.polite_clients.specs.Worlds.{worlds_have_long_alone}
+use Rattle.resting_worlds.specs.AtRest.{settled_worlds_rest}
+use Rattle.world_laws.specs.World.{AWorld, new_world, as_world, IsWorld}
+use Rattle.world_laws.specs.Reaching.{start_reaches}
+
+pub worlds_true : (x : AWorld) → IsWorld x → IsTrueWorld (as_world x)
+worlds_true x p = subst IsTrueWorld p.reachable.2 (worlds_are_true x.app p.reachable.0 p.values p.reachable.1)
+
+pub worlds_long : (x : AWorld) → IsWorld x → HaveLongAlone (as_world x)
+worlds_long x p = subst (λ (w : World). HaveLongAlone w) p.reachable.2 (worlds_have_long_alone x.app p.reachable.0 p.values p.reachable.1)
+
+pub settled_rests : (x : AWorld) → IsWorld x → AreAtRest (settled (as_world x))
+settled_rests x p = subst (λ (w : World). AreAtRest (settled w)) p.reachable.2 (settled_worlds_rest x.app p.reachable.0 p.values p.reachable.1)
+
+-- a new world
+pub new_stays : (app : App) → HasValues (programs app) → IsWorld (new_world app)
+new_stays app values = record {
+  values = values;
+  reachable = start_reaches app;
+  order = sorted-nil text_cmp;
+  clients = λ name. tt;
+  present = (sorted-nil text_cmp, λ name. refl);
+  busy = sorted-nil text_cmp;
+  settled = omega arith;
+}

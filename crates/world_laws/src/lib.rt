@@ -1,0 +1,20 @@
+//! What the code keeps of a world, and the laws by which this is the world of the definitions: every event is that event,
+//! and settling as the code does it, which asks only those that may have something to do, leads to the settled world.
+//! There is no code here: each function is a law, which its contract states.
+#![tactic(auto)]
+
+mod events;
+mod phases;
+mod rounds;
+mod worlds;
+
+pub use events::{
+    acts_are_made, clients_are_asked, clients_begin, clients_leave, nobody_does_anything,
+    operations_are_made,
+};
+pub use phases::{phases_are_loops, rounds_are_each_clients_own};
+pub use rounds::{
+    idle_worlds_are_settled, rounds_ask_those_that_may_act, rounds_settle, settled_worlds_are_kept,
+    visits_are_made,
+};
+pub use worlds::{kept_worlds_are_true, settled_worlds_are_at_rest, worlds_begin};

@@ -1,0 +1,26 @@
+//! What every world is.
+ghost use Rattle.std.specs.Prelude.{◌≡◌};
+ghost use Rattle.app_model.specs.App.{App};
+ghost use Rattle.stored_values.specs.Values.{HasValues};
+ghost use Rattle.core_model.specs.Headline.{IsTrueWorld, HaveLongAlone, AreAtRest};
+ghost use Rattle.core_model.specs.Store.{programs};
+ghost use Rattle.core_model.specs.Settle.{settled};
+ghost use Rattle.core_model.specs.World.{start};
+ghost use Rattle.world_laws.specs.World.{AWorld, new_world, as_world, IsWorld};
+
+/// A new world is that of its application at the beginning.
+pub fn worlds_begin()
+    ensures is { (app : App) → as_world (new_world app) ≡ start app }
+    ensures stays { (app : App) → HasValues (programs app) → IsWorld (new_world app) }
+{}
+
+/// The headline holds of a world that is kept, and its clients refused a text for its length alone.
+pub fn kept_worlds_are_true()
+    ensures true_world { (x : AWorld) → IsWorld x → IsTrueWorld (as_world x) }
+    ensures long_alone { (x : AWorld) → IsWorld x → HaveLongAlone (as_world x) }
+{}
+
+/// Where it settles, its sessions are at rest.
+pub fn settled_worlds_are_at_rest()
+    ensures { (x : AWorld) → IsWorld x → AreAtRest (settled (as_world x)) }
+{}
