@@ -11,9 +11,9 @@ use Rattle.core_model.specs.Asks.{Ask}
 use Rattle.core_model.specs.Asks as ask
 use Rattle.core_model.specs.World.{World, done, opens, asked_in}
 use Rattle.core_model.specs.Events.{administers}
+use Rattle.round_laws.specs.Visits.{visits}
 use Rattle.connection_laws.specs.Connection.{AConnection, new_connection}
 use Rattle.world_laws.specs.World.{Names, AWorld, as_world, is_among, IsWorld}
-use Rattle.world_laws.specs.Visits.{visit}
 use Rattle.world_laws.specs.Names.{names_from, visited}
 
 -- ---- names
@@ -86,7 +86,7 @@ pub record IsAdministered (x : AWorld) (op : List Val) (y : AWorld) : Type 0 whe
 
 -- what is left of a round from this name on
 abbrev pub visits_from : List ℕ → World → World
-visits_from from w = visited visit (names_from from (keys_of w.conns)) w
+visits_from from w = visited visits (names_from from (keys_of w.conns)) w
 
 -- who is passed over: it isn't busy, and the history is as it was when the world was settled last, or the client isn't there
 abbrev pub IsPassed : AWorld → List ℕ → Type 0
@@ -102,7 +102,7 @@ IsWorker x name = (is_among x.busy name ≡ true) ⊎ ((is_among x.present name 
 
 pub record IsVisited (x : AWorld) (name : List ℕ) (y : AWorld) : Type 0 where
   pub stays : IsWorld y
-  pub does : as_world y ≡ visit name (as_world x)
+  pub does : as_world y ≡ visits name (as_world x)
 
 -- nobody is busy then, and the history is as it is
 abbrev pub at_rest : AWorld → AWorld

@@ -27,10 +27,13 @@ use Rattle.journal_model.specs.Subscriptions.{Live, cursor_of, may_load}
 use Rattle.core_model.specs.Conn.{Conn, state_in, link_limit, outbox_limit, is_full, is_at_work, has_some}
 use Rattle.core_model.specs.declared.events.Answer.TheVariants as answer
 use Rattle.core_model.specs.Acts.{enabled, unbegun, learnt, may_advance, is_done, is_of_session, is_queue_full, can}
-use Rattle.core_model.specs.Settle.{ups, recvs, handles, begins, steps, learns, loadings, advancings, sendings, takings, steps_of, running_from, loads, advance_to, advances}
+use Rattle.core_model.specs.Settle.{Phase, ups, recvs, handles, begins, steps, learns, loadings, advancings, sendings, takings, steps_of, running_from, loads, advance_to, advances}
 use Rattle.link_laws.specs.Lift.{is_by}
 use Rattle.connection_laws.specs.Links.{is_step}
+use Rattle.settling.specs.Rounds.{none_of}
+use Rattle.round_laws.specs.Visits.{can_on, phase_on}
 use Rattle.world_laws.specs.World.{IsIdle}
+use Rattle.world_laws.specs.Idle.{idle_from, steps_idle}
 
 -- no entry is of this session
 abbrev pub AreNotBy : ℕ → List Entry → Type 0
@@ -144,7 +147,7 @@ idle_ended app history c idle k = by (at run_cmp (held_in app history).runs (c.n
         left : (x : Bool) → no_steps b.run.left ≡ x → not (no_steps b.run.left) ≡ false
         left true l = ap not l
         left false l =
-            let off = step_listed (λ a. not (can app history c a)) c.number k (held_in app history).runs b e l (idle steps) in
+            let off = step_listed (λ a. not (can app history c a)) c.number k (held_in app history).runs b e l (steps_idle app (record { history = history; conn = c }) idle) in
             cc (sym (ap not (step_can app history c k ∙ (ap goes_on e ∙ ap not l))) ∙ off)
 
 -- what no act but a step does
@@ -199,17 +202,20 @@ module _ (app : App) (history : List Entry) (c : Conn) (gone : c.is_dropped ≡ 
   abbrev idle : Act → Bool
   idle a = not (can app history c a)
 
+  each_idle : HasEnded app history c.number → (p : Phase) → none_of (can_on app) (phase_on app p (record { history = history; conn = c })) (record { history = history; conn = c }) ≡ true
+  each_idle ended ups = again idle off (length c.client.waiting) act.Up refl
+  each_idle ended recvs = again idle off (length c.upward) act.Recv refl
+  each_idle ended handles = again idle off (length c.queue) act.Handle refl
+  each_idle ended begins = ap (λ b. b && true) (off act.Begin refl)
+  each_idle ended steps = steps_not idle c.number (held_in app history).runs (λ k. ap not (step_can app history c k ∙ ended k))
+  each_idle ended learns = none_learnt idle off (length history) (running_from 0 (state_in c).methods)
+  each_idle ended loadings = none_loaded idle off (length history) (state_in c).subs
+  each_idle ended advancings = none_led idle off (length history) (state_in c).subs
+  each_idle ended sendings = again idle off (length c.outbox) act.Send refl
+  each_idle ended takings = again idle off (length c.downward) act.Take refl
+
   ended_idle : HasEnded app history c.number → IsIdle app history c
-  ended_idle ended ups = again idle off (length c.client.waiting) act.Up refl
-  ended_idle ended recvs = again idle off (length c.upward) act.Recv refl
-  ended_idle ended handles = again idle off (length c.queue) act.Handle refl
-  ended_idle ended begins = ap (λ b. b && true) (off act.Begin refl)
-  ended_idle ended steps = steps_not idle c.number (held_in app history).runs (λ k. ap not (step_can app history c k ∙ ended k))
-  ended_idle ended learns = none_learnt idle off (length history) (running_from 0 (state_in c).methods)
-  ended_idle ended loadings = none_loaded idle off (length history) (state_in c).subs
-  ended_idle ended advancings = none_led idle off (length history) (state_in c).subs
-  ended_idle ended sendings = again idle off (length c.outbox) act.Send refl
-  ended_idle ended takings = again idle off (length c.downward) act.Take refl
+  ended_idle ended = idle_from app (record { history = history; conn = c }) (each_idle ended)
 
 -- Entries of other sessions leave a client idle that is gone.
 pub gone_stays : (app : App) (history more : List Entry) (c : Conn) → c.is_dropped ≡ true → AreNotBy c.number more → IsIdle app history c → IsIdle app (history ++ more) c

@@ -6,13 +6,13 @@ use Rattle.app_model.specs.App.{App}
 use Rattle.history_model.specs.declared.entry.Entry.{Entry}
 use Rattle.settling.specs.Rounds.{made, through}
 use Rattle.core_model.specs.declared.events.Act.{Act}
-use Rattle.core_model.specs.Acts.{can, entries}
+use Rattle.core_model.specs.Acts.{can, does, entries}
 use Rattle.core_model.specs.Settle.{order}
 use Rattle.world_laws.specs.Gone.{AreNotBy}
 use Rattle.world_laws.specs.Making.{same_number, does_there, entries_apart}
-use Rattle.world_laws.specs.Single.{Single, made_of, done_of, phase_of, round_of}
+use Rattle.round_laws.specs.Visits.{Side, act_on, phase_on, visited}
 
-pub record Grows (s t : Single) : Type 0 where
+pub record Grows (s t : Side) : Type 0 where
   pub more : List Entry
   pub behind : t.history ≡ s.history ++ more
   pub apart : (n : ℕ) → (n == s.conn.number) ≡ false → AreNotBy n more
@@ -23,10 +23,10 @@ both_apart : (n : ℕ) (a b : List Entry) → AreNotBy n a → AreNotBy n b → 
 both_apart n [] b p q = q
 both_apart n (e ∷ a) b p q = (p.0, both_apart n a b p.1 q)
 
-grows_none : (s : Single) → Grows s s
+grows_none : (s : Side) → Grows s s
 grows_none s = record { more = []; behind = sym (append-nil s.history); apart = λ n e. tt; number = refl; there = refl }
 
-grows_on : (s t u : Single) → Grows s t → Grows t u → Grows s u
+grows_on : (s t u : Side) → Grows s t → Grows t u → Grows s u
 grows_on s t u a b = record {
   more = a.more ++ b.more;
   behind = b.behind ∙ (ap (λ (h : List Entry). h ++ b.more) a.behind ∙ append_assoc s.history a.more b.more);
@@ -35,10 +35,10 @@ grows_on s t u a b = record {
   there = b.there ∙ a.there;
 }
 
-one_grows : (app : App) (a : Act) (s : Single) → Grows s (done_of app a s)
+one_grows : (app : App) (a : Act) (s : Side) → Grows s (act_on app a s)
 one_grows app a s = by (can app s.history s.conn a)
   where
-    by : (b : Bool) → Grows s (if b then made_of app a s else s)
+    by : (b : Bool) → Grows s (if b then (let t : Side = record { history = s.history ++ entries app s.history s.conn a; conn = does app s.history s.conn a } in t) else s)
     by false = grows_none s
     by true = record {
       more = entries app s.history s.conn a;
@@ -48,13 +48,13 @@ one_grows app a s = by (can app s.history s.conn a)
       there = does_there app s.history s.conn a;
     }
 
-made_grows : (app : App) (acts : List Act) (s : Single) → Grows s (made (done_of app) acts s)
+made_grows : (app : App) (acts : List Act) (s : Side) → Grows s (made (act_on app) acts s)
 made_grows app [] s = grows_none s
-made_grows app (a ∷ acts) s = grows_on s (done_of app a s) (made (done_of app) acts (done_of app a s)) (one_grows app a s) (made_grows app acts (done_of app a s))
+made_grows app (a ∷ acts) s = grows_on s (act_on app a s) (made (act_on app) acts (act_on app a s)) (one_grows app a s) (made_grows app acts (act_on app a s))
 
-through_grows : (app : App) (ps : List (Single → List Act)) (s : Single) → Grows s (through (done_of app) ps s)
+through_grows : (app : App) (ps : List (Side → List Act)) (s : Side) → Grows s (through (act_on app) ps s)
 through_grows app [] s = grows_none s
-through_grows app (p ∷ ps) s = grows_on s (made (done_of app) (p s) s) (through (done_of app) ps (made (done_of app) (p s) s)) (made_grows app (p s) s) (through_grows app ps (made (done_of app) (p s) s))
+through_grows app (p ∷ ps) s = grows_on s (made (act_on app) (p s) s) (through (act_on app) ps (made (act_on app) (p s) s)) (made_grows app (p s) s) (through_grows app ps (made (act_on app) (p s) s))
 
-pub round_grows : (app : App) (s : Single) → Grows s (round_of app s)
-round_grows app s = through_grows app (map (phase_of app) order) s
+pub visit_grows : (app : App) (s : Side) → Grows s (visited app s)
+visit_grows app s = through_grows app (map (phase_on app) order) s

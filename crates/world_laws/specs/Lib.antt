@@ -1,11 +1,8 @@
 pub mod World
-pub mod Repeating
-pub mod Single
-pub mod Phases
-pub mod Visits
 pub mod Names
-pub mod Gone
 pub mod Doing
+pub mod Idle
+pub mod Gone
 pub mod Reaching
 pub mod Changing
 pub mod Making

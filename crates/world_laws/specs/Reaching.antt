@@ -1,18 +1,25 @@
--- Each act leads from a world that events lead to, to such a world, and so does a client's part of a round.
-use Rattle.std.specs.Prelude.{◌≡◌, ℕ, List, [], ◌∷◌, ◌++◌, map, Option, Some, None, option_and_then, refl}
+-- An event leads from a world that events lead to, to such a world, and so do an act and a client's part of a round.
+use Rattle.std.specs.Prelude.{◌≡◌, ℕ, List, [], ◌∷◌, ◌++◌, map, true, false, cond, Option, Some, None, option_and_then, refl}
+use Rattle.std.specs.Ordering.{eq_by_cmp}
+use Rattle.std.specs.BTreeMap.{insert_entry}
 use Rattle.std.proofs.Common.{ap, sym, subst, ◌∙◌}
+use Rattle.map_model.specs.Maps.{at, set, IsSorted}
+use Rattle.map_model.specs.MapLaws.{at-put, sorted-put, set-at, same_maps, eq_by_cmp-self}
+use Rattle.value_model.specs.Order.{text_cmp}
+use Rattle.ejson_value.specs.Key.{name_order}
 use Rattle.app_model.specs.App.{App}
 use Rattle.settling.specs.Rounds.{made, through}
 use Rattle.core_model.specs.declared.events.Act.{Act}
 use Rattle.core_model.specs.declared.events.Event.{Event}
 use Rattle.core_model.specs.declared.events.Event.TheVariants as event
 use Rattle.core_model.specs.Conn.{Conn}
-use Rattle.core_model.specs.World.{World, start, conn_of, done_by, done}
-use Rattle.core_model.specs.Settle.{phase, order}
+use Rattle.core_model.specs.Acts.{does, entries}
+use Rattle.core_model.specs.World.{World, start, conn_of, acted, done_by, done}
+use Rattle.core_model.specs.Settle.{order}
 use Rattle.core_model.specs.Events.{done_if, step, run, IsEvent, AreEvents, Reachable}
 use Rattle.headline.specs.Worlds.{worlds_hold}
 use Rattle.settled_worlds.specs.Tidy.{Stands}
-use Rattle.world_laws.specs.Visits.{visit}
+use Rattle.round_laws.specs.Visits.{Side, can_on, act_on, phase_on, with_side, visited_by, visits}
 
 abbrev Comes : App → World → Type 0
 Comes app w = (events : List Event) × AreEvents events × (run (start app) events ≡ w)
@@ -52,13 +59,49 @@ act_is_event w name a = by (conn_of w name) refl
 pub done_reaches : (e : List ℕ × Act) (w : World) → Reachable w → Reachable (done e w)
 done_reaches e w r = subst Reachable (act_is_event w e.0 e.1) (step_reaches w r (event.Do e.0 e.1) tt)
 
-made_reaches : (acts : List (List ℕ × Act)) (w : World) → Reachable w → Reachable (made done acts w)
-made_reaches [] w r = r
-made_reaches (a ∷ acts) w r = made_reaches acts (done a w) (done_reaches a w r)
+-- ---- a client's part of a round
 
-through_reaches : (ps : List (World → List (List ℕ × Act))) (w : World) → Reachable w → Reachable (through done ps w)
-through_reaches [] w r = r
-through_reaches (p ∷ ps) w r = through_reaches ps (made done (p w) w) (made_reaches (p w) w r)
+module _ (w : World) (name : List ℕ) (sorted : IsSorted text_cmp w.conns) where
+  put_again : (c d : Conn) → insert_entry text_cmp (insert_entry text_cmp w.conns name c) name d ≡ insert_entry text_cmp w.conns name d
+  put_again c d =
+      let once = insert_entry text_cmp w.conns name c in
+      same_maps name_order (insert_entry text_cmp once name d) (insert_entry text_cmp w.conns name d) (sorted-put name_order once name d (sorted-put name_order w.conns name c sorted)) (sorted-put name_order w.conns name d sorted)
+      (λ q.
+      at-put name_order once name d q
+      ∙ (ap (cond (eq_by_cmp text_cmp q name) (Some d)) (at-put name_order w.conns name c q)
+      ∙ (elim (eq_by_cmp text_cmp q name) as (λ b. cond b (Some d) (cond b (Some c) (at text_cmp w.conns q)) ≡ cond b (Some d) (at text_cmp w.conns q)) [ true ↦ refl | false ↦ refl ]
+      ∙ sym (at-put name_order w.conns name d q))))
 
-pub visit_reaches : (name : List ℕ) (w : World) → Reachable w → Reachable (visit name w)
-visit_reaches name w r = through_reaches (map (phase name) order) w r
+  conn_put : (x : Side) → conn_of (with_side w name x) name ≡ Some x.conn
+  conn_put x = at-put name_order w.conns name x.conn name ∙ ap (λ b. cond b (Some x.conn) (at text_cmp w.conns name)) (eq_by_cmp-self name_order name)
+
+  abbrev made_on : Act → Side → Side
+  made_on a x = record { history = x.history ++ entries w.app x.history x.conn a; conn = does w.app x.history x.conn a }
+
+  acted_put : (a : Act) (x : Side) → acted (with_side w name x) name a x.conn ≡ with_side w name (made_on a x)
+  acted_put a x = λ j. record w { history = x.history ++ entries w.app x.history x.conn a; conns = put_again x.conn (does w.app x.history x.conn a) j }
+
+  done_put : (a : Act) (x : Side) → done (name, a) (with_side w name x) ≡ with_side w name (act_on w.app a x)
+  done_put a x =
+      ap (done_by (with_side w name x) name a) (conn_put x)
+      ∙ elim (can_on w.app x a) as (λ b. cond b (acted (with_side w name x) name a x.conn) (with_side w name x) ≡ with_side w name (cond b (made_on a x) x)) [ true ↦ acted_put a x | false ↦ refl ]
+
+  made_reaches : (acts : List Act) (x : Side) → Reachable (with_side w name x) → Reachable (with_side w name (made (act_on w.app) acts x))
+  made_reaches [] x r = r
+  made_reaches (a ∷ acts) x r = made_reaches acts (act_on w.app a x) (subst Reachable (done_put a x) (done_reaches (name, a) (with_side w name x) r))
+
+  through_reaches : (ps : List (Side → List Act)) (x : Side) → Reachable (with_side w name x) → Reachable (with_side w name (through (act_on w.app) ps x))
+  through_reaches [] x r = r
+  through_reaches (p ∷ ps) x r = through_reaches ps (made (act_on w.app) (p x) x) (made_reaches (p x) x r)
+
+  pub put_itself : (c : Conn) → conn_of w name ≡ Some c → with_side w name (record { history = w.history; conn = c }) ≡ w
+  put_itself c is =
+      let same : insert_entry text_cmp w.conns name c ≡ w.conns = ap (set text_cmp w.conns name) (sym is) ∙ set-at name_order w.conns name sorted in
+      λ j. record w { conns = same j }
+
+  visited_reaches : Reachable w → (o : Option Conn) → conn_of w name ≡ o → Reachable (visited_by w name o)
+  visited_reaches r None is = r
+  visited_reaches r (Some c) is = through_reaches (map (phase_on w.app) order) (record { history = w.history; conn = c }) (subst Reachable (sym (put_itself c is)) r)
+
+  pub visit_reaches : Reachable w → Reachable (visits name w)
+  visit_reaches r = visited_reaches r (conn_of w name) refl

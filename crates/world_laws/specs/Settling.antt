@@ -6,6 +6,7 @@ use Rattle.std.specs.Ordering.{eq_by_cmp, is_le, is_lt}
 use Rattle.std.specs.BTreeMap.{insert_entry}
 use Rattle.std.proofs.Common.{ap, sym, subst, ◌∙◌, arith, inl, inr}
 use Rattle.std.proofs.lemmas.List.{length-append}
+use Rattle.std.proofs.lemmas.Bool.{and_parts}
 use Rattle.map_model.specs.Maps.{at, IsSorted}
 use Rattle.map_model.specs.MapLaws.{at-put, sorted-nil, sorted-put, key_is, is_some-at}
 use Rattle.value_model.specs.Order.{text_cmp}
@@ -30,27 +31,27 @@ use Rattle.settled_worlds.specs.Tidy.{Stands}
 use Rattle.settled_worlds.specs.Settling as settling
 use Rattle.connection_laws.specs.Connection.{AConnection, as_conn, IsConnection}
 use Rattle.world_laws.specs.World.{AWorld, as_world, connection_of, is_among, IsIdle, is_there, IsClient, IsWorld}
-use Rattle.world_laws.specs.Single.{Single, round_of}
-use Rattle.world_laws.specs.Visits.{visit, visits, round_visits, single_of, visit_is, passed_over}
+use Rattle.round_laws.specs.Visits.{Side, can_on, phase_on, visited as client_visited, visited_by, visits, all_visited, round_is, idle_left}
+use Rattle.world_laws.specs.Idle.{idle_from}
 use Rattle.world_laws.specs.Names.{names_from, behind, visited, next_comes, none_comes, all_come, same_keys, sorted_mapped}
 use Rattle.world_laws.specs.Reaching.{reached_stands, visit_reaches}
 use Rattle.world_laws.specs.Changing.{conn_is, conn_there, put_seen, client_is, numbers_differ, change_stays}
 use Rattle.world_laws.specs.Making.{present_stays}
-use Rattle.world_laws.specs.Growing.{Grows, round_grows}
+use Rattle.world_laws.specs.Growing.{Grows, visit_grows}
 use Rattle.world_laws.specs.Doing.{visits_from, IsPassed, after_visit, IsWorker, IsVisited, at_rest}
 
 -- ---- a round
 
-visits_same : (names : List (List ℕ)) (w : World) → visited visit names w ≡ visits names w
+visits_same : (names : List (List ℕ)) (w : World) → visited visits names w ≡ all_visited names w
 visits_same [] w = refl
-visits_same (name ∷ names) w = visits_same names (visit name w)
+visits_same (name ∷ names) w = visits_same names (visits name w)
 
 -- a round begins at the empty text
-pub round_begins : (w : World) → visits_from [] w ≡ round w
-round_begins w = all_come visit (keys_of w.conns) w ∙ (visits_same (keys_of w.conns) w ∙ sym (round_visits w))
+pub round_begins : (w : World) → IsSorted text_cmp w.conns → visits_from [] w ≡ round w
+round_begins w sorted = all_come visits (keys_of w.conns) w ∙ (visits_same (keys_of w.conns) w ∙ sym (round_is w sorted))
 
 module _ (x : AWorld) (p : IsWorld x) where
-  seen_sorted : IsSorted text_cmp (as_world x).conns
+  pub seen_sorted : IsSorted text_cmp (as_world x).conns
   seen_sorted = sorted_mapped as_conn x.conns p.order
 
   passed_one : (q : List ℕ) (o : Option AConnection) → connection_of x q ≡ o → IsPassed x q → IfSome (option_map as_conn o) (IsIdle x.app x.history)
@@ -69,23 +70,27 @@ module _ (x : AWorld) (p : IsWorld x) where
   pub passed_idle : (q : List ℕ) → IsPassed x q → IfSome (conn_of (as_world x) q) (IsIdle x.app x.history)
   passed_idle q e = subst (λ (o : Option Conn). IfSome o (IsIdle x.app x.history)) (sym (conn_is x q)) (passed_one q (connection_of x q) refl e)
 
-  passed_stays : (q : List ℕ) → IsPassed x q → visit q (as_world x) ≡ as_world x
-  passed_stays q e = passed_over (as_world x) q seen_sorted (passed_idle q e)
+  left_out : (q : List ℕ) (o : Option Conn) → conn_of (as_world x) q ≡ o → IfSome o (IsIdle x.app x.history) → visits q (as_world x) ≡ as_world x
+  left_out q None is idle = ap (visited_by (as_world x) q) is
+  left_out q (Some c) is idle = idle_left (as_world x) q c seen_sorted is idle
 
-  nobody_visited : (name : List ℕ) → conn_of (as_world x) name ≡ None → visit name (as_world x) ≡ as_world x
-  nobody_visited name e = passed_over (as_world x) name seen_sorted (subst (λ (o : Option Conn). IfSome o (IsIdle x.app x.history)) (sym e) tt)
+  passed_stays : (q : List ℕ) → IsPassed x q → visits q (as_world x) ≡ as_world x
+  passed_stays q e = left_out q (conn_of (as_world x) q) refl (passed_idle q e)
 
-  comes : (name : List ℕ) (o : Option Conn) → conn_of (as_world x) name ≡ o → (list_any (eq_by_cmp text_cmp name) (keys_of (as_world x).conns) ≡ true) ⊎ (visit name (as_world x) ≡ as_world x)
+  nobody_visited : (name : List ℕ) → conn_of (as_world x) name ≡ None → visits name (as_world x) ≡ as_world x
+  nobody_visited name e = left_out name None e tt
+
+  comes : (name : List ℕ) (o : Option Conn) → conn_of (as_world x) name ≡ o → (list_any (eq_by_cmp text_cmp name) (keys_of (as_world x).conns) ≡ true) ⊎ (visits name (as_world x) ≡ as_world x)
   comes name None e = inr (nobody_visited name e)
   comes name (Some c) e = inl (sym (is_some-at text_cmp (as_world x).conns name) ∙ ap is_some e)
 
   -- a visit leaves who there is
-  keys_stay : (name : List ℕ) (o : Option Conn) → conn_of (as_world x) name ≡ o → keys_of (visit name (as_world x)).conns ≡ keys_of (as_world x).conns
+  keys_stay : (name : List ℕ) (o : Option Conn) → conn_of (as_world x) name ≡ o → keys_of (visits name (as_world x)).conns ≡ keys_of (as_world x).conns
   keys_stay name None e = ap (λ (w : World). keys_of w.conns) (nobody_visited name e)
   keys_stay name (Some c) e =
       let w = as_world x in
-      let s = round_of w.app (single_of w c) in
-      ap (λ (v : World). keys_of v.conns) (visit_is w name seen_sorted c e)
+      let s = client_visited w.app (record { history = w.history; conn = c }) in
+      ap (λ (v : World). keys_of v.conns) (ap (visited_by w name) e)
       ∙ same_keys (insert_entry text_cmp w.conns name s.conn) w.conns (sorted-put name_order w.conns name s.conn seen_sorted) seen_sorted (λ q. ap is_some (at-put name_order w.conns name s.conn q) ∙ by q s.conn (eq_by_cmp text_cmp q name) refl)
     where
       by : (q : List ℕ) (d : Conn) (b : Bool) → eq_by_cmp text_cmp q name ≡ b → is_some (cond b (Some d) (at text_cmp (as_world x).conns q)) ≡ is_some (at text_cmp (as_world x).conns q)
@@ -94,32 +99,32 @@ module _ (x : AWorld) (p : IsWorld x) where
 
   -- The next one is visited, where all between are passed over; what is left of the round then leads where it led before.
   pub round_goes_on : (from name : List ℕ) → is_le (text_cmp from name) ≡ true → ((q : List ℕ) → is_le (text_cmp from q) ≡ true → is_lt (text_cmp q name) ≡ true → IsPassed x q) →
-      visits_from (behind name) (visit name (as_world x)) ≡ visits_from from (as_world x)
+      visits_from (behind name) (visits name (as_world x)) ≡ visits_from from (as_world x)
   round_goes_on from name le between =
       let w = as_world x in
-      ap (λ (names : List (List ℕ)). visited visit (names_from (behind name) names) (visit name w)) (keys_stay name (conn_of w name) refl)
-      ∙ sym (next_comes visit from name le (keys_of w.conns) seen_sorted w (λ q a b. passed_stays q (between q a b)) (comes name (conn_of w name) refl))
+      ap (λ (names : List (List ℕ)). visited visits (names_from (behind name) names) (visits name w)) (keys_stay name (conn_of w name) refl)
+      ∙ sym (next_comes visits from name le (keys_of w.conns) seen_sorted w (λ q a b. passed_stays q (between q a b)) (comes name (conn_of w name) refl))
 
   -- and the round is over where all that are left are passed over
   pub round_is_over : (from : List ℕ) → ((q : List ℕ) → is_le (text_cmp from q) ≡ true → IsPassed x q) → visits_from from (as_world x) ≡ as_world x
-  round_is_over from all = none_comes visit from (keys_of (as_world x).conns) (as_world x) (λ q a. passed_stays q (all q a))
+  round_is_over from all = none_comes visits from (keys_of (as_world x).conns) (as_world x) (λ q a. passed_stays q (all q a))
 
 -- ---- a visit
 
 module _ (x : AWorld) (p : IsWorld x) (name : List ℕ) (old : AConnection) (is : connection_of x name ≡ Some old) (new : AConnection) where
   -- the client over the history
-  abbrev alone : Single
+  abbrev alone : Side
   alone = record { history = x.history; conn = as_conn old }
 
-  abbrev g : Grows alone (round_of x.app alone)
-  g = round_grows x.app alone
+  abbrev g : Grows alone (client_visited x.app alone)
+  g = visit_grows x.app alone
 
-  visited_does : as_conn new ≡ (round_of x.app alone).conn → as_world (after_visit x name new (x.history ++ g.more)) ≡ visit name (as_world x)
+  visited_does : as_conn new ≡ (client_visited x.app alone).conn → as_world (after_visit x name new (x.history ++ g.more)) ≡ visits name (as_world x)
   visited_does same =
       (λ j. record (as_world x) { history = sym g.behind j; conns = (put_seen x.conns name new p.order ∙ ap (insert_entry text_cmp (as_world x).conns name) same) j })
-      ∙ sym (visit_is (as_world x) name (seen_sorted x p) (as_conn old) (conn_there x name old is))
+      ∙ sym (ap (visited_by (as_world x) name) (conn_there x name old is))
 
-  new_rests : as_conn new ≡ (round_of x.app alone).conn → IsWorker x name → is_among x.busy name ≡ false → (length (x.history ++ g.more) ≡ x.settled) ⊎ (new.is_dropped ≡ true) →
+  new_rests : as_conn new ≡ (client_visited x.app alone).conn → IsWorker x name → is_among x.busy name ≡ false → (length (x.history ++ g.more) ≡ x.settled) ⊎ (new.is_dropped ≡ true) →
       IsIdle x.app (x.history ++ g.more) (as_conn new)
   new_rests same (inl busy) free why = cc (sym busy ∙ free)
   new_rests same (inr there) free (inl many) =
@@ -130,13 +135,13 @@ module _ (x : AWorld) (p : IsWorld x) (name : List ℕ) (old : AConnection) (is 
       cc (sym here ∙ ap not (sym before ∙ gone))
 
   -- A visit that makes the client's own round is the client's part of the round.
-  pub visit_made : (history : List Entry) → history ≡ (round_of x.app alone).history → as_conn new ≡ (round_of x.app alone).conn → IsConnection x.app name history new → IsWorker x name →
+  pub visit_made : (history : List Entry) → history ≡ (client_visited x.app alone).history → as_conn new ≡ (client_visited x.app alone).conn → IsConnection x.app name history new → IsWorker x name →
       IsVisited x name (after_visit x name new history)
   visit_made history grown same conn worker =
       let eh : history ≡ x.history ++ g.more = grown ∙ g.behind in
       let does_it = visited_does same in
       subst (λ (h : List Entry). IsVisited x name (after_visit x name new h)) (sym eh) (record {
-        stays = change_stays x p name new g.more x.opened x.present x.busy (subst (λ (w : World). Reachable w) (sym does_it) (visit_reaches name (as_world x) p.reachable))
+        stays = change_stays x p name new g.more x.opened x.present x.busy (subst (λ (w : World). Reachable w) (sym does_it) (visit_reaches (as_world x) name (seen_sorted x p) p.reachable))
             (record { connection = subst (λ (h : List Entry). IsConnection x.app name h new) eh conn; rests = new_rests same worker })
             (λ q c isc differ. g.apart c.session.carried.number (numbers_differ x p q name c old isc is differ))
             (p.present.0, present_stays x p name old new is (ap (λ (c : Conn). c.is_dropped) same ∙ g.there))
@@ -150,25 +155,32 @@ module _ (w : World) where
   acts_stuck : (name : List ℕ) (c : Conn) → conn_of w name ≡ Some c → (acts : List Act) → list_all (λ a. not (can w.app w.history c a)) acts ≡ true → list_all (λ e. not (can_in w e)) (map (λ a. (name, a)) acts) ≡ true
   acts_stuck name c is [] e = refl
   acts_stuck name c is (a ∷ acts) e =
-      let parts = both (not (can w.app w.history c a)) (list_all (λ a. not (can w.app w.history c a)) acts) e in
+      let parts = and_parts (not (can w.app w.history c a)) (list_all (λ a. not (can w.app w.history c a)) acts) e in
       ap (λ (o : Option Conn). not (can_by w a o) && list_all (λ e. not (can_in w e)) (map (λ a. (name, a)) acts)) is
       ∙ (ap (λ b. b && list_all (λ e. not (can_in w e)) (map (λ a. (name, a)) acts)) parts.0 ∙ acts_stuck name c is acts parts.1)
-    where
-      both : (a b : Bool) → (a && b) ≡ true → (a ≡ true) × (b ≡ true)
-      both true b e = (refl, e)
-      both false b e = cc e
 
-  phase_stuck : (name : List ℕ) (o : Option Conn) → conn_of w name ≡ o → IfSome o (IsIdle w.app w.history) → (q : Phase) → none_of can_in (map (λ a. (name, a)) (acts_by w q o)) w ≡ true
-  phase_stuck name None is idle q = refl
-  phase_stuck name (Some c) is idle q = acts_stuck name c is (acts_by w q (Some c)) (idle q)
+  -- the phases of one client
+  phases_stuck : (name : List ℕ) (c : Conn) → conn_of w name ≡ Some c → (more : List (World → List (List ℕ × Act))) → none_in can_in more w ≡ true → (ps : List Phase) →
+      none_in (can_on w.app) (map (phase_on w.app) ps) (record { history = w.history; conn = c }) ≡ true → none_in can_in (map (phase name) ps ++ more) w ≡ true
+  phases_stuck name c is more rest [] idle = rest
+  phases_stuck name c is more rest (q ∷ ps) idle =
+      let x : Side = record { history = w.history; conn = c } in
+      let parts = and_parts (none_of (can_on w.app) (phase_on w.app q x) x) (none_in (can_on w.app) (map (phase_on w.app) ps) x) idle in
+      ap (λ (o : Option Conn). none_of can_in (map (λ a. (name, a)) (acts_by w q o)) w && none_in can_in (map (phase name) ps ++ more) w) is
+      ∙ (ap (λ b. b && none_in can_in (map (phase name) ps ++ more) w) (acts_stuck name c is (phase_on w.app q x) parts.0) ∙ phases_stuck name c is more rest ps parts.1)
 
-  phases_stuck : (name : List ℕ) (more : List (World → List (List ℕ × Act))) → IfSome (conn_of w name) (IsIdle w.app w.history) → none_in can_in more w ≡ true → (ps : List Phase) → none_in can_in (map (phase name) ps ++ more) w ≡ true
-  phases_stuck name more idle rest [] = rest
-  phases_stuck name more idle rest (q ∷ ps) = ap (λ b. b && none_in can_in (map (phase name) ps ++ more) w) (phase_stuck name (conn_of w name) refl idle q) ∙ phases_stuck name more idle rest ps
+  nobody_stuck : (name : List ℕ) → conn_of w name ≡ None → (more : List (World → List (List ℕ × Act))) → none_in can_in more w ≡ true → (ps : List Phase) → none_in can_in (map (phase name) ps ++ more) w ≡ true
+  nobody_stuck name is more rest [] = rest
+  nobody_stuck name is more rest (q ∷ ps) =
+      ap (λ (o : Option Conn). none_of can_in (map (λ a. (name, a)) (acts_by w q o)) w && none_in can_in (map (phase name) ps ++ more) w) is ∙ nobody_stuck name is more rest ps
+
+  one_stuck : (name : List ℕ) (o : Option Conn) → conn_of w name ≡ o → IfSome o (IsIdle w.app w.history) → (more : List (World → List (List ℕ × Act))) → none_in can_in more w ≡ true → none_in can_in (map (phase name) order ++ more) w ≡ true
+  one_stuck name None is idle more rest = nobody_stuck name is more rest order
+  one_stuck name (Some c) is idle more rest = phases_stuck name c is more rest order idle
 
   names_stuck : (names : List (List ℕ)) → ((q : List ℕ) → IfSome (conn_of w q) (IsIdle w.app w.history)) → none_in can_in (phases_of names) w ≡ true
   names_stuck [] idle = refl
-  names_stuck (name ∷ names) idle = phases_stuck name (phases_of names) (idle name) (names_stuck names idle) order
+  names_stuck (name ∷ names) idle = one_stuck name (conn_of w name) refl (idle name) (phases_of names) (names_stuck names idle)
 
   pub idle_is_stuck : ((q : List ℕ) → IfSome (conn_of w q) (IsIdle w.app w.history)) → is_stuck w ≡ true
   idle_is_stuck idle = names_stuck (keys_of w.conns) idle
@@ -209,4 +221,4 @@ rest_stays x p stuck = record {
   where
     by : (q : List ℕ) (o : Option AConnection) → at text_cmp x.conns q ≡ o → IfSome o (IsClient (at_rest x) q)
     by q None is = tt
-    by q (Some c) is = record { connection = (client_is x p q c is).connection; rests = λ free why f. none_of_phase (as_world x) q (as_conn c) stuck (conn_there x q c is) f }
+    by q (Some c) is = record { connection = (client_is x p q c is).connection; rests = λ free why. idle_from x.app (record { history = x.history; conn = as_conn c }) (none_of_phase (as_world x) q (as_conn c) stuck (conn_there x q c is)) }

@@ -1,6 +1,5 @@
 -- What is kept of a world, which world of the definitions that is, and what every event keeps of it.
 use Rattle.std.specs.Prelude.{◌≡◌, ◌⊎◌, ℕ, ◌≤◌, List, [], length, map, Bool, true, false, not, Option, Some, None, is_some, IfSome}
-use Rattle.std.specs.List.{list_all}
 use Rattle.map_model.specs.Maps.{at, IsSorted}
 use Rattle.value_model.specs.Order.{text_cmp}
 use Rattle.app_model.specs.App.{App}
@@ -8,10 +7,9 @@ use Rattle.history_model.specs.declared.entry.Entry.{Entry}
 use Rattle.stored_values.specs.Values.{HasValues}
 use Rattle.core_model.specs.Store.{programs}
 use Rattle.core_model.specs.Conn.{Conn}
-use Rattle.core_model.specs.Acts.{can}
 use Rattle.core_model.specs.World.{World, Conns}
-use Rattle.core_model.specs.Settle.{Phase, acts_of}
 use Rattle.core_model.specs.Events.{Reachable}
+use Rattle.round_laws.specs.Visits.{is_idle}
 use Rattle.connection_laws.specs.Connection.{AConnection, as_conn, IsConnection}
 
 -- names in order, each with nothing
@@ -56,7 +54,7 @@ is_among names name = is_some (at text_cmp names name)
 
 -- no act of the client's phases can be made
 abbrev pub IsIdle : App → List Entry → Conn → Type 0
-IsIdle app history c = (p : Phase) → list_all (λ a. not (can app history c a)) (acts_of app history c p) ≡ true
+IsIdle app history c = is_idle app (record { history = history; conn = c }) ≡ true
 
 abbrev pub is_there : Option AConnection → Bool
 is_there None = false

@@ -4,7 +4,6 @@
 #![tactic(auto)]
 
 mod events;
-mod phases;
 mod rounds;
 mod worlds;
 
@@ -12,7 +11,6 @@ pub use events::{
     acts_are_made, clients_are_asked, clients_begin, clients_leave, nobody_does_anything,
     operations_are_made,
 };
-pub use phases::{phases_are_loops, rounds_are_each_clients_own};
 pub use rounds::{
     idle_worlds_are_settled, rounds_ask_those_that_may_act, rounds_settle, settled_worlds_are_kept,
     visits_are_made,

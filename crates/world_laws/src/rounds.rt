@@ -7,8 +7,7 @@ ghost use Rattle.core_model.specs.World.{World as TheWorld, conn_of};
 ghost use Rattle.core_model.specs.Settle.{round, is_stuck, settled};
 ghost use Rattle.connection_laws.specs.Connection.{AConnection, as_conn, IsConnection};
 ghost use Rattle.world_laws.specs.World.{AWorld, as_world, connection_of, IsIdle, IsWorld};
-ghost use Rattle.world_laws.specs.Single.{round_of};
-ghost use Rattle.world_laws.specs.Visits.{visit};
+ghost use Rattle.round_laws.specs.Visits.{visited, visits};
 ghost use Rattle.world_laws.specs.Names.{behind};
 ghost use Rattle.world_laws.specs.Doing.{visits_from, IsPassed, IsWorker, IsVisited, after_visit, at_rest};
 
@@ -16,18 +15,18 @@ ghost use Rattle.world_laws.specs.Doing.{visits_from, IsPassed, IsWorker, IsVisi
 /// settled last, and those that are gone. Each of these has nothing to do, so it is the round of the definitions: what is left of it leads
 /// where it led before, until nobody is left.
 pub fn rounds_ask_those_that_may_act()
-    ensures begins { (w : TheWorld) → visits_from [] w ≡ round w }
+    ensures begins { (x : AWorld) → IsWorld x → visits_from [] (as_world x) ≡ round (as_world x) }
     ensures goes_on { (x : AWorld) → IsWorld x → (from name : List ℕ) → is_le (text_cmp from name) ≡ true → ((q : List ℕ) → is_le (text_cmp from q) ≡ true → is_lt (text_cmp q name) ≡ true → IsPassed x q) →
-        visits_from (behind name) (visit name (as_world x)) ≡ visits_from from (as_world x) }
+        visits_from (behind name) (visits name (as_world x)) ≡ visits_from from (as_world x) }
     ensures is_over { (x : AWorld) → IsWorld x → (from : List ℕ) → ((q : List ℕ) → is_le (text_cmp from q) ≡ true → IsPassed x q) → visits_from from (as_world x) ≡ as_world x }
     ensures idle { (x : AWorld) → IsWorld x → (q : List ℕ) → IsPassed x q → IfSome (conn_of (as_world x) q) (IsIdle x.app x.history) }
     ensures behind { (name q : List ℕ) → is_le (text_cmp (behind name) q) ≡ is_lt (text_cmp name q) }
 {}
 
-/// A client that makes its own round over the history makes its part of the round.
+/// A client that goes through its phases over the history makes its part of the round.
 pub fn visits_are_made()
     ensures { (x : AWorld) → IsWorld x → (name : List ℕ) (old : AConnection) → connection_of x name ≡ Some old → (new : AConnection) (history : List Entry) →
-        history ≡ (round_of x.app (record { history = x.history; conn = as_conn old })).history → as_conn new ≡ (round_of x.app (record { history = x.history; conn = as_conn old })).conn →
+        history ≡ (visited x.app (record { history = x.history; conn = as_conn old })).history → as_conn new ≡ (visited x.app (record { history = x.history; conn = as_conn old })).conn →
         IsConnection x.app name history new → IsWorker x name → IsVisited x name (after_visit x name new history) }
 {}
 
