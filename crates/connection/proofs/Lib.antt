@@ -1,0 +1,5 @@
+mod Moves
+mod Refusals
+mod Sides
+mod Requests
+mod Stores

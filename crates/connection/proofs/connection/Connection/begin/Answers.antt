@@ -1,0 +1,7 @@
+use Rattle.std.proofs.Common.{sym, subst}
+use Rattle.link_laws.specs.Session.{IsServed}
+use Rattle.connection_laws.specs.Connection.{AConnection, as_conn}
+use Rattle.connection.proofs.connection.Connection.begin.Goals as goal
+
+pub begin-requires-clause-served : goal.begin-requires-clause-served
+begin-requires-clause-served c = subst (λ (x : AConnection). IsServed c.args.machine.now.app c.args.machine.now.history (as_conn x)) (sym c.self.view_is) c.requires.served
