@@ -7,6 +7,7 @@ use Rattle.value_model.specs.Order.{text_cmp}
 use Rattle.history_model.specs.declared.entry.Entry.{Entry}
 use Rattle.history_model.specs.declared.entry.Entry.TheVariants as entry
 use Rattle.core_model.specs.declared.events.Act.{Act}
+use Rattle.core_model.specs.declared.events.Act.TheVariants as act
 use Rattle.core_model.specs.Asks.{Ask}
 use Rattle.core_model.specs.Asks as ask
 use Rattle.core_model.specs.World.{World, done, opens, asked_in}
@@ -43,6 +44,11 @@ touched x name = record x { busy = with_name x.busy name }
 pub record IsActed (x : AWorld) (name : List ℕ) (a : Act) (y : AWorld) : Type 0 where
   pub stays : IsWorld y
   pub does : as_world y ≡ done (name, a) (as_world x)
+
+-- whether the client takes a text
+abbrev pub is_take : Act → Bool
+is_take act.Take = true
+is_take a = false
 
 -- ---- what is asked
 

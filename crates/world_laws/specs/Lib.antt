@@ -10,3 +10,4 @@ pub mod Growing
 pub mod Settling
 pub mod Asking
 pub mod Promises
+pub mod Printing

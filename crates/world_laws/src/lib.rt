@@ -4,6 +4,7 @@
 #![tactic(auto)]
 
 mod events;
+mod lines;
 mod rounds;
 mod worlds;
 
@@ -11,6 +12,7 @@ pub use events::{
     acts_are_made, clients_are_asked, clients_begin, clients_leave, nobody_does_anything,
     operations_are_made,
 };
+pub use lines::{answers_are_printed, clients_are_printed, events_name_acts};
 pub use rounds::{
     idle_worlds_are_settled, rounds_ask_those_that_may_act, rounds_settle, settled_worlds_are_kept,
     visits_are_made,
