@@ -1,20 +1,24 @@
 -- What events and rounds make of what is kept of a world, and which step of the definitions that is.
-use Rattle.std.specs.Prelude.{◌≡◌, ◌⊎◌, ℕ, suc, List, [], ◌∷◌, ◌++◌, length, Bool, true, false}
+use Rattle.std.specs.Prelude.{◌≡◌, ◌⊎◌, ℕ, suc, List, [], ◌∷◌, ◌++◌, length, Bool, true, false, IfSome}
 use Rattle.std.specs.Map.{keys_of, remove_entry}
+use Rattle.std.specs.Ordering.{is_le}
 use Rattle.std.specs.BTreeMap.{is_at, insert_entry}
 use Rattle.value_model.specs.Val.{Val}
 use Rattle.value_model.specs.Order.{text_cmp}
 use Rattle.history_model.specs.declared.entry.Entry.{Entry}
 use Rattle.history_model.specs.declared.entry.Entry.TheVariants as entry
+use Rattle.settling.specs.Rounds.{made}
 use Rattle.core_model.specs.declared.events.Act.{Act}
 use Rattle.core_model.specs.declared.events.Act.TheVariants as act
+use Rattle.core_model.specs.declared.events.Event.{Event}
+use Rattle.core_model.specs.declared.events.Event.TheVariants as event
 use Rattle.core_model.specs.Asks.{Ask}
 use Rattle.core_model.specs.Asks as ask
-use Rattle.core_model.specs.World.{World, done, opens, asked_in}
-use Rattle.core_model.specs.Events.{administers}
+use Rattle.core_model.specs.World.{World, conn_of, done, opens, asked_in}
+use Rattle.core_model.specs.Events.{administers, step}
 use Rattle.round_laws.specs.Visits.{visits}
 use Rattle.connection_laws.specs.Connection.{AConnection, new_connection}
-use Rattle.world_laws.specs.World.{Names, AWorld, as_world, is_among, IsWorld}
+use Rattle.world_laws.specs.World.{Names, AWorld, as_world, is_among, IsIdle, IsWorld}
 use Rattle.world_laws.specs.Names.{names_from, visited}
 
 -- ---- names
@@ -98,6 +102,10 @@ visits_from from w = visited visits (names_from from (keys_of w.conns)) w
 abbrev pub IsPassed : AWorld → List ℕ → Type 0
 IsPassed x q = (is_among x.busy q ≡ false) × ((length x.history ≡ x.settled) ⊎ (is_among x.present q ≡ false))
 
+-- those before this name have nothing to do
+abbrev pub IsIdleBefore : AWorld → List ℕ → Type 0
+IsIdleBefore x from = (q : List ℕ) → is_le (text_cmp from q) ≡ false → IfSome (conn_of (as_world x) q) (IsIdle x.app x.history)
+
 -- the world after a visit: the client changed, and the history grew
 abbrev pub after_visit : AWorld → List ℕ → AConnection → List Entry → AWorld
 after_visit x name new history = record x { history = history; conns = insert_entry text_cmp x.conns name new }
@@ -113,3 +121,19 @@ pub record IsVisited (x : AWorld) (name : List ℕ) (y : AWorld) : Type 0 where
 -- nobody is busy then, and the history is as it is
 abbrev pub at_rest : AWorld → AWorld
 at_rest x = record x { busy = []; settled = length x.history }
+
+-- ---- what every event promises
+
+-- the event is made
+pub record IsStep (x : AWorld) (e : Event) (y : AWorld) : Type 0 where
+  pub stays : IsWorld y
+  pub does : as_world y ≡ step (as_world x) e
+
+-- some acts lead from one world to the other
+abbrev pub ActsLead : World → World → Type 0
+ActsLead v w = (acts : List (List ℕ × Act)) × (made done acts v ≡ w)
+
+-- where memory runs out: the world is as it was, or, where it was to settle, as the acts so far left it
+abbrev pub IsLeft : Event → AWorld → AWorld → Type 0
+IsLeft event.Settle x y = IsWorld y × ActsLead (as_world x) (as_world y)
+IsLeft e x y = IsWorld y × (as_world y ≡ as_world x)

@@ -48,7 +48,7 @@ one_grows app a s = by (can app s.history s.conn a)
       there = does_there app s.history s.conn a;
     }
 
-made_grows : (app : App) (acts : List Act) (s : Side) → Grows s (made (act_on app) acts s)
+pub made_grows : (app : App) (acts : List Act) (s : Side) → Grows s (made (act_on app) acts s)
 made_grows app [] s = grows_none s
 made_grows app (a ∷ acts) s = grows_on s (act_on app a s) (made (act_on app) acts (act_on app a s)) (one_grows app a s) (made_grows app acts (act_on app a s))
 

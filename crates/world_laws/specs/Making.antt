@@ -19,7 +19,7 @@ use Rattle.core_model.specs.declared.events.Event.{Event}
 use Rattle.core_model.specs.Conn.{Waiting, Conn, state_in}
 use Rattle.core_model.specs.Acts.{goes_up, received_as, receives, handles, is_kept, unbegun, is_refused, begin_entry, begun, learnt, learns_item, sends, takes, outcome, is_done, can, does, entries}
 use Rattle.core_model.specs.World.{World, conn_of, acted, done_by, done, outcome_by}
-use Rattle.core_model.specs.Events.{act_in, done_if, acts, Reachable}
+use Rattle.core_model.specs.Events.{act_in, act_by, done_if, acts, step, Reachable}
 use Rattle.connection_laws.specs.Connection.{AConnection, as_conn}
 use Rattle.connection_laws.specs.Acting.{IsDone}
 use Rattle.connection_laws.specs.Standing.{longer_stays}
@@ -27,7 +27,7 @@ use Rattle.world_laws.specs.World.{Names, AWorld, as_world, connection_of, is_am
 use Rattle.world_laws.specs.Gone.{AreNotBy}
 use Rattle.world_laws.specs.Reaching.{done_reaches}
 use Rattle.world_laws.specs.Changing.{conn_is, conn_there, put_seen, numbers_differ, change_stays}
-use Rattle.world_laws.specs.Doing.{with_name, after_act, touched, IsActed}
+use Rattle.world_laws.specs.Doing.{IsStep, with_name, after_act, touched, IsActed}
 
 -- ---- what an act leaves
 
@@ -217,3 +217,17 @@ acts_are x name old e is = ap (λ (o : Option Conn). done_if (as_world x) name (
 
 pub nobody_is_named : (x : AWorld) (name : List ℕ) (e : Event) → connection_of x name ≡ None → acts (as_world x) name e ≡ as_world x
 nobody_is_named x name e is = ap (λ (o : Option Conn). done_if (as_world x) name (option_and_then (λ (c : Conn). act_in x.history c e) o)) (conn_is x name ∙ ap (option_map as_conn) is)
+
+-- ---- events that name acts
+
+module _ (x : AWorld) (name : List ℕ) (e : Event) (is_of_acts : step (as_world x) e ≡ acts (as_world x) name e) where
+  -- the act that is named is made
+  pub named_made : (a : Act) (y : AWorld) → act_by (as_world x) name e ≡ Some a → IsActed x name a y → IsStep x e y
+  named_made a y is acted_ = record { stays = acted_.stays; does = acted_.does ∙ sym (is_of_acts ∙ ap (done_if (as_world x) name) is) }
+
+  -- it isn't, or none is named
+  pub named_not_made : IsWorld x → (a : Act) → act_by (as_world x) name e ≡ Some a → done (name, a) (as_world x) ≡ as_world x → IsStep x e (touched x name)
+  named_not_made p a is none = record { stays = touch_stays x p name; does = sym (is_of_acts ∙ (ap (done_if (as_world x) name) is ∙ none)) }
+
+  pub none_named : IsWorld x → act_by (as_world x) name e ≡ None → IsStep x e x
+  none_named p is = record { stays = p; does = sym (is_of_acts ∙ ap (done_if (as_world x) name) is) }

@@ -22,7 +22,7 @@ names_from from names = filter (λ q. is_le (text_cmp from q)) names
 abbrev pub behind : List ℕ → List ℕ
 behind name = name ++ 0 ∷ []
 
-empty_first : (q : List ℕ) → is_le (text_cmp [] q) ≡ true
+pub empty_first : (q : List ℕ) → is_le (text_cmp [] q) ≡ true
 empty_first [] = refl
 empty_first (x ∷ xs) = refl
 

@@ -86,7 +86,12 @@ module _ (w : World) (name : List ℕ) (sorted : IsSorted text_cmp w.conns) wher
       ap (done_by (with_side w name x) name a) (conn_put x)
       ∙ elim (can_on w.app x a) as (λ b. cond b (acted (with_side w name x) name a x.conn) (with_side w name x) ≡ with_side w name (cond b (made_on a x) x)) [ true ↦ acted_put a x | false ↦ refl ]
 
-  made_reaches : (acts : List Act) (x : Side) → Reachable (with_side w name x) → Reachable (with_side w name (made (act_on w.app) acts x))
+  -- the client's acts, in the world
+  pub made_put : (acts : List Act) (x : Side) → made done (map (λ a. (name, a)) acts) (with_side w name x) ≡ with_side w name (made (act_on w.app) acts x)
+  made_put [] x = refl
+  made_put (a ∷ acts) x = ap (made done (map (λ a. (name, a)) acts)) (done_put a x) ∙ made_put acts (act_on w.app a x)
+
+  pub made_reaches : (acts : List Act) (x : Side) → Reachable (with_side w name x) → Reachable (with_side w name (made (act_on w.app) acts x))
   made_reaches [] x r = r
   made_reaches (a ∷ acts) x r = made_reaches acts (act_on w.app a x) (subst Reachable (done_put a x) (done_reaches (name, a) (with_side w name x) r))
 

@@ -2,7 +2,9 @@
 use Rattle.std.specs.Prelude.{◌≡◌, ◌⊎◌, ℕ, zero, suc, List, [], ◌∷◌, ◌++◌, length, map, Bool, true, false, cond, not, ◌&&◌, Option, Some, None, is_some, option_map, IfSome, refl}
 use Rattle.std.specs.List.{list_all, list_any}
 use Rattle.std.specs.Map.{keys_of}
-use Rattle.std.specs.Ordering.{eq_by_cmp, is_le, is_lt}
+use Rattle.std.specs.declared.cmp.Ordering.{Ordering}
+use Rattle.std.specs.declared.cmp.Ordering.TheVariants.{Less, Equal, Greater}
+use Rattle.std.specs.Ordering.{eq_by_cmp, is_le, is_lt, ordering_reverse}
 use Rattle.std.specs.BTreeMap.{insert_entry}
 use Rattle.std.proofs.Common.{ap, sym, subst, ◌∙◌, arith, inl, inr}
 use Rattle.std.proofs.lemmas.List.{length-append}
@@ -14,13 +16,15 @@ use Rattle.ejson_value.specs.Key.{name_order}
 use Rattle.history_model.specs.declared.entry.Entry.{Entry}
 use Rattle.settling.specs.Tower.{often}
 use Rattle.settling.specs.TowerLaws.{tower_makes}
-use Rattle.settling.specs.Rounds.{none_of, none_in}
+use Rattle.settling.specs.Rounds.{made, through, none_of, none_in}
 use Rattle.stored_values.specs.Values.{HasValues}
+use Rattle.round_laws.specs.Repeats.{made-append}
 use Rattle.core_model.specs.declared.events.Act.{Act}
+use Rattle.core_model.specs.declared.events.Event.TheVariants as event
 use Rattle.core_model.specs.Store.{programs}
 use Rattle.core_model.specs.Conn.{Conn}
 use Rattle.core_model.specs.Acts.{can}
-use Rattle.core_model.specs.World.{World, conn_of, can_by, can_in}
+use Rattle.core_model.specs.World.{World, conn_of, done, can_by, can_in}
 use Rattle.core_model.specs.Settle.{Phase, acts_by, phase, order, phases_of, round, is_stuck, measures, settled}
 use Rattle.core_model.specs.Events.{Reachable}
 use Rattle.link_laws.specs.Lift.{round_holds}
@@ -31,14 +35,14 @@ use Rattle.settled_worlds.specs.Tidy.{Stands}
 use Rattle.settled_worlds.specs.Settling as settling
 use Rattle.connection_laws.specs.Connection.{AConnection, as_conn, IsConnection}
 use Rattle.world_laws.specs.World.{AWorld, as_world, connection_of, is_among, IsIdle, is_there, IsClient, IsWorld}
-use Rattle.round_laws.specs.Visits.{Side, can_on, phase_on, visited as client_visited, visited_by, visits, all_visited, round_is, idle_left}
+use Rattle.round_laws.specs.Visits.{Side, can_on, act_on, phase_on, with_side, visited as client_visited, visited_by, visits, all_visited, round_is, idle_left}
 use Rattle.world_laws.specs.Idle.{idle_from}
-use Rattle.world_laws.specs.Names.{names_from, behind, visited, next_comes, none_comes, all_come, same_keys, sorted_mapped}
-use Rattle.world_laws.specs.Reaching.{reached_stands, visit_reaches}
+use Rattle.world_laws.specs.Names.{names_from, behind, behind_it, empty_first, visited, next_comes, none_comes, all_come, same_keys, sorted_mapped}
+use Rattle.world_laws.specs.Reaching.{reached_stands, put_itself, made_put, made_reaches, visit_reaches}
 use Rattle.world_laws.specs.Changing.{conn_is, conn_there, put_seen, client_is, numbers_differ, change_stays}
 use Rattle.world_laws.specs.Making.{present_stays}
-use Rattle.world_laws.specs.Growing.{Grows, visit_grows}
-use Rattle.world_laws.specs.Doing.{visits_from, IsPassed, after_visit, IsWorker, IsVisited, at_rest}
+use Rattle.world_laws.specs.Growing.{Grows, made_grows, visit_grows}
+use Rattle.world_laws.specs.Doing.{visits_from, IsPassed, IsIdleBefore, after_visit, IsWorker, IsVisited, at_rest, IsStep, ActsLead}
 
 -- ---- a round
 
@@ -116,38 +120,54 @@ module _ (x : AWorld) (p : IsWorld x) (name : List ℕ) (old : AConnection) (is 
   abbrev alone : Side
   alone = record { history = x.history; conn = as_conn old }
 
-  abbrev g : Grows alone (client_visited x.app alone)
-  g = visit_grows x.app alone
+  -- where it goes on so
+  module _ (t : Side) (g : Grows alone t) (same : as_conn new ≡ t.conn) where
+    now_is : as_world (after_visit x name new (x.history ++ g.more)) ≡ with_side (as_world x) name t
+    now_is = λ j. record (as_world x) { history = sym g.behind j; conns = (put_seen x.conns name new p.order ∙ ap (insert_entry text_cmp (as_world x).conns name) same) j }
 
-  visited_does : as_conn new ≡ (client_visited x.app alone).conn → as_world (after_visit x name new (x.history ++ g.more)) ≡ visits name (as_world x)
-  visited_does same =
-      (λ j. record (as_world x) { history = sym g.behind j; conns = (put_seen x.conns name new p.order ∙ ap (insert_entry text_cmp (as_world x).conns name) same) j })
-      ∙ sym (ap (visited_by (as_world x) name) (conn_there x name old is))
+    new_rests : IsWorker x name → is_among x.busy name ≡ false → (length (x.history ++ g.more) ≡ x.settled) ⊎ (new.is_dropped ≡ true) → IsIdle x.app (x.history ++ g.more) (as_conn new)
+    new_rests (inl busy) free why = cc (sym busy ∙ free)
+    new_rests (inr there) free (inl many) =
+        let within = p.settled in absurd (there.1 (omega (arith, many, within, length-append x.history g.more)))
+    new_rests (inr there) free (inr gone) =
+        let here : not old.is_dropped ≡ true = sym (p.present.1 name ∙ ap is_there is) ∙ there.0 in
+        let before : new.is_dropped ≡ old.is_dropped = ap (λ (c : Conn). c.is_dropped) same ∙ g.there in
+        cc (sym here ∙ ap not (sym before ∙ gone))
 
-  new_rests : as_conn new ≡ (client_visited x.app alone).conn → IsWorker x name → is_among x.busy name ≡ false → (length (x.history ++ g.more) ≡ x.settled) ⊎ (new.is_dropped ≡ true) →
-      IsIdle x.app (x.history ++ g.more) (as_conn new)
-  new_rests same (inl busy) free why = cc (sym busy ∙ free)
-  new_rests same (inr there) free (inl many) =
-      let within = p.settled in absurd (there.1 (omega (arith, many, within, length-append x.history g.more)))
-  new_rests same (inr there) free (inr gone) =
-      let here : not old.is_dropped ≡ true = sym (p.present.1 name ∙ ap is_there is) ∙ there.0 in
-      let before : new.is_dropped ≡ old.is_dropped = ap (λ (c : Conn). c.is_dropped) same ∙ g.there in
-      cc (sym here ∙ ap not (sym before ∙ gone))
+    goes_so : (history : List Entry) → history ≡ t.history → Reachable (with_side (as_world x) name t) → IsConnection x.app name history new → IsWorker x name →
+        IsWorld (after_visit x name new history) × (as_world (after_visit x name new history) ≡ with_side (as_world x) name t)
+    goes_so history grown reach conn worker =
+        let eh : history ≡ x.history ++ g.more = grown ∙ g.behind in
+        subst (λ (h : List Entry). IsWorld (after_visit x name new h) × (as_world (after_visit x name new h) ≡ with_side (as_world x) name t)) (sym eh) (
+          change_stays x p name new g.more x.opened x.present x.busy (subst (λ (w : World). Reachable w) (sym now_is) reach)
+              (record { connection = subst (λ (h : List Entry). IsConnection x.app name h new) eh conn; rests = new_rests worker })
+              (λ q c isc differ. g.apart c.session.carried.number (numbers_differ x p q name c old isc is differ))
+              (p.present.0, present_stays x p name old new is (ap (λ (c : Conn). c.is_dropped) same ∙ g.there)) p.busy (λ q free. free),
+          now_is,
+        )
 
-  -- A visit that makes the client's own round is the client's part of the round.
+  seen : visits name (as_world x) ≡ with_side (as_world x) name (client_visited x.app alone)
+  seen = ap (visited_by (as_world x) name) (conn_there x name old is)
+
+  -- A client that goes through its phases makes its part of the round.
   pub visit_made : (history : List Entry) → history ≡ (client_visited x.app alone).history → as_conn new ≡ (client_visited x.app alone).conn → IsConnection x.app name history new → IsWorker x name →
       IsVisited x name (after_visit x name new history)
   visit_made history grown same conn worker =
-      let eh : history ≡ x.history ++ g.more = grown ∙ g.behind in
-      let does_it = visited_does same in
-      subst (λ (h : List Entry). IsVisited x name (after_visit x name new h)) (sym eh) (record {
-        stays = change_stays x p name new g.more x.opened x.present x.busy (subst (λ (w : World). Reachable w) (sym does_it) (visit_reaches (as_world x) name (seen_sorted x p) p.reachable))
-            (record { connection = subst (λ (h : List Entry). IsConnection x.app name h new) eh conn; rests = new_rests same worker })
-            (λ q c isc differ. g.apart c.session.carried.number (numbers_differ x p q name c old isc is differ))
-            (p.present.0, present_stays x p name old new is (ap (λ (c : Conn). c.is_dropped) same ∙ g.there))
-            p.busy (λ q free. free);
-        does = does_it;
-      })
+      let reach : Reachable (with_side (as_world x) name (client_visited x.app alone)) = subst (λ (w : World). Reachable w) seen (visit_reaches (as_world x) name (seen_sorted x p) p.reachable) in
+      let r = goes_so (client_visited x.app alone) (visit_grows x.app alone) same history grown reach conn worker in
+      record { stays = r.0; does = r.1 ∙ sym seen }
+
+  itself : with_side (as_world x) name alone ≡ as_world x
+  itself = put_itself (as_world x) name (seen_sorted x p) (as_conn old) (conn_there x name old is)
+
+  -- One that makes some acts alone makes these.
+  pub part_made : (acts : List Act) (history : List Entry) → history ≡ (made (act_on x.app) acts alone).history → as_conn new ≡ (made (act_on x.app) acts alone).conn → IsConnection x.app name history new → IsWorker x name →
+      IsWorld (after_visit x name new history) × ActsLead (as_world x) (as_world (after_visit x name new history))
+  part_made acts history grown same conn worker =
+      let t = made (act_on x.app) acts alone in
+      let reach = made_reaches (as_world x) name (seen_sorted x p) acts alone (subst (λ (w : World). Reachable w) (sym itself) p.reachable) in
+      let r = goes_so t (made_grows x.app acts alone) same history grown reach conn worker in
+      (r.0, (map (λ a. (name, a)) acts, ap (made done (map (λ a. (name, a)) acts)) (sym itself) ∙ (made_put (as_world x) name (seen_sorted x p) acts alone ∙ sym r.1)))
 
 -- ---- a world in which nobody has anything to do
 
@@ -184,6 +204,41 @@ module _ (w : World) where
 
   pub idle_is_stuck : ((q : List ℕ) → IfSome (conn_of w q) (IsIdle w.app w.history)) → is_stuck w ≡ true
   idle_is_stuck idle = names_stuck (keys_of w.conns) idle
+
+-- ---- a round that makes nothing
+
+module _ (x : AWorld) (p : IsWorld x) where
+  pub idle_begins : IsIdleBefore x []
+  idle_begins q e = cc (sym (empty_first q) ∙ e)
+
+  -- one more has nothing to do, and those between are passed over
+  pub idle_goes_on : (from name : List ℕ) → IsIdleBefore x from → ((q : List ℕ) → is_le (text_cmp from q) ≡ true → is_lt (text_cmp q name) ≡ true → IsPassed x q) →
+      IfSome (conn_of (as_world x) name) (IsIdle x.app x.history) → IsIdleBefore x (behind name)
+  idle_goes_on from name before between own q e = by (is_le (text_cmp from q)) refl (text_cmp q name) refl
+    where
+      later : is_lt (text_cmp name q) ≡ false
+      later = sym (behind_it name q) ∙ e
+
+      by : (b : Bool) → is_le (text_cmp from q) ≡ b → (o : Ordering) → text_cmp q name ≡ o → IfSome (conn_of (as_world x) q) (IsIdle x.app x.history)
+      by false f o s = before q f
+      by true f Less s = passed_idle x p q (between q f (ap is_lt s))
+      by true f Equal s = subst (λ (n : List ℕ). IfSome (conn_of (as_world x) n) (IsIdle x.app x.history)) (sym (name_order.exact q name s)) own
+      by true f Greater s = let less : is_lt (text_cmp name q) ≡ true = ap is_lt (name_order.total.antisymm name q ∙ ap ordering_reverse s) in cc (sym less ∙ later)
+
+  -- nobody is left
+  pub idle_ends : (from : List ℕ) → IsIdleBefore x from → ((q : List ℕ) → is_le (text_cmp from q) ≡ true → IsPassed x q) → is_stuck (as_world x) ≡ true
+  idle_ends from before rest = idle_is_stuck (as_world x) each
+    where
+      by : (q : List ℕ) (b : Bool) → is_le (text_cmp from q) ≡ b → IfSome (conn_of (as_world x) q) (IsIdle x.app x.history)
+      by q false f = before q f
+      by q true f = passed_idle x p q (rest q f)
+
+      each : (q : List ℕ) → IfSome (conn_of (as_world x) q) (IsIdle x.app x.history)
+      each q = by q (is_le (text_cmp from q)) refl
+
+  -- nobody of this name is visited
+  pub nobody_is_visited : (name : List ℕ) → connection_of x name ≡ None → visits name (as_world x) ≡ as_world x
+  nobody_is_visited name e = ap (visited_by (as_world x) name) (conn_is x name ∙ ap (option_map as_conn) e)
 
 -- ---- rounds
 
@@ -222,3 +277,30 @@ rest_stays x p stuck = record {
     by : (q : List ℕ) (o : Option AConnection) → at text_cmp x.conns q ≡ o → IfSome o (IsClient (at_rest x) q)
     by q None is = tt
     by q (Some c) is = record { connection = (client_is x p q c is).connection; rests = λ free why. idle_from x.app (record { history = x.history; conn = as_conn c }) (none_of_phase (as_world x) q (as_conn c) stuck (conn_there x q c is)) }
+
+-- rounds that lead there make the event
+pub settling_made : (x y : AWorld) → IsWorld y → settled (as_world y) ≡ settled (as_world x) → is_stuck (as_world y) ≡ true → IsStep x event.Settle (at_rest y)
+settling_made x y p same stuck = record { stays = rest_stays y p stuck; does = sym (stuck_is_settled (as_world y) p.values p.reachable stuck) ∙ same }
+
+-- ---- acts one after another
+
+pub no_acts : (w : World) → ActsLead w w
+no_acts w = ([], refl)
+
+pub acts_go_on : (u v w : World) → ActsLead u v → ActsLead v w → ActsLead u w
+acts_go_on u v w a b = (a.0 ++ b.0, made-append done a.0 b.0 u ∙ (ap (made done b.0) a.1 ∙ b.1))
+
+through_acts : {W A : Type 0} (f : A → W → W) (ps : List (W → List A)) (w : W) → (acts : List A) × (made f acts w ≡ through f ps w)
+through_acts f [] w = ([], refl)
+through_acts f (q ∷ ps) w = let rest = through_acts f ps (made f (q w) w) in (q w ++ rest.0, made-append f (q w) rest.0 w ∙ rest.1)
+
+-- a visit is some acts
+pub visit_is_acts : (w : World) (name : List ℕ) → IsSorted text_cmp w.conns → ActsLead w (visits name w)
+visit_is_acts w name sorted = by (conn_of w name) refl
+  where
+    by : (o : Option Conn) → conn_of w name ≡ o → ActsLead w (visited_by w name o)
+    by None e = ([], refl)
+    by (Some c) e =
+        let x : Side = record { history = w.history; conn = c } in
+        let acts = through_acts (act_on w.app) (map (phase_on w.app) order) x in
+        (map (λ a. (name, a)) acts.0, ap (made done (map (λ a. (name, a)) acts.0)) (sym (put_itself w name sorted c e)) ∙ (made_put w name sorted acts.0 x ∙ ap (with_side w name) acts.1))

@@ -11,13 +11,13 @@ ghost use Rattle.core_model.specs.Conn.{client_limit};
 ghost use Rattle.core_model.specs.Asks.{Ask, can_ask};
 ghost use Rattle.core_model.specs.Asks as ask;
 ghost use Rattle.core_model.specs.World.{conn_of, done, outcome_by, opens, can_open, asked_in, can_ask_by};
-ghost use Rattle.core_model.specs.Events.{act_in, done_if, acts, refusal_of, administers};
+ghost use Rattle.core_model.specs.Events.{act_in, act_by, done_if, acts, step, refusal_of, administers};
 ghost use Rattle.link_laws.specs.Lift.{IsAsk};
 ghost use Rattle.connection_laws.specs.Connection.{AConnection, as_conn};
 ghost use Rattle.connection_laws.specs.Acting.{IsDone};
 ghost use Rattle.connection_laws.specs.Asks.{IsAsked};
 ghost use Rattle.world_laws.specs.World.{AWorld, as_world, connection_of, IsWorld};
-ghost use Rattle.world_laws.specs.Doing.{IsActed, after_act, touched, IsAskedIn, after_ask, after_drop, is_drop, IsOpened, after_open, IsAdministered, after_operation};
+ghost use Rattle.world_laws.specs.Doing.{IsActed, after_act, touched, IsAskedIn, after_ask, after_drop, is_drop, IsOpened, after_open, IsAdministered, after_operation, IsStep};
 
 /// An act of a client is the act of the world, which answers as the client's act does.
 pub fn acts_are_made()
@@ -63,4 +63,12 @@ pub fn nobody_does_anything()
     ensures named { (x : AWorld) (name : List ℕ) (e : AnEvent) → connection_of x name ≡ None → acts (as_world x) name e ≡ as_world x }
     ensures asks { (x : AWorld) (name : List ℕ) (a : Ask) → connection_of x name ≡ None → asked_in name a (as_world x) ≡ as_world x }
     ensures can { (x : AWorld) (name : List ℕ) (a : Ask) → connection_of x name ≡ None → can_ask_by a (conn_of (as_world x) name) ≡ false }
+{}
+
+/// An event that names an act of a client is this act, where it names one.
+pub fn named_acts_are_events()
+    ensures made { (x : AWorld) (name : List ℕ) (e : AnEvent) → step (as_world x) e ≡ acts (as_world x) name e → (a : AnAct) (y : AWorld) → act_by (as_world x) name e ≡ Some a → IsActed x name a y → IsStep x e y }
+    ensures not_made { (x : AWorld) (name : List ℕ) (e : AnEvent) → step (as_world x) e ≡ acts (as_world x) name e → IsWorld x → (a : AnAct) → act_by (as_world x) name e ≡ Some a → done (name, a) (as_world x) ≡ as_world x →
+        IsStep x e (touched x name) }
+    ensures none { (x : AWorld) (name : List ℕ) (e : AnEvent) → step (as_world x) e ≡ acts (as_world x) name e → IsWorld x → act_by (as_world x) name e ≡ None → IsStep x e x }
 {}
