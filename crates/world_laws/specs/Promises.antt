@@ -1,5 +1,5 @@
 -- What every world is that the code makes.
-use Rattle.std.specs.Prelude.{refl}
+use Rattle.std.specs.Prelude.{◌≡◌, ℕ, List, Some, refl}
 use Rattle.std.proofs.Common.{subst, arith}
 use Rattle.map_model.specs.MapLaws.{sorted-nil}
 use Rattle.value_model.specs.Order.{text_cmp}
@@ -12,8 +12,11 @@ use Rattle.core_model.specs.Headline.{IsTrueWorld, HaveLongAlone, AreAtRest}
 use Rattle.headline.specs.Worlds.{worlds_are_true}
 use Rattle.polite_clients.specs.Worlds.{worlds_have_long_alone}
 use Rattle.resting_worlds.specs.AtRest.{settled_worlds_rest}
-use Rattle.world_laws.specs.World.{AWorld, new_world, as_world, IsWorld}
-use Rattle.world_laws.specs.Reaching.{start_reaches}
+use Rattle.link_laws.specs.Links.{IsLinked}
+use Rattle.connection_laws.specs.Connection.{AConnection, as_conn}
+use Rattle.world_laws.specs.World.{AWorld, new_world, as_world, connection_of, IsWorld}
+use Rattle.world_laws.specs.Reaching.{start_reaches, reached_stands}
+use Rattle.world_laws.specs.Changing.{conn_there}
 
 pub worlds_true : (x : AWorld) → IsWorld x → IsTrueWorld (as_world x)
 worlds_true x p = subst IsTrueWorld p.reachable.2 (worlds_are_true x.app p.reachable.0 p.values p.reachable.1)
@@ -35,3 +38,7 @@ new_stays app values = record {
   busy = sorted-nil text_cmp;
   settled = omega arith;
 }
+
+-- each client with its session is linked, and so served, as the laws of each have it
+pub clients_linked : (x : AWorld) → IsWorld x → (name : List ℕ) (c : AConnection) → connection_of x name ≡ Some c → IsLinked x.app x.history (as_conn c)
+clients_linked x p name c is = (reached_stands (as_world x) p.reachable).all name (as_conn c) (conn_there x name c is)

@@ -17,4 +17,6 @@ pub use rounds::{
     idle_worlds_are_settled, parts_of_rounds_are_acts, rounds_ask_those_that_may_act,
     rounds_may_make_nothing, rounds_settle, settled_worlds_are_kept, visits_are_made,
 };
-pub use worlds::{kept_worlds_are_true, settled_worlds_are_at_rest, worlds_begin};
+pub use worlds::{
+    clients_are_served, kept_worlds_are_true, settled_worlds_are_at_rest, worlds_begin,
+};

@@ -1,12 +1,15 @@
 //! What every world is.
-ghost use Rattle.std.specs.Prelude.{◌≡◌};
+ghost use Rattle.std.specs.Prelude.{◌≡◌, ℕ, List, Some};
 ghost use Rattle.app_model.specs.App.{App};
 ghost use Rattle.stored_values.specs.Values.{HasValues};
 ghost use Rattle.core_model.specs.Headline.{IsTrueWorld, HaveLongAlone, AreAtRest};
 ghost use Rattle.core_model.specs.Store.{programs};
 ghost use Rattle.core_model.specs.Settle.{settled};
 ghost use Rattle.core_model.specs.World.{start};
-ghost use Rattle.world_laws.specs.World.{AWorld, new_world, as_world, IsWorld};
+ghost use Rattle.link_laws.specs.Links.{IsLinked};
+ghost use Rattle.link_laws.specs.Session.{IsServed};
+ghost use Rattle.connection_laws.specs.Connection.{AConnection, as_conn};
+ghost use Rattle.world_laws.specs.World.{AWorld, new_world, as_world, connection_of, IsWorld};
 
 /// A new world is that of its application at the beginning.
 pub fn worlds_begin()
@@ -23,4 +26,10 @@ pub fn kept_worlds_are_true()
 /// Where it settles, its sessions are at rest.
 pub fn settled_worlds_are_at_rest()
     ensures { (x : AWorld) → IsWorld x → AreAtRest (settled (as_world x)) }
+{}
+
+/// Each client is linked with its session, which serves it: what beginning a call and learning of a refusal ask for.
+pub fn clients_are_served()
+    ensures linked { (x : AWorld) → IsWorld x → (name : List ℕ) (c : AConnection) → connection_of x name ≡ Some c → IsLinked x.app x.history (as_conn c) }
+    ensures served { (x : AWorld) → IsWorld x → (name : List ℕ) (c : AConnection) → connection_of x name ≡ Some c → IsServed x.app x.history (as_conn c) }
 {}
