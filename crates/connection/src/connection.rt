@@ -2,7 +2,7 @@
 ghost use Rattle.std.specs.Prelude.{◌≡◌, ℕ, List, IfOk};
 ghost use Rattle.app_model.specs.App.{App as AnApp};
 ghost use Rattle.history_model.specs.declared.entry.Entry.{Entry};
-ghost use Rattle.journal_model.specs.Subscriptions.{sub_named};
+ghost use Rattle.journal_model.specs.Subscriptions.{sub_named, cursor_of};
 ghost use Rattle.client_parts.specs.Lines.{line_texts};
 ghost use Rattle.client_core.specs.State.{show_lines};
 ghost use Rattle.core_model.specs.declared.events.Act.TheVariants as act;
@@ -23,6 +23,7 @@ use core_model::Answer;
 use ejson_codec::Lines;
 use ejson_value::{Items, Mem, Publishes, Text};
 use session::Session;
+use session_state::cursor_of;
 use std::alloc::Global;
 use std::marker::Model;
 use store_machine::Machine;
@@ -79,6 +80,13 @@ impl Connection {
         ensures { result ≡ sub_named id.now self.now.session.carried.own.subs }
     {
         self.side.session.sub_of(id)
+    }
+
+    /// The place of the history that the subscription with this number shows, once it is loaded.
+    pub fn cursor_of(&self, sub: u64) -> Option<u64>
+        ensures { result ≡ cursor_of sub self.now.session.carried.own.subs }
+    {
+        cursor_of(self.side.session.subs(), sub)
     }
 
     /// Whether the client, and its session, are gone.

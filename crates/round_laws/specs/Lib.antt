@@ -1,3 +1,4 @@
 pub mod Repeats
 pub mod Visits
 pub mod Loops
+pub mod Steps

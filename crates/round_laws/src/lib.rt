@@ -8,13 +8,16 @@ ghost use Rattle.std.specs.Map.{keys_of};
 ghost use Rattle.map_model.specs.Maps.{IsSorted};
 ghost use Rattle.value_model.specs.Order.{text_cmp};
 ghost use Rattle.app_model.specs.App.{App};
+ghost use Rattle.history_model.specs.History.{Rise};
 ghost use Rattle.settling.specs.Rounds.{made};
 ghost use Rattle.core_model.specs.declared.events.Act.{Act as AnAct};
 ghost use Rattle.core_model.specs.declared.events.Act.TheVariants as act;
+ghost use Rattle.core_model.specs.Store.{held_in};
 ghost use Rattle.core_model.specs.Conn.{Conn};
 ghost use Rattle.core_model.specs.World.{World, conn_of};
-ghost use Rattle.core_model.specs.Settle.{ups, recvs, handles, sendings, takings, round};
+ghost use Rattle.core_model.specs.Settle.{ups, recvs, handles, steps, sendings, takings, round};
 ghost use Rattle.round_laws.specs.Visits.{Side, can_on, act_on, phase_on, visited, visits, all_visited, is_idle};
+ghost use Rattle.round_laws.specs.Steps.{left_in, all_stepped, Covers};
 ghost use Rattle.round_laws.specs.Loops.{waiting_in, upward_in, queue_in, outbox_in, downward_in, IsLoop};
 
 /// In a round each client goes through its phases, by name.
@@ -51,4 +54,15 @@ pub fn repeated_acts_are_phases()
     ensures handles { (app : App) (first now : Side) → IsLoop app queue_in act.Handle first now → can_on app now act.Handle ≡ false → made (act_on app) (phase_on app handles first) first ≡ now }
     ensures sends { (app : App) (first now : Side) → IsLoop app outbox_in act.Send first now → can_on app now act.Send ≡ false → made (act_on app) (phase_on app sendings first) first ≡ now }
     ensures takes { (app : App) (first now : Side) → IsLoop app downward_in act.Take first now → can_on app now act.Take ≡ false → made (act_on app) (phase_on app takings first) first ≡ now }
+{}
+
+/// A step that is made leaves its run fewer steps to make.
+pub fn steps_leave_less()
+    ensures { (app : App) (x : Side) (k : ℕ) → can_on app x (act.Step k) ≡ true → left_in app k (act_on app (act.Step k) x) < left_in app k x }
+{}
+
+/// Calls whose numbers rise, each run that has steps left being of one of them: each makes its steps until it can make no more,
+/// and that is the phase.
+pub fn steps_make_up_the_phase()
+    ensures { (app : App) (ks : List ℕ) (x : Side) → Rise ks → Covers x.conn.number ks (held_in app x.history).runs → all_stepped app ks x ≡ made (act_on app) (phase_on app steps x) x }
 {}
