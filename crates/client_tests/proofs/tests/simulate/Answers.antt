@@ -18,8 +18,11 @@ one_apart : (change : Change) → HaveDistinctKeys (change ∷ [])
 unfolding IsDistinct
 one_apart change = (tt, tt)
 
+apart_in : (cs : List Change) (change : Change) → cs ≡ change ∷ [] → HaveDistinctKeys cs
+apart_in cs change is = subst HaveDistinctKeys (sym is) (one_apart change)
+
 pub simulate-requires-clause-apart : goal.simulate-requires-clause-apart
-simulate-requires-clause-apart c = subst HaveDistinctKeys (sym c.in_ok-changes.ensures) (one_apart _)
+simulate-requires-clause-apart c = apart_in _ _ c.in_ok-changes.ensures
 
 pub simulate-requires-clause-among : goal.simulate-requires-clause-among
 simulate-requires-clause-among c =
