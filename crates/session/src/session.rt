@@ -4,7 +4,7 @@ ghost use Rattle.journal_model.specs.Subscriptions.{sub_named};
 ghost use Rattle.session_laws.specs.Session.{new_session};
 ghost use Rattle.session_laws.specs.Events.{Takes, Handles, Loads, Advances, Feeds, Learns, Refuses, Sends, Closes, observer_of};
 ghost use Rattle.session_state.specs.Own.{as_blocking};
-ghost use Rattle.session_state.specs.Subs.{as_live};
+ghost use Rattle.session_state.specs.Subs.{as_live, observers_of};
 ghost use Rattle.session_work.specs.Work.{as_work, work_of, running_from};
 ghost use Rattle.session_journal.specs.Journal.{runs};
 ghost use Rattle.session.specs.Limits.{is_limited, watched_count};
@@ -156,7 +156,8 @@ impl Session {
 
     /// The live subscriptions, by rising number.
     pub fn subs(&self) -> &[Sub]
-        ensures { map as_live result.now ≡ self.now.carried.own.subs }
+        ensures live { map as_live result.now ≡ self.now.carried.own.subs }
+        ensures observers { observers_of result.now ≡ self.now.observers }
     {
         self.inner.parts.own.subs.as_slice()
     }
