@@ -1,3 +1,5 @@
+pub mod ProjectedLaws
+pub mod PublicationLaws
 pub mod Appending
 pub mod Longer
 pub mod Live

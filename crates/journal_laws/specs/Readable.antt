@@ -24,7 +24,6 @@ use Rattle.program_steps.specs.declared.outcome.Status.{Status}
 use Rattle.program_steps.specs.Runs.{Outcome, done, failed, End}
 use Rattle.publication.specs.Cursors.{ACursors}
 use Rattle.app_model.specs.App.{App}
-use Rattle.session_model.specs.PublicationLaws.{stored_queried}
 use Rattle.journal_model.specs.Texts.{server_text, or_unknown, message_in, messages_in}
 use Rattle.journal_model.specs.Items.{Item, id_of}
 use Rattle.journal_model.specs.Items as item
@@ -36,6 +35,7 @@ use Rattle.journal_model.specs.Shown.{shown_at, shown_in, Calls, call_of, merge_
 use Rattle.journal_model.specs.Out.{about, ready, updated, result_by, results_by, history_full, all_refused_with, own_messages, told_after, words_of, messages_of, out_from, out, out_texts}
 use Rattle.journal_model.specs.Fits.{CanFollow, FitsFrom, Fits}
 use Rattle.journal_model.specs.Kept.{IsStored, AreStored, HasResult, IsKept, AreKept}
+use Rattle.journal_laws.specs.PublicationLaws.{stored_queried}
 use Rattle.journal_laws.specs.Shows.{AreInOrder, Shows, one_more, merge_is, merge_same}
 use Rattle.journal_laws.specs.Documents.{merge_stored}
 

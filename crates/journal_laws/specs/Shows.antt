@@ -17,11 +17,11 @@ use Rattle.ejson_value.specs.declared.key.Key.{Key}
 use Rattle.ejson_value.specs.Key.{key_cmp, key_order, name_order}
 use Rattle.ejson_value.specs.Rows.{Rows}
 use Rattle.publication.specs.Cursors.{ACursors}
-use Rattle.session_model.specs.PublicationLaws.{sorted_queried}
 use Rattle.journal_model.specs.Items.{Item}
 use Rattle.journal_model.specs.Subscriptions.{Live}
 use Rattle.journal_model.specs.State.{State, started, after, state_from, state_of}
 use Rattle.journal_model.specs.Moments.{Moment, rows_at}
+use Rattle.journal_laws.specs.PublicationLaws.{sorted_queried}
 use Rattle.journal_laws.specs.Live.{others_stay_at}
 use Rattle.journal_model.specs.Shown.{shown_at, shown_in, subject, news, Calls, call_of, calls_from, calls_of, merge_of, merged}
 

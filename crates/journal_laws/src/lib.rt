@@ -2,14 +2,20 @@
 //! which its contract states.
 #![tactic(auto)]
 
-ghost use Rattle.std.specs.Prelude.{◌≡◌, ◌↔◌, ◌≤◌, ℕ, ◌+◌, ◌++◌, [], List, true, is_some};
+ghost use Rattle.std.specs.Prelude.{◌≡◌, ◌↔◌, ◌≤◌, ℕ, ◌+◌, ◌++◌, [], List, map, true, is_some};
+ghost use Rattle.map_model.specs.Maps.{IsSorted};
 ghost use Rattle.map_model.specs.Differences.{all_taken};
 ghost use Rattle.merge_model.specs.Merge.{IsMerge};
 ghost use Rattle.merge_model.specs.Publishing.{shown_since};
 ghost use Rattle.value_model.specs.Order.{text_cmp};
+ghost use Rattle.ejson_value.specs.declared.change.Publish.{Publish};
 ghost use Rattle.ejson_value.specs.Key.{key_cmp};
+ghost use Rattle.ejson_value.specs.Rows.{Rows};
 ghost use Rattle.ddp_messages.specs.ServerMessage.{ServerMessage};
 ghost use Rattle.app_model.specs.App.{App};
+ghost use Rattle.publication.specs.Cursors.{ACursors};
+ghost use Rattle.publication.specs.Published.{publish_of, IsQuery};
+ghost use Rattle.journal_model.specs.Publication.{queried};
 ghost use Rattle.journal_model.specs.Texts.{messages_in};
 ghost use Rattle.journal_model.specs.Items.{Item};
 ghost use Rattle.journal_model.specs.Subscriptions.{cursor_of};
@@ -20,13 +26,24 @@ ghost use Rattle.journal_model.specs.Shown.{shown_in, calls_of, merged};
 ghost use Rattle.journal_model.specs.Data.{data_of};
 ghost use Rattle.journal_model.specs.Out.{out, out_texts};
 ghost use Rattle.journal_model.specs.Fits.{Fits};
-ghost use Rattle.journal_model.specs.Kept.{AreKept};
+ghost use Rattle.journal_model.specs.Kept.{AreStored, AreKept};
 ghost use Rattle.journal_model.specs.Counting.{results, updateds, methods_handled, is_running, is_armed, number_in};
 ghost use Rattle.journal_model.specs.CaughtUp.{AreCaughtUp};
 ghost use Rattle.journal_model.specs.LooksBack.{cursor_in, loaded_at, is_closed, WasFenceOpen, answers_of, answers_by_fate};
 ghost use Rattle.journal_laws.specs.Shows.{AreInOrder};
 ghost use Rattle.journal_laws.specs.Floors.{AreFloors};
 ghost use Rattle.journal_laws.specs.Told.{is_told};
+
+/// What is published of contents is the one answer of the whole query.
+pub fn the_query_answers_what_is_published()
+    ensures { (cursors : ACursors) (rows : Rows) (answer : List Publish) → IsSorted key_cmp rows →
+        IsQuery cursors rows answer ↔ (answer ≡ map publish_of (queried cursors rows)) }
+{}
+
+/// What is published of documents that messages can hold is such documents.
+pub fn what_is_published_can_be_stored()
+    ensures { (cursors : ACursors) (rows : Rows) → IsSorted key_cmp rows → AreStored rows → AreStored (queried cursors rows) }
+{}
 
 /// A journal that fits a store's moments fits those with later ones.
 pub fn journals_fit_longer_stores()

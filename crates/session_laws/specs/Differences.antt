@@ -21,7 +21,7 @@ use Rattle.publication.specs.Cursors.{ACursors}
 use Rattle.publication.specs.Published.{published, publish_of, IsQuery}
 use Rattle.live_observer.specs.Observing.{IsDifference}
 use Rattle.journal_model.specs.Publication.{queried}
-use Rattle.session_model.specs.PublicationLaws.{sorted_queried, at_queried}
+use Rattle.journal_laws.specs.PublicationLaws.{sorted_queried, at_queried}
 
 module _ {K D : Type 0} {R : K → K → Ordering} (o : IsKeyOrder R) where
   pub sorted_renewed : (a : List (K × D)) (ns : List (K × Option D)) → IsSorted R a → IsSorted R (renewed R a ns)
