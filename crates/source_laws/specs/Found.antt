@@ -1,0 +1,132 @@
+-- A session's live subscriptions are sources of its application's news.
+use Rattle.std.specs.Prelude.{◌≡◌, ℕ, ◌+◌, ◌≤◌, ◌==◌, List, [], ◌∷◌, map, Bool, true, false, cond, ◌||◌, Option, None, Some, IfSome, is_some, length, refl}
+use Rattle.std.specs.List.{All}
+use Rattle.std.proofs.Common.{ap, sym, subst, ◌∙◌}
+use Rattle.std.proofs.lemmas.List.Elements.{All-from_recursion}
+use Rattle.ejson_value.specs.declared.change.Publish.{Publish}
+use Rattle.ejson_value.specs.Changes.{news_of}
+use Rattle.app_model.specs.App.{App}
+use Rattle.history_model.specs.declared.entry.Entry.{Entry}
+use Rattle.publication.specs.Cursors.{ACursors}
+use Rattle.publication.specs.Published.{published}
+use Rattle.live_observer.specs.Observing.{AnObserver, cursors_of, HaveNoLimit, IsDifference}
+use Rattle.store_machine.specs.State.{MachineState, held_after}
+use Rattle.journal_model.specs.Subscriptions.{Live, of_sub, cursor_of}
+use Rattle.journal_model.specs.State.{State}
+use Rattle.journal_model.specs.Moments.{Moment}
+use Rattle.session_relation.specs.Resolved.{cursors_in}
+use Rattle.session_relation.specs.Stands.{items_of}
+use Rattle.session_state.specs.declared.subs.Sub.{Sub}
+use Rattle.session_state.specs.Subs.{as_live, live_of, observers_of, observer_at}
+use Rattle.session_laws.specs.Meaning.{IsWatched, AreWatched}
+use Rattle.session_laws.specs.Events.{IsFeed, cursors_at}
+use Rattle.core_model.specs.Store.{moments}
+use Rattle.connection_laws.specs.Connection.{AConnection, IsConnection}
+use Rattle.connection_laws.specs.Showing.{difference_feeds}
+use Rattle.source_laws.specs.Sources.{IsMadeBy, AreMadeBy, has_limit, AreSubs, IsSub, IsSourceOf, AreSourcesOf}
+use Rattle.source_laws.specs.Made.{journal_made}
+
+-- ---- limits
+
+neither : (a b : Bool) → (a || b) ≡ false → (a ≡ false) × (b ≡ false)
+neither false b e = (refl, e)
+neither true b e = cc e
+
+none_of : (o : Option ℕ) → is_some o ≡ false → o ≡ None
+none_of None e = refl
+none_of (Some n) e = cc e
+
+pub unlimited : (cursors : ACursors) → has_limit cursors ≡ false → HaveNoLimit cursors
+unlimited [] e = tt
+unlimited (c ∷ cursors) e = let both = neither (is_some c.limit) (has_limit cursors) e in (none_of c.limit both.0, unlimited cursors both.1)
+
+pub passes : (cursors : ACursors) → HaveNoLimit cursors → has_limit cursors ≡ false
+passes [] none = refl
+passes (c ∷ cursors) none = ap (λ (o : Option ℕ). is_some o || has_limit cursors) none.0 ∙ passes cursors none.1
+
+-- ---- one subscription
+
+-- an observer that there is has the cursors
+watches : (C : List Moment) (l : Live) (cursor : Option ℕ) (o : Option AnObserver) → IsWatched C l cursor o → IfSome o (λ (x : AnObserver). cursors_of x ≡ l.cursors)
+watches C l None o w = subst (λ (x : Option AnObserver). IfSome x (λ (y : AnObserver). cursors_of y ≡ l.cursors)) (sym w) tt
+watches C l (Some place) None w = tt
+watches C l (Some place) (Some observer) w = w.cursors
+
+source : (app : App) (C : List Moment) (sub : Sub) → IsMadeBy app (as_live sub) → IsWatched C (as_live sub) sub.cursor sub.observer → IsSourceOf app sub
+source app C sub made watched none = record {
+  cursors = sym (ap cursors_in made);
+  no_limit = unlimited sub.cursors none;
+  observer = watches C (as_live sub) sub.cursor sub.observer watched;
+}
+
+sources : (app : App) (C : List Moment) (subs : List Sub) → AreMadeBy app (map as_live subs) → AreWatched C (map as_live subs) (observers_of subs) → AreSourcesOf app subs
+sources app C [] made watched = tt
+sources app C (sub ∷ subs) made watched = (source app C sub made.0 watched.0, sources app C subs made.1 watched.1)
+
+-- ---- the one with a number
+
+module _ (app : App) (C : List Moment) (number : ℕ) (sub : Sub) where
+  found : (ls : List Live) (os : List (Option AnObserver)) → AreMadeBy app ls → AreWatched C ls os → Some (as_live sub) ≡ live_of number ls → sub.observer ≡ observer_at number ls os →
+      IsMadeBy app (as_live sub) × IsWatched C (as_live sub) sub.cursor sub.observer
+  found [] os made watched is observes = cc is
+  found (l ∷ ls) [] made watched is observes = absurd watched
+  found (l ∷ ls) (o ∷ os) made watched is observes =
+      elim (number == l.sub) as (λ b. Some (as_live sub) ≡ cond b (Some l) (live_of number ls) → sub.observer ≡ cond b o (observer_at number ls os) → IsMadeBy app (as_live sub) × IsWatched C (as_live sub) sub.cursor sub.observer) [
+        | true ↦ λ e q. this l o made.0 watched.0 e q
+        | false ↦ λ e q. found ls os made.1 watched.1 e q
+      ] is observes
+    where
+      this : (l : Live) (o : Option AnObserver) → IsMadeBy app l → IsWatched C l l.cursor o → Some (as_live sub) ≡ Some l → sub.observer ≡ o → IsMadeBy app (as_live sub) × IsWatched C (as_live sub) sub.cursor sub.observer
+      this l o made watched e q =
+          let same : l ≡ as_live sub = cc e in
+          (subst (IsMadeBy app) same made, subst (λ (x : Live). IsWatched C x x.cursor sub.observer) same (subst (IsWatched C l l.cursor) (sym q) watched))
+
+-- what is said of it
+of_found : {A : Type 0} (f : Live → A) (otherwise : A) (number : ℕ) (l : Live) (ls : List Live) → Some l ≡ live_of number ls → of_sub f otherwise number ls ≡ f l
+of_found f otherwise number l [] is = cc is
+of_found f otherwise number l (x ∷ ls) is =
+    elim (number == x.sub) as (λ b. Some l ≡ cond b (Some x) (live_of number ls) → cond b (f x) (of_sub f otherwise number ls) ≡ f l) [
+      | true ↦ λ e. ap f (this e)
+      | false ↦ λ e. of_found f otherwise number l ls e
+    ] is
+  where
+    this : Some l ≡ Some x → x ≡ l
+    this e = cc e
+
+-- ---- of a connection
+
+module _ (app : App) (name : List ℕ) (history : List Entry) (x : AConnection) (p : IsConnection app name history x) where
+  abbrev C : List Moment
+  C = moments app x.session.carried.number history
+
+  -- the cursors that the session's subscriptions have are those that the application makes
+  pub all_made : AreMadeBy app x.session.carried.own.subs
+  all_made =
+      let s = x.session.carried in
+      subst (λ (a : App). AreMadeBy a s.own.subs) p.served
+      (subst (λ (st : State). AreMadeBy s.app st.subs) (sym p.means.stands.own) (journal_made s.app s.number C (items_of x.received s) p.means.stands.fits))
+
+  pub all_sources : (subs : List Sub) → AreSubs subs x.session → All (IsSourceOf app) subs
+  all_sources subs these =
+      All-from_recursion (IsSourceOf app) subs
+      (sources app C subs (subst (AreMadeBy app) (sym these.live) all_made)
+      (subst (λ (ls : List Live). AreWatched C ls (observers_of subs)) (sym these.live) (subst (AreWatched C x.session.carried.own.subs) (sym these.observers) p.means.watched)))
+
+  module _ (number : ℕ) (sub : Sub) (is : IsSub number sub x.session) where
+    pub is_source : IsSourceOf app sub
+    is_source = let both = found app C number sub x.session.carried.own.subs x.session.observers all_made p.means.watched is.live is.observer in source app C sub both.0 both.1
+
+    pub cursors_are : cursors_at number x.session ≡ sub.cursors
+    cursors_are = of_found (λ (l : Live). l.cursors) [] number (as_live sub) x.session.carried.own.subs is.live
+
+    pub place_is : cursor_of number x.session.carried.own.subs ≡ sub.cursor
+    place_is = of_found (λ (l : Live). l.cursor) None number (as_live sub) x.session.carried.own.subs is.live
+
+-- What is told of a span of the history behind its place feeds it.
+pub told_feeds : (m : MachineState) (name : List ℕ) (x : AConnection) (number start count : ℕ) (sub : Sub) (told : List Publish) → IsConnection m.app name m.history x → IsSub number sub x.session → sub.cursor ≡ Some start →
+    start + count ≤ length m.history → has_limit sub.cursors ≡ false → IsDifference (published sub.cursors (held_after m start).rows) (published sub.cursors (held_after m (start + count)).rows) (news_of told) →
+    IsFeed (moments m.app x.session.carried.number m.history) number count told x.session
+told_feeds m name x number start count sub told p is placed fits none d =
+    let same : sub.cursors ≡ cursors_at number x.session = sym (cursors_are m.app name m.history x p number sub is) in
+    difference_feeds m.app name m.history x p number start (place_is m.app name m.history x p number sub is ∙ placed) count told fits (subst HaveNoLimit same (unlimited sub.cursors none))
+    (subst (λ (cs : ACursors). IsDifference (published cs (held_after m start).rows) (published cs (held_after m (start + count)).rows) (news_of told)) same d)

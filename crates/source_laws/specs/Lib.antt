@@ -1,0 +1,4 @@
+pub mod Sources
+pub mod Made
+pub mod Found
+pub mod News
