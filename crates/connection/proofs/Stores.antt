@@ -1,5 +1,5 @@
 -- What a session does with its store, as the acts of the definitions.
-use Rattle.std.specs.Prelude.{◌≡◌, ℕ, ◌+◌, ◌≤◌, ◌<◌, List, ◌++◌, length, Bool, true, false, Option, Some, None, is_some, option_map, Result, Ok, Err, OnOk, IfOk, if◌then◌else◌, refl}
+use Rattle.std.specs.Prelude.{◌≡◌, ℕ, ◌+◌, ◌≤◌, ◌<◌, List, ◌++◌, length, Bool, true, false, Option, Some, None, is_some, option_map, ◌&&◌, nat_le, Result, Ok, Err, OnOk, IfOk, if◌then◌else◌, refl}
 use Rattle.std.proofs.Common.{ap, sym, subst, ◌∙◌, append-nil}
 use Rattle.std.proofs.lemmas.Bool.{lt-leb, eq-eqb}
 use Rattle.ejson_value.specs.declared.change.Change.{Change}
@@ -12,7 +12,8 @@ use Rattle.history_model.specs.History.{held_at, status_in, status_at, is_next, 
 use Rattle.store_machine.specs.declared.fault.BeginFault.{BeginFault}
 use Rattle.store_machine.specs.declared.fault.BeginFault.TheVariants as begin_fault
 use Rattle.store_machine.specs.State.{MachineState, held_by, begin_answer, is_running, step_state}
-use Rattle.journal_model.specs.Subscriptions.{cursor_of}
+use Rattle.journal_model.specs.Subscriptions.{cursor_of, may_load}
+use Rattle.journal_model.specs.State.{State}
 use Rattle.session_laws.specs.declared.fault.EventFault.{EventFault}
 use Rattle.session_laws.specs.Session.{ASession}
 use Rattle.session_laws.specs.Events.{Learns as LearnsIn, Refuses, Loads, Advances, Feeds, IsFeed}
@@ -22,10 +23,12 @@ use Rattle.core_model.specs.declared.events.Act.TheVariants as act
 use Rattle.core_model.specs.declared.events.Answer.{Answer}
 use Rattle.core_model.specs.declared.events.Answer.TheVariants as answer
 use Rattle.core_model.specs.Store.{programs, held_in, moments}
+use Rattle.core_model.specs.Conn.{is_at_work}
 use Rattle.core_model.specs.Acts.{is_kept}
 use Rattle.link_laws.specs.Session.{IsServed}
 use Rattle.connection_laws.specs.Connection.{AConnection, as_conn, IsConnection}
 use Rattle.connection_laws.specs.Acting.{with_session, refusal_learnt, IsDone}
+use Rattle.connection_laws.specs.Standing.{state_is, idle_of}
 use Rattle.connection_laws.specs.Links.{gone_idle}
 use Rattle.connection_laws.specs.Beginning.{begin_none, begin_begun, begin_refused, begin_makes, step_makes, may_begin}
 use Rattle.connection_laws.specs.Learning.{learn_makes, learn_past, learn_unbegun, refuse_makes}
@@ -153,9 +156,22 @@ module _ (a : Side) (j : ℕ) (free : is_kept j (option_map as_refusal a.kept) �
 
 -- ---- load
 
+and_false : (b : Bool) → (b && false) ≡ false
+and_false true = refl
+and_false false = refl
+
 module _ (a : Side) (sub at : ℕ) where
   pub past_load : (m : MachineState) → length m.history < at → (name : List ℕ) → IsConnection m.app name m.history (seen a) → Acts m.app name m.history (act.Load sub at) (seen a) (seen a) answer.Idle
   past_load m past name p = (load_past m.app m.history (seen a) sub at (lt-leb at (length m.history) past), refl)
+
+  pub unready_load : (m : MachineState) → may_load sub at a.session.carried.own.subs ≡ false → (name : List ℕ) → IsConnection m.app name m.history (seen a) → Acts m.app name m.history (act.Load sub at) (seen a) (seen a) answer.Idle
+  unready_load m off name p =
+      let c = as_conn (seen a) in (
+        idle_of m.app m.history c (act.Load sub at)
+            (ap (λ (st : State). is_at_work c && nat_le at (length m.history) && may_load sub at st.subs) (state_is m.app name m.history (seen a) p)
+            ∙ (ap (λ b. is_at_work c && nat_le at (length m.history) && b) off ∙ and_false (is_at_work c && nat_le at (length m.history)))),
+        refl,
+      )
 
   module _ (rows : Rows) (s : ASession) where
     pub load_done : (u : Unit {0}) → Loads sub at rows a.session s (Ok u) → (app : App) (name : List ℕ) (history : List Entry) → at ≤ length history → rows ≡ (held_at (programs app) history at).rows → IsConnection app name history (seen a) →

@@ -1,8 +1,10 @@
 //! The client with its session.
-ghost use Rattle.std.specs.Prelude.{◌≡◌, ℕ, List, IfOk};
+ghost use Rattle.std.specs.Prelude.{◌≡◌, ◌-◌, ℕ, List, map, option_map, IfOk};
 ghost use Rattle.app_model.specs.App.{App as AnApp};
 ghost use Rattle.history_model.specs.declared.entry.Entry.{Entry};
 ghost use Rattle.journal_model.specs.Subscriptions.{sub_named, cursor_of};
+ghost use Rattle.session_state.specs.Subs.{as_live, observers_of};
+ghost use Rattle.session_work.specs.Work.{running_from};
 ghost use Rattle.client_parts.specs.Lines.{line_texts};
 ghost use Rattle.client_core.specs.State.{show_lines};
 ghost use Rattle.core_model.specs.declared.events.Act.TheVariants as act;
@@ -10,20 +12,21 @@ ghost use Rattle.core_model.specs.Asks as ask;
 ghost use Rattle.connection_laws.specs.Connection.{new_connection, as_conn, IsConnection};
 ghost use Rattle.link_laws.specs.Session.{IsServed};
 ghost use Rattle.connection.specs.Answers.{AnswersIn, Answers, Takes, Does, DoesAsked};
-ghost use Rattle.connection.specs.Storing.{Begins, StepsOn, Learns, FeedsBy};
+ghost use Rattle.connection.specs.Storing.{Begins, StepsOn, Learns, AdvancesBy, FeedsBy};
 
 use crate::acting::{handle, recv, send, take, up};
 use crate::asking::{call, leave, raw, subscribe, unsubscribe};
 use crate::link::Link;
 use crate::side::Side;
-use crate::storing::{advance, begin, feed, learn, load, step};
+use crate::storing::{advance, advance_over, begin, feed, learn, load, step};
 use app_model::App;
 use client_core::Client;
 use core_model::Answer;
 use ejson_codec::Lines;
 use ejson_value::{Items, Mem, Publishes, Text};
+use history_log::Batch;
 use session::Session;
-use session_state::cursor_of;
+use session_state::{Sub, cursor_of};
 use std::alloc::Global;
 use std::marker::Model;
 use store_machine::Machine;
@@ -87,6 +90,30 @@ impl Connection {
         ensures { result ≡ cursor_of sub self.now.session.carried.own.subs }
     {
         cursor_of(self.side.session.subs(), sub)
+    }
+
+    /// How many entries of a history of so many stand behind the place that the subscription with this
+    /// number shows, once it is loaded.
+    pub fn left_of(&self, sub: u64, entries: u64) -> Option<u64>
+        ensures { result ≡ option_map (λ at. entries - at) (cursor_of sub self.now.session.carried.own.subs) }
+    {
+        let at = cursor_of(self.side.session.subs(), sub)?;
+        Some(entries.saturating_sub(at))
+    }
+
+    /// The live subscriptions of the session, by rising number.
+    pub fn subs(&self) -> &[Sub]
+        ensures live { map as_live result.now ≡ self.now.session.carried.own.subs }
+        ensures observers { observers_of result.now ≡ self.now.session.observers }
+    {
+        self.side.session.subs()
+    }
+
+    /// The numbers of the session's calls that run, rising.
+    pub fn running(&self) -> Result<Vec<u64>, Mem>
+        ensures { IfOk result (λ calls. calls.items ≡ running_from 0 self.now.session.carried.own.methods) }
+    {
+        self.side.session.running()
     }
 
     /// Whether the client, and its session, are gone.
@@ -211,6 +238,13 @@ impl Connection {
         ensures { AnswersIn machine.now.app machine.now.history (act.Advance sub count) self.old self.new result }
     {
         advance(&mut self.side, machine, sub, count)
+    }
+
+    /// The session leads the subscription on over a batch of entries that was made elsewhere.
+    pub fn advance_over(&mut self, sub: u64, batch: &Batch) -> Result<Answer, Mem>
+        ensures { AdvancesBy sub batch.now.from batch.now.count batch.now.changes self.old self.new result }
+    {
+        advance_over(&mut self.side, sub, batch)
     }
 
     /// The session leads the subscription on, by what was told elsewhere of so many entries of the

@@ -21,7 +21,7 @@ use history_log::Batch;
 use program_steps::Status;
 use selector_match::Steps;
 use session::Call;
-use session_state::cursor_of;
+use session_state::{cursor_of, may_load};
 use std::marker::Brand;
 use std::sync::ledger::{Blank, Ledger};
 use store_machine::{BeginFault, Machine};
@@ -188,13 +188,17 @@ fn load_from(side: &mut Side, sub: u64, at: u64, contents: &Contents) -> Result<
     }
 }
 
-// Loads the subscription at an earlier place of the history.
+// Loads the subscription at an earlier place of the history, whose contents are made only where it may
+// be loaded there.
 fn load_earlier(side: &mut Side, machine: &Machine, sub: u64, at: u64) -> Result<Answer, Mem>
     requires kept { IsKept side.old }
     requires there { at ≤ length machine.now.history }
     ensures kept { IsKept side.new }
     ensures loads { AnswersIn machine.now.app machine.now.history (act.Load sub at) (seen side.old) (seen side.new) result }
 {
+    if !may_load(side.session.subs(), sub, at) {
+        return Ok(Answer::Idle);
+    }
     let contents = machine.contents_at(at)?;
     load_from(side, sub, at, &contents)
 }
@@ -234,8 +238,8 @@ fn advance_by<L: Ledger>(
     }
 }
 
-// The subscription goes on over the batch.
-fn advance_over(side: &mut Side, sub: u64, batch: &Batch) -> Result<Answer, Mem>
+/// The subscription goes on over the batch.
+pub(crate) fn advance_over(side: &mut Side, sub: u64, batch: &Batch) -> Result<Answer, Mem>
     requires { IsKept side.old }
     ensures kept { IsKept side.new }
     ensures advances { AdvancesBy sub batch.now.from batch.now.count batch.now.changes (seen side.old) (seen side.new) result }
