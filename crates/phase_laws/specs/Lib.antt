@@ -1,0 +1,4 @@
+pub mod Phases
+pub mod Covering
+pub mod Listing
+pub mod Linked
