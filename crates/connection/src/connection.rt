@@ -9,7 +9,9 @@ ghost use Rattle.client_parts.specs.Lines.{line_texts};
 ghost use Rattle.client_core.specs.State.{show_lines};
 ghost use Rattle.core_model.specs.declared.events.Act.TheVariants as act;
 ghost use Rattle.core_model.specs.Asks as ask;
+ghost use Rattle.core_model.specs.Lines.{line_text};
 ghost use Rattle.connection_laws.specs.Connection.{new_connection, as_conn, IsConnection};
+ghost use Rattle.connection_laws.specs.Printing.{kept_journal};
 ghost use Rattle.link_laws.specs.Session.{IsServed};
 ghost use Rattle.connection.specs.Answers.{AnswersIn, Answers, Takes, Does, DoesAsked};
 ghost use Rattle.connection.specs.Storing.{Begins, StepsOn, Learns, AdvancesBy, FeedsBy};
@@ -17,6 +19,7 @@ ghost use Rattle.connection.specs.Storing.{Begins, StepsOn, Learns, AdvancesBy, 
 use crate::acting::{handle, recv, send, take, up};
 use crate::asking::{call, leave, raw, subscribe, unsubscribe};
 use crate::link::Link;
+use crate::printing::journal;
 use crate::side::Side;
 use crate::storing::{advance, advance_over, begin, feed, learn, load, step};
 use app_model::App;
@@ -128,6 +131,14 @@ impl Connection {
         ensures { IfOk result (λ lines. lines ≡ line_texts (show_lines self.now.own)) }
     {
         self.side.client.show_lines()
+    }
+
+    /// What the session did: a line for each item of its journal, and behind it one for each text that
+    /// the item says.
+    pub fn journal_lines(&self) -> Result<Lines, Mem>
+        ensures { IfOk result (λ lines. lines ≡ map line_text (kept_journal self.now)) }
+    {
+        journal(&self.side)
     }
 
     /// A text that waits in the client goes onto the link to the server.

@@ -5,6 +5,7 @@ mod acting;
 mod asking;
 mod connection;
 mod link;
+mod printing;
 mod side;
 mod storing;
 

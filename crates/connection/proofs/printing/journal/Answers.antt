@@ -1,0 +1,11 @@
+use Rattle.std.proofs.Common.{◌≡◌, ℕ, List, ap, subst, ◌∙◌}
+use Rattle.std.specs.Prelude.{IfOk}
+use Rattle.session_lines.specs.Printed.{session_lines}
+use Rattle.session_lines.specs.PrintedLaws.{session_lines_are}
+use Rattle.connection.specs.Kept.{seen}
+use Rattle.connection.proofs.printing.journal.Goals as goal
+
+pub returns : goal.returns
+returns c =
+    let side = c.args.side.now in
+    subst (λ (ls : List (List ℕ)). IfOk c.journal_lines.result (λ lines. lines ≡ ls)) (ap (session_lines side.session) c.all.ensures ∙ session_lines_are (seen side)) c.journal_lines.ensures
