@@ -1,0 +1,6 @@
+mod Visits
+mod Answering
+mod Repeating
+mod Stepping
+mod Passing
+mod Telling

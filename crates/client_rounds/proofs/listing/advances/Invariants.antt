@@ -1,0 +1,7 @@
+use Rattle.std.proofs.Common.{◌≡◌, ◌++◌, map, drop}
+use Rattle.session_state.specs.Subs.{as_live}
+use Rattle.phase_laws.specs.Listing.{behind}
+use Rattle.client_rounds.proofs.listing.advances.Given as goal
+
+abbrev pub invariant-loop-sub : goal.invariant-loop-sub
+invariant-loop-sub l = l.acts.items ++ behind l.entries (map as_live (drop l.sub-index l.subs)) ≡ behind l.entries (map as_live l.subs)

@@ -1,0 +1,64 @@
+//! One act of a client.
+ghost use Rattle.std.specs.Prelude.{◌≡◌};
+ghost use Rattle.core_model.specs.declared.events.Act.TheVariants as act;
+ghost use Rattle.connection.specs.Answers.{Answers};
+ghost use Rattle.client_rounds.specs.Visit.{visit, IsReady};
+ghost use Rattle.client_rounds.specs.Acting.{AnswersTo, Tries};
+
+use crate::showing::advance;
+use connection::Connection;
+use core_model::{Act, Answer};
+use ejson_value::Mem;
+use shared_news::SharedNews;
+use store_machine::Machine;
+
+// The client takes a text, whether or not it breaks at it.
+fn take(connection: &mut Connection) -> Result<Answer, Mem>
+    ensures { Answers act.Take connection.old connection.new result }
+{
+    match connection.take() {
+        Ok((answer, _)) => Ok(answer),
+        Err(mem) => Err(mem),
+    }
+}
+
+// Makes the act.
+fn make(
+    connection: &mut Connection,
+    machine: &mut Machine,
+    news: &mut SharedNews,
+    act: Act,
+) -> Result<Answer, Mem>
+    requires { IsReady (visit machine.old connection.old news.old) }
+    ensures { AnswersTo act (visit machine.old connection.old news.old) (visit machine.new connection.new news.new) result }
+{
+    match act {
+        Act::Up => connection.up(),
+        Act::Recv => connection.recv(),
+        Act::Handle => connection.handle(),
+        Act::Begin => connection.begin(machine),
+        Act::Step { k } => connection.step(machine, k),
+        Act::Learn { k, at } => connection.learn(machine, k, at),
+        Act::Load { sub, at } => connection.load(machine, sub, at),
+        Act::Advance { sub, count } => advance(connection, machine, news, sub, count),
+        Act::Send => connection.send(),
+        Act::Take => take(connection),
+    }
+}
+
+/// Makes the act where it can be made. Whether it was.
+pub(crate) fn tries(
+    connection: &mut Connection,
+    machine: &mut Machine,
+    news: &mut SharedNews,
+    act: Act,
+) -> Result<bool, Mem>
+    requires { IsReady (visit machine.old connection.old news.old) }
+    ensures { Tries act (visit machine.old connection.old news.old) (visit machine.new connection.new news.new) result }
+{
+    match make(connection, machine, news, act) {
+        Ok(Answer::Done) => Ok(true),
+        Ok(_) => Ok(false),
+        Err(mem) => Err(mem),
+    }
+}

@@ -1,0 +1,11 @@
+//! What a round of a settling world does with one client: the phases of the client, its session and its runs, one after
+//! another.
+#![tactic(auto)]
+
+mod acting;
+mod listing;
+mod making;
+mod rounds;
+mod showing;
+
+pub use rounds::round;

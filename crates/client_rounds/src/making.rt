@@ -1,0 +1,73 @@
+//! Acts that are made one after another.
+ghost use Rattle.std.specs.Prelude.{◌≡◌, [], ◌∷◌, replicate, true};
+ghost use Rattle.history_model.specs.History.{Rise};
+ghost use Rattle.core_model.specs.Settle.{steps};
+ghost use Rattle.core_model.specs.Store.{held_in};
+ghost use Rattle.round_laws.specs.Steps.{Covers};
+ghost use Rattle.client_rounds.specs.Visit.{visit, side, IsReady, Makes, Passes};
+ghost use Rattle.client_rounds.specs.Acting.{is_repeatable, count_of};
+
+use crate::acting::tries;
+use connection::Connection;
+use core_model::Act;
+use ejson_value::Mem;
+use shared_news::SharedNews;
+use store_machine::Machine;
+
+/// Makes the act until it can't be made any more. Whether it was made at all.
+pub(crate) fn repeat(
+    connection: &mut Connection,
+    machine: &mut Machine,
+    news: &mut SharedNews,
+    act: Act,
+) -> Result<bool, Mem>
+    requires ready { IsReady (visit machine.old connection.old news.old) }
+    requires leads { is_repeatable act ≡ true }
+    ensures { let v = visit machine.old connection.old news.old in Makes (replicate (count_of machine.old.app act (side v)) act) v (visit machine.new connection.new news.new) result }
+{
+    let mut made = false;
+    while tries(connection, machine, news, act)? {
+        made = true;
+    }
+    Ok(made)
+}
+
+/// Makes each of the acts that can be made. Whether any was.
+pub(crate) fn each(
+    connection: &mut Connection,
+    machine: &mut Machine,
+    news: &mut SharedNews,
+    acts: &[Act],
+) -> Result<bool, Mem>
+    requires { IsReady (visit machine.old connection.old news.old) }
+    ensures { Makes acts.now (visit machine.old connection.old news.old) (visit machine.new connection.new news.new) result }
+{
+    let mut made = false;
+    for act in acts {
+        if tries(connection, machine, news, *act)? {
+            made = true;
+        }
+    }
+    Ok(made)
+}
+
+/// The runs of the calls make their steps, one run after another. Whether any was made.
+pub(crate) fn steps(
+    connection: &mut Connection,
+    machine: &mut Machine,
+    news: &mut SharedNews,
+    calls: &[u64],
+) -> Result<bool, Mem>
+    requires ready { IsReady (visit machine.old connection.old news.old) }
+    requires rise { Rise calls.now }
+    requires covers { Covers connection.old.session.carried.number calls.now (held_in machine.old.app machine.old.history).runs }
+    ensures { Passes (steps ∷ []) (visit machine.old connection.old news.old) (visit machine.new connection.new news.new) result }
+{
+    let mut made = false;
+    for k in calls {
+        if repeat(connection, machine, news, Act::Step { k: *k })? {
+            made = true;
+        }
+    }
+    Ok(made)
+}

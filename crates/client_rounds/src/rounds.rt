@@ -1,0 +1,202 @@
+//! The phases of a client's round.
+ghost use Rattle.std.specs.Prelude.{[], ◌∷◌};
+ghost use Rattle.core_model.specs.Settle.{ups, recvs, handles, begins, steps, learns, loadings, advancings, sendings, takings, order};
+ghost use Rattle.client_rounds.specs.Visit.{visit, IsReady, Passes};
+
+use crate::acting::tries;
+use crate::listing::{advances, learns, loads};
+use crate::making::{each, repeat, steps};
+use connection::Connection;
+use core_model::Act;
+use ejson_value::Mem;
+use shared_news::SharedNews;
+use std::alloc::Global;
+use store_machine::Machine;
+
+// Texts go up while they can, and are taken.
+fn texts_up(
+    connection: &mut Connection,
+    machine: &mut Machine,
+    news: &mut SharedNews,
+) -> Result<bool, Mem>
+    requires { IsReady (visit machine.old connection.old news.old) }
+    ensures { Passes (ups ∷ recvs ∷ []) (visit machine.old connection.old news.old) (visit machine.new connection.new news.new) result }
+{
+    let up = repeat(connection, machine, news, Act::Up)?;
+    let taken = repeat(connection, machine, news, Act::Recv)?;
+    Ok(up || taken)
+}
+
+// Messages are handled, and the call that blocks is begun.
+fn requests(
+    connection: &mut Connection,
+    machine: &mut Machine,
+    news: &mut SharedNews,
+) -> Result<bool, Mem>
+    requires { IsReady (visit machine.old connection.old news.old) }
+    ensures { Passes (handles ∷ begins ∷ []) (visit machine.old connection.old news.old) (visit machine.new connection.new news.new) result }
+{
+    let handled = repeat(connection, machine, news, Act::Handle)?;
+    let begun = tries(connection, machine, news, Act::Begin)?;
+    Ok(handled || begun)
+}
+
+// The runs make their steps.
+fn runs(
+    connection: &mut Connection,
+    machine: &mut Machine,
+    news: &mut SharedNews,
+) -> Result<bool, Mem>
+    requires { IsReady (visit machine.old connection.old news.old) }
+    ensures { Passes (steps ∷ []) (visit machine.old connection.old news.old) (visit machine.new connection.new news.new) result }
+{
+    let calls = connection.running()?;
+    steps(connection, machine, news, calls.as_slice())
+}
+
+// The session learns of each call that runs.
+fn learnings(
+    alloc: Global,
+    connection: &mut Connection,
+    machine: &mut Machine,
+    news: &mut SharedNews,
+) -> Result<bool, Mem>
+    requires { IsReady (visit machine.old connection.old news.old) }
+    ensures { Passes (learns ∷ []) (visit machine.old connection.old news.old) (visit machine.new connection.new news.new) result }
+{
+    let calls = connection.running()?;
+    let acts = learns(alloc, calls.as_slice(), machine.length())?;
+    each(connection, machine, news, acts.as_slice())
+}
+
+// Subscriptions are loaded.
+fn loadings(
+    alloc: Global,
+    connection: &mut Connection,
+    machine: &mut Machine,
+    news: &mut SharedNews,
+) -> Result<bool, Mem>
+    requires { IsReady (visit machine.old connection.old news.old) }
+    ensures { Passes (loadings ∷ []) (visit machine.old connection.old news.old) (visit machine.new connection.new news.new) result }
+{
+    let acts = loads(alloc, connection.subs(), machine.length())?;
+    each(connection, machine, news, acts.as_slice())
+}
+
+// Subscriptions go on to the end of the history.
+fn advancings(
+    alloc: Global,
+    connection: &mut Connection,
+    machine: &mut Machine,
+    news: &mut SharedNews,
+) -> Result<bool, Mem>
+    requires { IsReady (visit machine.old connection.old news.old) }
+    ensures { Passes (advancings ∷ []) (visit machine.old connection.old news.old) (visit machine.new connection.new news.new) result }
+{
+    let acts = advances(alloc, connection.subs(), machine.length())?;
+    each(connection, machine, news, acts.as_slice())
+}
+
+// Texts are sent while they can be, and the client takes them.
+fn texts_down(
+    connection: &mut Connection,
+    machine: &mut Machine,
+    news: &mut SharedNews,
+) -> Result<bool, Mem>
+    requires { IsReady (visit machine.old connection.old news.old) }
+    ensures { Passes (sendings ∷ takings ∷ []) (visit machine.old connection.old news.old) (visit machine.new connection.new news.new) result }
+{
+    let sent = repeat(connection, machine, news, Act::Send)?;
+    let taken = repeat(connection, machine, news, Act::Take)?;
+    Ok(sent || taken)
+}
+
+// What the client asks for is taken, handled and begun.
+fn asks(
+    connection: &mut Connection,
+    machine: &mut Machine,
+    news: &mut SharedNews,
+) -> Result<bool, Mem>
+    requires { IsReady (visit machine.old connection.old news.old) }
+    ensures { Passes (ups ∷ recvs ∷ handles ∷ begins ∷ []) (visit machine.old connection.old news.old) (visit machine.new connection.new news.new) result }
+{
+    let up = texts_up(connection, machine, news)?;
+    let handled = requests(connection, machine, news)?;
+    Ok(up || handled)
+}
+
+// Calls run, and are learnt of.
+fn calls(
+    alloc: Global,
+    connection: &mut Connection,
+    machine: &mut Machine,
+    news: &mut SharedNews,
+) -> Result<bool, Mem>
+    requires { IsReady (visit machine.old connection.old news.old) }
+    ensures { Passes (steps ∷ learns ∷ []) (visit machine.old connection.old news.old) (visit machine.new connection.new news.new) result }
+{
+    let stepped = runs(connection, machine, news)?;
+    let learnt = learnings(alloc, connection, machine, news)?;
+    Ok(stepped || learnt)
+}
+
+// Subscriptions show the end of the history.
+fn shows(
+    alloc: Global,
+    connection: &mut Connection,
+    machine: &mut Machine,
+    news: &mut SharedNews,
+) -> Result<bool, Mem>
+    requires { IsReady (visit machine.old connection.old news.old) }
+    ensures { Passes (loadings ∷ advancings ∷ []) (visit machine.old connection.old news.old) (visit machine.new connection.new news.new) result }
+{
+    let loaded = loadings(alloc, connection, machine, news)?;
+    let advanced = advancings(alloc, connection, machine, news)?;
+    Ok(loaded || advanced)
+}
+
+// What the client asks for is done.
+fn serves(
+    alloc: Global,
+    connection: &mut Connection,
+    machine: &mut Machine,
+    news: &mut SharedNews,
+) -> Result<bool, Mem>
+    requires { IsReady (visit machine.old connection.old news.old) }
+    ensures { Passes (ups ∷ recvs ∷ handles ∷ begins ∷ steps ∷ learns ∷ []) (visit machine.old connection.old news.old) (visit machine.new connection.new news.new) result }
+{
+    let asked = asks(connection, machine, news)?;
+    let called = calls(alloc, connection, machine, news)?;
+    Ok(asked || called)
+}
+
+// What there is to show goes to the client.
+fn tells(
+    alloc: Global,
+    connection: &mut Connection,
+    machine: &mut Machine,
+    news: &mut SharedNews,
+) -> Result<bool, Mem>
+    requires { IsReady (visit machine.old connection.old news.old) }
+    ensures { Passes (loadings ∷ advancings ∷ sendings ∷ takings ∷ []) (visit machine.old connection.old news.old) (visit machine.new connection.new news.new) result }
+{
+    let shown = shows(alloc, connection, machine, news)?;
+    let sent = texts_down(connection, machine, news)?;
+    Ok(shown || sent)
+}
+
+/// What a round of a settling world does with a client: its phases, one after another, each act as often as there is something
+/// for it. Whether any act was made.
+pub fn round(
+    alloc: Global,
+    connection: &mut Connection,
+    machine: &mut Machine,
+    news: &mut SharedNews,
+) -> Result<bool, Mem>
+    requires { IsReady (visit machine.old connection.old news.old) }
+    ensures { Passes order (visit machine.old connection.old news.old) (visit machine.new connection.new news.new) result }
+{
+    let served = serves(alloc, connection, machine, news)?;
+    let told = tells(alloc, connection, machine, news)?;
+    Ok(served || told)
+}

@@ -1,0 +1,108 @@
+//! A subscription that goes on.
+ghost use Rattle.std.specs.Prelude.{◌≡◌, ◌+◌, ◌≤◌, ◌<◌, length, Some, IfOk, IfSome};
+ghost use Rattle.std.specs.Arc.{arc_value};
+ghost use Rattle.journal_model.specs.Subscriptions.{cursor_of};
+ghost use Rattle.session_laws.specs.Events.{IsFeed};
+ghost use Rattle.core_model.specs.declared.events.Act.TheVariants as act;
+ghost use Rattle.core_model.specs.Store.{moments};
+ghost use Rattle.connection_laws.specs.Connection.{IsConnection};
+ghost use Rattle.connection.specs.Answers.{AnswersIn};
+ghost use Rattle.source_laws.specs.News.{AreNews};
+
+use connection::Connection;
+use core_model::Answer;
+use ejson_value::{Mem, Publishes};
+use session_state::sub_of;
+use shared_news::SharedNews;
+use std::sync::Arc;
+use store_machine::Machine;
+
+// What the subscription's publication tells of the entries to all that ask, where none of its cursors
+// has a limit.
+fn told(
+    connection: &Connection,
+    machine: &Machine,
+    news: &mut SharedNews,
+    sub: u64,
+    from: u64,
+    count: u64,
+) -> Result<Option<Arc<Publishes>>, Mem>
+    requires connection { IsConnection machine.now.app connection.now.own.name machine.now.history connection.now }
+    requires news { AreNews machine.now news.old }
+    requires is { cursor_of sub connection.now.session.carried.own.subs ≡ Some from }
+    requires within { from + count ≤ length machine.now.history }
+    ensures keeps { AreNews machine.now news.new }
+    ensures feeds { IfOk result (λ told. IfSome told (λ answer. IsFeed (moments machine.now.app connection.now.session.carried.number machine.now.history) sub count (arc_value answer) connection.now.session)) }
+{
+    match sub_of(connection.subs(), sub) {
+        Some(live) if !live.cursors.limited() => news.of(machine, live, from, count),
+        _ => Ok(None),
+    }
+}
+
+// The subscription goes on over the entries by its own observer.
+fn advance_alone(
+    connection: &mut Connection,
+    machine: &Machine,
+    news: &mut SharedNews,
+    sub: u64,
+    from: u64,
+    count: u64,
+) -> Result<Answer, Mem>
+    requires news { AreNews machine.now news.old }
+    requires is { cursor_of sub connection.old.session.carried.own.subs ≡ Some from }
+    requires within { from + count ≤ length machine.now.history }
+    requires few { length machine.now.history < 18446744073709551616 }
+    ensures keeps { AreNews machine.now news.new }
+    ensures advances { AnswersIn machine.now.app machine.now.history (act.Advance sub count) connection.old connection.new result }
+{
+    let batch = news.batch(machine, from, count)?;
+    connection.advance_over(sub, &batch)
+}
+
+// The subscription goes on over entries that the history has.
+fn advance_within(
+    connection: &mut Connection,
+    machine: &Machine,
+    news: &mut SharedNews,
+    sub: u64,
+    from: u64,
+    count: u64,
+) -> Result<Answer, Mem>
+    requires connection { IsConnection machine.now.app connection.old.own.name machine.now.history connection.old }
+    requires news { AreNews machine.now news.old }
+    requires is { cursor_of sub connection.old.session.carried.own.subs ≡ Some from }
+    requires within { from + count ≤ length machine.now.history }
+    requires few { length machine.now.history < 18446744073709551616 }
+    ensures keeps { AreNews machine.now news.new }
+    ensures advances { AnswersIn machine.now.app machine.now.history (act.Advance sub count) connection.old connection.new result }
+{
+    match told(connection, machine, news, sub, from, count)? {
+        Some(answer) => connection.feed(sub, count, &answer),
+        None => advance_alone(connection, machine, news, sub, from, count),
+    }
+}
+
+/// The session leads the subscription on, by so many entries of the history: by what its publication
+/// tells of them to all sessions, where that can be shared.
+pub(crate) fn advance(
+    connection: &mut Connection,
+    machine: &Machine,
+    news: &mut SharedNews,
+    sub: u64,
+    count: u64,
+) -> Result<Answer, Mem>
+    requires connection { IsConnection machine.now.app connection.old.own.name machine.now.history connection.old }
+    requires news { AreNews machine.now news.old }
+    ensures keeps { AreNews machine.now news.new }
+    ensures advances { AnswersIn machine.now.app machine.now.history (act.Advance sub count) connection.old connection.new result }
+{
+    let Some(from) = connection.cursor_of(sub) else {
+        return Ok(Answer::Idle);
+    };
+    let length = machine.length();
+    if from > length || count > length - from {
+        return Ok(Answer::Idle);
+    }
+    advance_within(connection, machine, news, sub, from, count)
+}
