@@ -1,0 +1,9 @@
+mod Puts
+mod Acting
+mod Asking
+mod Begun
+mod Operating
+mod Showing
+mod Workers
+mod Visits
+mod Worlds

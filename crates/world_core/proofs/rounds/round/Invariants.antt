@@ -1,0 +1,11 @@
+use Rattle.source_laws.specs.News.{AreNews}
+use Rattle.world_core.specs.Kept.{seen}
+use Rattle.world_core.proofs.Visits.{IsOn}
+use Rattle.world_core.proofs.Workers.{left_from}
+use Rattle.world_core.proofs.rounds.round.Given as goal
+
+abbrev pub invariant-loop-from : goal.invariant-loop-from
+invariant-loop-from l = IsOn (seen l.fn.inside) (seen l.inside) l.from l.made × AreNews l.inside.machine l.news
+
+abbrev pub decreases-loop-from : goal.decreases-loop-from
+decreases-loop-from l = left_from l.from l.inside.busy l.inside.present

@@ -1,0 +1,7 @@
+use Rattle.source_laws.specs.News.{AreNews}
+use Rattle.world_core.specs.Kept.{seen}
+use Rattle.world_core.proofs.Visits.{HaveComeTo}
+use Rattle.world_core.proofs.rounds.rounds.Given as goal
+
+abbrev pub invariant-loop : goal.invariant-loop
+invariant-loop l = HaveComeTo (seen l.fn.inside) (seen l.inside) × AreNews l.inside.machine l.news

@@ -1,0 +1,128 @@
+//! What happens.
+ghost use Rattle.std.specs.Prelude.{◌≡◌, Some};
+ghost use Rattle.core_model.specs.declared.events.Event.TheVariants as happening;
+ghost use Rattle.core_model.specs.Events.{act_by, IsEvent};
+ghost use Rattle.world_laws.specs.World.{as_world, IsWorld};
+ghost use Rattle.world_core.specs.Kept.{seen};
+ghost use Rattle.world_core.specs.Happening.{Happens, MakesAct, actor, asked_one};
+
+use crate::clients::{acted, asked};
+use crate::inside::Inside;
+use crate::opening::open;
+use crate::printing::{history, journal, show, store};
+use crate::rounds::settle;
+use client_events::named;
+use core_model::{Act, Event};
+use ejson_value::{Items, Mem, Text};
+use store_machine::AdminFault;
+use world_lines::Printed;
+
+// The act of the client that the event names, if it names one.
+fn act_named(inside: &Inside, client: &Text, event: &Event) -> Option<Act>
+    requires { IsWorld (seen inside.now) }
+    ensures { result ≡ act_by (as_world (seen inside.now)) client.now event.now }
+{
+    let length = inside.machine.length();
+    match inside.conns.get(client) {
+        Some(connection) => named(connection, length, event),
+        None => None,
+    }
+}
+
+// The client acts.
+fn make(inside: &mut Inside, client: &Text, act: Act) -> Result<Printed, Mem>
+    requires { IsWorld (seen inside.old) }
+    ensures { MakesAct (seen inside.old) client.now act (seen inside.new) result }
+{
+    inside.busy.put(client)?;
+    let (answer, refusal) = acted(&mut inside.conns, &mut inside.machine, client, act)?;
+    Ok(Printed::told(answer, refusal))
+}
+
+// The client makes the act that the event names.
+fn act(inside: &mut Inside, client: &Text, event: &Event) -> Result<Printed, Mem>
+    requires world { IsWorld (seen inside.old) }
+    requires acts { actor event.now ≡ Some client.now }
+    ensures { Happens (seen inside.old) event.now (seen inside.new) result }
+{
+    match act_named(inside, client, event) {
+        Some(act) => make(inside, client, act),
+        None => Ok(Printed::asked(false)),
+    }
+}
+
+// The client is asked for what the event says.
+fn ask(inside: &mut Inside, client: &Text, event: &Event) -> Result<Printed, Mem>
+    requires world { IsWorld (seen inside.old) }
+    requires good { IsEvent event.now }
+    requires asks { asked_one event.now ≡ Some client.now }
+    ensures { Happens (seen inside.old) event.now (seen inside.new) result }
+{
+    inside.busy.put(client)?;
+    let done = asked(&mut inside.conns, client, event)?;
+    Ok(Printed::asked(done))
+}
+
+// The client is gone.
+fn leave(inside: &mut Inside, client: &Text, event: &Event) -> Result<Printed, Mem>
+    requires world { IsWorld (seen inside.old) }
+    requires drops { event.now ≡ happening.Drop client.now }
+    ensures { Happens (seen inside.old) event.now (seen inside.new) result }
+{
+    inside.busy.put(client)?;
+    let done = asked(&mut inside.conns, client, event)?;
+    if !done {
+        return Ok(Printed::asked(false));
+    }
+    inside.present.remove(client);
+    Ok(Printed::asked(true))
+}
+
+// An administrator's operation is made, or refused.
+fn admin(inside: &mut Inside, op: &Items) -> Result<Printed, Mem>
+    requires world { IsWorld (seen inside.old) }
+    requires good { IsEvent (happening.Admin op.now) }
+    ensures { Happens (seen inside.old) (happening.Admin op.now) (seen inside.new) result }
+{
+    match inside.machine.admin(op) {
+        Ok(()) => Ok(Printed::asked(true)),
+        Err(AdminFault::Refused { code }) => Ok(Printed::refused(code)),
+        Err(AdminFault::Memory) => Err(Mem),
+    }
+}
+
+// The world settles.
+fn settle_unprinted(inside: &mut Inside) -> Result<Printed, Mem>
+    requires { IsWorld (seen inside.old) }
+    ensures { Happens (seen inside.old) happening.Settle (seen inside.new) result }
+{
+    settle(inside)?;
+    Ok(Printed::asked(true))
+}
+
+/// The event happens.
+pub(crate) fn happen(inside: &mut Inside, event: &Event) -> Result<Printed, Mem>
+    requires world { IsWorld (seen inside.old) }
+    requires good { IsEvent event.now }
+    ensures { Happens (seen inside.old) event.now (seen inside.new) result }
+{
+    match event {
+        Event::Client { name } => open(inside, name),
+        Event::Sub { client, .. } => ask(inside, client, event),
+        Event::Unsub { client, .. } => ask(inside, client, event),
+        Event::Call { client, .. } => ask(inside, client, event),
+        Event::Raw { client, .. } => ask(inside, client, event),
+        Event::Drop { client } => leave(inside, client, event),
+        Event::Do { client, .. } => act(inside, client, event),
+        Event::Step { client, .. } => act(inside, client, event),
+        Event::Learn { client, .. } => act(inside, client, event),
+        Event::Load { client, .. } => act(inside, client, event),
+        Event::Advance { client, .. } => act(inside, client, event),
+        Event::Admin { op } => admin(inside, op),
+        Event::Settle => settle_unprinted(inside),
+        Event::Show { client } => show(inside, client),
+        Event::Journal { client } => journal(inside, client),
+        Event::Store => store(inside),
+        Event::History => history(inside),
+    }
+}

@@ -1,0 +1,26 @@
+//! What is kept of a world.
+use client_names::Names;
+use connection::Connection;
+use ejson_value::Text;
+use std::alloc::Global;
+use std::collections::BTreeMap;
+use store_machine::Machine;
+
+/// Clients with their sessions, by name.
+pub(crate) type Conns = BTreeMap<Text, Connection>;
+
+#[derive(Drop)]
+pub(crate) struct Inside {
+    pub(crate) alloc: Global,
+    pub(crate) machine: Machine,
+    /// How many clients there were so far.
+    pub(crate) opened: u32,
+    /// All of them, those that are gone too.
+    pub(crate) conns: Conns,
+    /// Those that are there.
+    pub(crate) present: Names,
+    /// Those that may have something to do even while the history stays as it is.
+    pub(crate) busy: Names,
+    /// How many entries the history had when the world was settled last.
+    pub(crate) settled: u64,
+}

@@ -1,0 +1,12 @@
+//! A world: a store with its server, and clients with a session each, which go through events.
+#![tactic(auto)]
+
+mod clients;
+mod events;
+mod inside;
+mod opening;
+mod printing;
+mod rounds;
+mod world;
+
+pub use world::World;

@@ -1,0 +1,95 @@
+//! Clients that begin.
+ghost use Rattle.std.specs.Prelude.{◌≡◌, OnOk, OnErr, None};
+ghost use Rattle.std.specs.BTreeMap.{insert_entry};
+ghost use Rattle.value_model.specs.Order.{text_cmp};
+ghost use Rattle.core_model.specs.declared.events.Event.TheVariants as event;
+ghost use Rattle.core_model.specs.World.{can_open};
+ghost use Rattle.world_laws.specs.World.{as_world, connection_of, IsWorld};
+ghost use Rattle.connection_laws.specs.Connection.{new_connection};
+ghost use Rattle.world_core.specs.Kept.{seen};
+ghost use Rattle.world_core.specs.Happening.{Happens, Begins};
+
+use crate::inside::{Conns, Inside};
+use connection::Connection;
+use ejson_value::{Mem, Text};
+use std::alloc::Global;
+use store_machine::Machine;
+use world_lines::Printed;
+
+/// How many clients may be there at once.
+const CLIENT_LIMIT: usize = 128;
+
+// Whether a client of this name may begin.
+fn can_open(inside: &Inside, name: &Text) -> bool
+    requires { IsWorld (seen inside.now) }
+    ensures { result ≡ can_open (as_world (seen inside.now)) name.now }
+{
+    !inside.conns.contains_key(name) && inside.present.len() < CLIENT_LIMIT
+}
+
+// Puts the client among the others. It takes the name, so that nothing else is owned while memory is asked for.
+fn put(conns: &mut Conns, name: Text, connection: Connection) -> Result<(), Mem>
+    ensures ok { OnOk result (conns.new.entries ≡ insert_entry text_cmp conns.old.entries name connection) }
+    ensures err { OnErr result (conns.new.entries ≡ conns.old.entries) }
+{
+    drop(conns.insert(name, connection)?);
+    Ok(())
+}
+
+// A client at its beginning, with this number, stands among the others.
+fn add(
+    alloc: Global,
+    machine: &Machine,
+    conns: &mut Conns,
+    name: &Text,
+    number: u32,
+) -> Result<(), Mem>
+    ensures ok { OnOk result (conns.new.entries ≡ insert_entry text_cmp conns.old.entries name.now (new_connection machine.now.app name.now number)) }
+    ensures err { OnErr result (conns.new.entries ≡ conns.old.entries) }
+{
+    let key = name.copy()?;
+    let connection = Connection::new(alloc, machine.app(), name, number)?;
+    put(conns, key, connection)
+}
+
+// The client begins, with the next number, and has something to do. Where memory runs out, none is there
+// that wasn't.
+fn begin(inside: &mut Inside, name: &Text, number: u32) -> Result<(), Mem>
+    requires world { IsWorld (seen inside.old) }
+    requires none { connection_of (seen inside.old) name.now ≡ None }
+    ensures { Begins (seen inside.old) name.now number (seen inside.new) result }
+{
+    inside.busy.put(name)?;
+    inside.present.put(name)?;
+    match add(
+        inside.alloc,
+        &inside.machine,
+        &mut inside.conns,
+        name,
+        number,
+    ) {
+        Ok(()) => {
+            inside.opened = number;
+            Ok(())
+        }
+        Err(mem) => {
+            inside.present.remove(name);
+            Err(mem)
+        }
+    }
+}
+
+/// A client of this name begins, if one may.
+pub(crate) fn open(inside: &mut Inside, name: &Text) -> Result<Printed, Mem>
+    requires { IsWorld (seen inside.old) }
+    ensures { Happens (seen inside.old) (event.Client name.now) (seen inside.new) result }
+{
+    if !can_open(inside, name) {
+        return Ok(Printed::asked(false));
+    }
+    let Some(number) = inside.opened.checked_add(1) else {
+        return Err(Mem);
+    };
+    begin(inside, name, number)?;
+    Ok(Printed::asked(true))
+}

@@ -1,0 +1,46 @@
+//! What is printed of a world.
+ghost use Rattle.std.specs.Prelude.{◌≡◌, IfOk};
+ghost use Rattle.core_model.specs.declared.events.Event.TheVariants as event;
+ghost use Rattle.core_model.specs.Lines.{lines_of};
+ghost use Rattle.world_laws.specs.World.{as_world, IsWorld};
+ghost use Rattle.world_core.specs.Kept.{seen};
+
+use crate::inside::Inside;
+use ejson_value::{Mem, Text};
+use world_lines::Printed;
+
+/// What the client has.
+pub(crate) fn show(inside: &Inside, client: &Text) -> Result<Printed, Mem>
+    requires { IsWorld (seen inside.now) }
+    ensures { IfOk result (λ printed. printed ≡ lines_of (as_world (seen inside.now)) (event.Show client.now)) }
+{
+    match inside.conns.get(client) {
+        Some(connection) => Ok(Printed::of(connection.show_lines()?)),
+        None => Ok(Printed::asked(false)),
+    }
+}
+
+/// What the client's session did.
+pub(crate) fn journal(inside: &Inside, client: &Text) -> Result<Printed, Mem>
+    requires { IsWorld (seen inside.now) }
+    ensures { IfOk result (λ printed. printed ≡ lines_of (as_world (seen inside.now)) (event.Journal client.now)) }
+{
+    match inside.conns.get(client) {
+        Some(connection) => Ok(Printed::of(connection.journal_lines()?)),
+        None => Ok(Printed::asked(false)),
+    }
+}
+
+/// The documents of the store.
+pub(crate) fn store(inside: &Inside) -> Result<Printed, Mem>
+    ensures { IfOk result (λ printed. printed ≡ lines_of (as_world (seen inside.now)) event.Store) }
+{
+    Ok(Printed::of(inside.machine.store_lines()?))
+}
+
+/// The entries of its history.
+pub(crate) fn history(inside: &Inside) -> Result<Printed, Mem>
+    ensures { IfOk result (λ printed. printed ≡ lines_of (as_world (seen inside.now)) event.History) }
+{
+    Ok(Printed::of(inside.machine.history_lines()?))
+}

@@ -1,0 +1,105 @@
+//! The world.
+ghost use Rattle.std.specs.Prelude.{◌≡◌, IfOk, OnOk, OnErr};
+ghost use Rattle.stored_values.specs.Values.{HasValues};
+ghost use Rattle.core_model.specs.Store.{programs};
+ghost use Rattle.core_model.specs.World.{start};
+ghost use Rattle.core_model.specs.Settle.{settled};
+ghost use Rattle.core_model.specs.Events.{step, Reachable};
+ghost use Rattle.core_model.specs.Lines.{lines_of};
+ghost use Rattle.core_model.specs.Headline.{IsTrueWorld, HaveLongAlone, AreAtRest};
+ghost use Rattle.world_laws.specs.Doing.{ActsLead};
+ghost use Rattle.world_core.specs.Promises.{IsLeft};
+
+use crate::events::happen;
+use crate::inside::Inside;
+use crate::rounds::settle;
+use app_model::App;
+use client_names::Names;
+use ejson_value::Mem;
+use std::alloc::Global;
+use std::collections::BTreeMap;
+use std::marker::Model;
+use store_machine::Machine;
+use world_events::Event;
+use world_lines::Printed;
+
+/// A world. A contract sees its application, the history of its store, how many clients there were so
+/// far, and the clients by name, each with its session and the texts between them.
+#[derive(Drop)]
+pub struct World {
+    inside: Inside,
+}
+
+impl Model for World {
+    ghost use Rattle.std.specs.Coded.{codes};
+    ghost use Rattle.value_model.specs.Coding.{val_code};
+    ghost use Rattle.selector_match.specs.Coding.{query_code};
+    ghost use Rattle.sort_window.specs.Coding.{window_code};
+    ghost use Rattle.minimongo.specs.State.{documents_code};
+    ghost use Rattle.core_model.specs.World.{World as AWorld};
+    ghost use Rattle.world_laws.specs.World.{as_world, IsWorld};
+    ghost use Rattle.world_core.specs.Kept.{seen};
+
+    ghost Value = { AWorld };
+
+    ghost coded = { Prim.hlevel (codes, val_code, query_code, window_code, documents_code) };
+
+    ghost view = { λ a. as_world (seen a.inside) };
+
+    ghost invariant = { λ a. IsWorld (seen a.inside) };
+}
+
+impl World {
+    /// The world of the application at its beginning.
+    pub fn new(alloc: Global, app: &App) -> Result<World, Mem>
+        requires { HasValues (programs app.now) }
+        ensures { IfOk result (λ world. world ≡ start app.now) }
+    {
+        let machine = Machine::new(alloc, app)?;
+        Ok(World {
+            inside: Inside {
+                alloc,
+                machine,
+                opened: 0,
+                conns: BTreeMap::new(alloc),
+                present: Names::new(alloc),
+                busy: Names::new(alloc),
+                settled: 0,
+            },
+        })
+    }
+
+    /// The event happens, and what it prints is answered. After want of memory the world is as it was,
+    /// or, where it was to settle, as the acts so far left it.
+    pub fn event(&mut self, event: &Event) -> Result<Printed, Mem>
+        ensures step { OnOk result (self.new ≡ step self.old event.now) }
+        ensures lines { IfOk result (λ printed. printed ≡ lines_of self.old event.now) }
+        ensures left { OnErr result (IsLeft event.now self.old self.new) }
+        ensures true_world { IsTrueWorld self.new }
+        ensures long_alone { HaveLongAlone self.new }
+    {
+        event.known();
+        happen(&mut self.inside, event.happening())
+    }
+
+    /// Acts of clients, sessions and runs are made in rounds until none is left: only those clients are
+    /// asked that may have something to do.
+    pub fn settle(&mut self) -> Result<(), Mem>
+        ensures settled { OnOk result (self.new ≡ settled self.old) }
+        ensures at_rest { OnOk result (AreAtRest self.new) }
+        ensures left { OnErr result (ActsLead self.old self.new) }
+        ensures true_world { IsTrueWorld self.new }
+        ensures long_alone { HaveLongAlone self.new }
+    {
+        settle(&mut self.inside)
+    }
+
+    /// Tells a proof what every world is; it does nothing.
+    pub fn known(&self)
+        ensures reachable { Reachable self.now }
+        ensures true_world { IsTrueWorld self.now }
+        ensures long_alone { HaveLongAlone self.now }
+    {
+        let _ = &self.inside;
+    }
+}
