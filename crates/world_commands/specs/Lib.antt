@@ -1,0 +1,6 @@
+pub mod Replay
+pub mod Stepping
+pub mod Truth
+pub mod TruthLaws
+pub mod Status
+pub mod Cause

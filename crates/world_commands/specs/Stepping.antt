@@ -1,0 +1,39 @@
+-- What one line of a replay does.
+use Rattle.std.specs.Prelude.{◌≡◌, ◌⊎◌, ℕ, true, false, List, ◌++◌, Bool, Option, Some, None}
+use Rattle.core_model.specs.declared.events.Event.{Event}
+use Rattle.core_model.specs.World.{World}
+use Rattle.core_model.specs.Events.{step, IsEvent}
+use Rattle.core_model.specs.Lines.{lines_of}
+use Rattle.checking.specs.Input.{is_blank}
+use Rattle.world_commands.specs.Replay.{event_of, all_bytes}
+
+-- what is read as an event of the line is that event, and an event of the program
+abbrev pub GivesEventOf : List ℕ → Option Event → Type 0
+GivesEventOf l None = event_of l ≡ None
+GivesEventOf l (Some e) = (event_of l ≡ Some e) × IsEvent e
+
+-- a line that is an event ran as that event and gave its lines; nothing is given for another
+pub record StepsEvent (l : List ℕ) (old new : World) (lines : List (List ℕ)) : Type 0 where
+  pub event : Event
+  pub is_event : event_of l ≡ Some event
+  pub fits : IsEvent event
+  pub world : new ≡ step old event
+  pub printed : lines ≡ lines_of old event
+
+abbrev pub StepsLine : List ℕ → World → World → Option (List (List ℕ)) → Type 0
+StepsLine l old new None = event_of l ≡ None
+StepsLine l old new (Some lines) = StepsEvent l old new lines
+
+-- a line that is an event ran as that event, and its lines were added to the output
+pub record RunsEvent (l : List ℕ) (old new : World) (before now : List ℕ) : Type 0 where
+  pub is_line : is_blank l ≡ false
+  pub event : Event
+  pub is_event : event_of l ≡ Some event
+  pub fits : IsEvent event
+  pub world : new ≡ step old event
+  pub output : now ≡ before ++ all_bytes (lines_of old event)
+
+-- what a line did, and whether it is of the grammar: a blank line does nothing
+abbrev pub RunsLine : List ℕ → World → World → List ℕ → List ℕ → Bool → Type 0
+RunsLine l old new before now true = ((is_blank l ≡ true) × (new ≡ old) × (now ≡ before)) ⊎ RunsEvent l old new before now
+RunsLine l old new before now false = (is_blank l ≡ false) × (event_of l ≡ None) × (now ≡ before)
