@@ -1,13 +1,13 @@
 //! The program `ddp`: a reactive data server and its client, of which it has the commands `check` and `replay` so far.
 #![tactic(auto)]
 
-use commands::{Status, run_plain};
 use ejson_value::Text;
 use io_edge::{StdSink, StdSource};
 use std::process::ExitCode;
 use std::rt::Env;
 use std::{env, io};
 use usage::usage_text;
+use world_commands::{Status, run_plain};
 
 // The words that the program was given.
 fn words(rt: &(impl Env + AllocGlobal)) -> io::Result<Vec<Text>> {

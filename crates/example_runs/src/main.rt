@@ -1,11 +1,11 @@
 //! Runs the examples, and tells of each whether its application is one and its run writes what stands beside it.
 #![tactic(auto)]
 
-use commands::{Status, run_plain};
 use ejson_value::{Bytes, Mem, Text};
 use io_edge::{Calls, MemorySink, MemorySource};
 use std::alloc::Global;
 use std::{env, fs, io};
+use world_commands::{Status, run_plain};
 
 // How many bytes an output may have.
 const ROOM: u64 = 65536;
