@@ -1,4 +1,4 @@
-//! The program `ddp`: a reactive data server and its client, of which it has the commands `check` and `replay` so far.
+//! The program `ddp`: a reactive data server and its client, with the commands `check` and `replay`.
 #![tactic(auto)]
 
 use ejson_value::Text;

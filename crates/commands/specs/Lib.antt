@@ -1,4 +1,0 @@
-pub mod Replay
-pub mod ReplayLaws
-pub mod Status
-pub mod Cause

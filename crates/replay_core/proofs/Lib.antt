@@ -1,7 +1,0 @@
-pub mod Links
-pub mod Fields
-pub mod Worlds
-pub mod Printed
-pub mod Journals
-pub mod Turning
-pub mod Told

@@ -1,9 +1,0 @@
-use Rattle.std.proofs.Common.{◌≡◌, ◌++◌, map}
-use Rattle.ejson_value.specs.Rows.{Rows}
-use Rattle.world_model.specs.Lines.{doc_line, line_text, values}
-use Rattle.replay_core.proofs.lines.push_docs.Given as goal
-
-abbrev pub invariant-loop-key : goal.invariant-loop-key
-invariant-loop-key l =
-    (goal.iterator-loop-key).can_next l.key-iterator × (goal.iterator-loop-key).is_finite l.key-iterator ×
-    ((done : Rows) × (l.rows ≡ done ++ l.key-iterator) × (l.lines ≡ l.fn.lines ++ map line_text (values (map doc_line done))))

@@ -1,4 +1,0 @@
-use Rattle.session_core.proofs.taking.taken_connect.Goals as goal
-
-pub returns-then-connected : goal.returns-then-connected
-returns-then-connected c = rw c.if-connected.true c.refused_shown.ensures

@@ -1,4 +1,0 @@
-pub mod Store
-pub mod ModifierLaws
-pub mod OperationLaws
-pub mod StoreLaws
