@@ -1,6 +1,8 @@
 -- The parts of a value lie less deep than the value.
-use Rattle.std.specs.Prelude.{ℕ, ◌+◌, ◌*◌, ◌≤◌, List, [], ◌∷◌}
-use Rattle.std.proofs.Common.{arith}
+use Rattle.std.specs.Prelude.{ℕ, ◌+◌, ◌*◌, ◌≤◌, List, [], ◌∷◌, Option, None, Some, Vec}
+use Rattle.std.specs.declared.sync.Arc.{Arc}
+use Rattle.std.specs.Arc.{arc_value}
+use Rattle.std.proofs.Common.{Global, arith}
 use Rattle.std.specs.BTreeMap.{BTreeMap, values}
 use Rattle.std.specs.Map.{values_of}
 use denote.Param.Weighed.{most}
@@ -11,8 +13,10 @@ use Rattle.ejson_value.specs.declared.value.Value.TheVariants as shape
 use Rattle.ejson_value.specs.declared.row.Member.{Member}
 use Rattle.ejson_value.specs.declared.value.Members.{Members}
 use Rattle.ejson_value.specs.declared.value.Members.TheVariants as members
-use Rattle.ejson_value.specs.declared.row.Row.TheDeep.{deep-Value, deep-Member, deep-Members}
-use Rattle.ejson_value.specs.View.{view, views, pairs, entries, held_fields}
+use Rattle.ejson_value.specs.declared.row.Row.TheDeep.{deep-Value, deep-Member, deep-Members, deep-Doc, deep-Items}
+use Rattle.ejson_value.specs.declared.value.Doc.TheInside.{Inside as DocInside}
+use Rattle.ejson_value.specs.declared.value.Items.TheInside.{Inside as ItemsInside}
+use Rattle.ejson_value.specs.View.{view, views, pairs, entries, held_fields, doc_fields, held_items}
 
 pub deep_le : (v : Value) → deep-Value v ≤ 2 * depth (view v) + 1
 deep_le shape.Null = omega arith
@@ -46,3 +50,19 @@ most_le-table m = most_le_entries m.entries
 pub members_le : (ms : Members) → deep-Members ms ≤ 2 * fields_depth (fields_of (held_fields ms)) + 2
 members_le (members.Few es) = omega arith
 members_le (members.Many es) = omega arith
+
+-- a document's memory, if it has some
+doc_by : (m : Global) (fields : Option (Arc Members Global)) → deep-Doc (record { alloc = m; fields = fields }) ≤ 2 * fields_depth (fields_of (doc_fields fields)) + 2
+doc_by m None = omega arith
+doc_by m (Some fields) = omega (arith, members_le (arc_value fields))
+
+pub doc_le : (a : DocInside) → deep-Doc a ≤ 2 * fields_depth (fields_of (doc_fields a.fields)) + 2
+doc_le a = doc_by a.alloc a.fields
+
+-- a list's memory, if it has some
+items_by : (m : Global) (items : Option (Arc (Vec Value Global) Global)) → deep-Items (record { alloc = m; items = items }) ≤ 2 * vals_depth (vals_of (views (held_items items))) + 1
+items_by m None = omega arith
+items_by m (Some items) = omega (arith, most_le-depth (arc_value items).items)
+
+pub items_le : (a : ItemsInside) → deep-Items a ≤ 2 * vals_depth (vals_of (views (held_items a.items))) + 1
+items_le a = items_by a.alloc a.items

@@ -1,5 +1,7 @@
 -- What contracts see of a value.
-use Rattle.std.specs.Prelude.{ℕ, List, map}
+use Rattle.std.specs.Prelude.{ℕ, List, [], map, Option, None, Some, Vec}
+use Rattle.std.specs.declared.sync.Arc.{Arc}
+use Rattle.std.specs.Arc.{arc_value}
 use Rattle.value_model.specs.Val.{Val, Entries, null, boolean, int, text, date, bytes, list, object, user, vals_of, fields_of}
 use Rattle.ejson_value.specs.declared.value.Value.{Value}
 use Rattle.ejson_value.specs.declared.value.Value.TheVariants as shape
@@ -29,6 +31,16 @@ abbrev pub held_fields : Members → Entries
 held_fields (members.Few es) = es
 held_fields (members.Many es) = es
 
+-- the fields of a document, which may have no memory
+abbrev pub doc_fields : {Z : Type 0} → Option (Arc Members Z) → Entries
+doc_fields None = []
+doc_fields (Some fields) = held_fields (arc_value fields)
+
+-- the values of a list, which may have no memory
+abbrev pub held_items : {Y Z : Type 0} → Option (Arc (Vec Value Y) Z) → List Value
+held_items None = []
+held_items (Some items) = (arc_value items).items
+
 -- the fields of a row as the program holds them
 abbrev pub pairs : List Member → List (List ℕ × Value)
 pairs ms = map (λ m. (m.name, m.value)) ms
@@ -38,5 +50,6 @@ entries es = map (λ e. (e.0, view e.1)) es
 
 -- the fields that a walk has yet to pass
 abbrev pub left : Walk → List (List ℕ × Value)
+left walk.None = []
 left (walk.Few it) = pairs (iter_rest it)
 left (walk.Many es) = es

@@ -49,42 +49,6 @@ impl Boxed {
     }
 }
 
-impl Items {
-    /// A list equal to this one.
-    #[cycle(copying)]
-    pub fn copy(&self) -> Result<Items, Mem>
-        ensures { IfOk result (λ vs. vs ≡ self.now) }
-    {
-        let mut copies = self.emptied();
-        for item in self.as_slice() {
-            copies.push(copy(item)?)?;
-        }
-        Ok(copies)
-    }
-}
-
-impl Doc {
-    // Puts the value as the field of this name.
-    fn put_named(&mut self, name: &Text, value: Value) -> Result<(), Mem>
-        ensures { OnOk result (self.new ≡ put self.old name.now (view value)) }
-    {
-        let name = name.copy()?;
-        self.put(name, value)
-    }
-
-    /// A document equal to this one.
-    #[cycle(copying)]
-    pub fn copy(&self) -> Result<Doc, Mem>
-        ensures { IfOk result (λ doc. doc ≡ self.now) }
-    {
-        let mut copies = self.emptied()?;
-        for (name, value) in self.iter() {
-            copies.put_named(name, copy(value)?)?;
-        }
-        Ok(copies)
-    }
-}
-
 impl Copied for Items {
     fn copied(&self) -> Result<Items, Mem> {
         self.copy()

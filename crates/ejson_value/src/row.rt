@@ -10,6 +10,7 @@ ghost use Rattle.value_model.specs.Doc.{get, put, remove};
 ghost use Rattle.value_model.specs.Valid.{IsDocument};
 ghost use Rattle.ejson_value.specs.View.{view, pairs, entries};
 
+use crate::copying::copy;
 use crate::memory::Mem;
 use crate::text::Text;
 use crate::value::Value;
@@ -69,12 +70,13 @@ impl Row {
         }
     }
 
-    // An empty row of the same allocator, with room for as many fields as this one has.
-    pub(crate) fn emptied(&self) -> Result<Row, Mem>
-        ensures { IfOk result (λ row. row ≡ []) }
+    // A row equal to this one, with room for one more field.
+    pub(crate) fn copied(&self) -> Result<Row, Mem>
+        ensures { IfOk result (λ row. row ≡ self.now) }
     {
+        self.known();
         Ok(Row {
-            members: Vec::with_capacity(*self.members.allocator(), self.members.len())?,
+            members: copies(*self.members.allocator(), self.members.as_slice())?,
         })
     }
 
@@ -219,6 +221,28 @@ impl Row {
             }
         }
     }
+}
+
+fn copy_of(member: &Member) -> Result<Member, Mem>
+    ensures name { IfOk result (λ copy. copy.name ≡ member.now.name) }
+    ensures value { IfOk result (λ copy. view copy.value ≡ view member.now.value) }
+{
+    let name = member.name.copy()?;
+    Ok(Member {
+        name,
+        value: copy(&member.value)?,
+    })
+}
+
+// Copies of the members, with room for one more.
+fn copies(alloc: Global, members: &[Member]) -> Result<Vec<Member>, Mem>
+    ensures { IfOk result (λ copies. entries (pairs copies.items) ≡ entries (pairs members.now)) }
+{
+    let mut copies = Vec::with_capacity(alloc, members.len().saturating_add(1))?;
+    for member in members {
+        copies.push(copy_of(member)?)?;
+    }
+    Ok(copies)
 }
 
 // Puts the member behind the others, where there is room for it.

@@ -7,6 +7,7 @@ ghost use Rattle.value_model.specs.Doc.{get, put, remove};
 ghost use Rattle.value_model.specs.Valid.{IsDocument};
 ghost use Rattle.ejson_value.specs.View.{view, entries};
 
+use crate::copying::copy;
 use crate::memory::Mem;
 use crate::row::Row;
 use crate::text::Text;
@@ -61,12 +62,31 @@ impl Table {
     }
 
     // An empty table of the same allocator.
-    pub(crate) fn emptied(&self) -> Result<Table, Mem>
+    fn emptied(&self) -> Result<Table, Mem>
         ensures { IfOk result (λ table. table ≡ []) }
     {
         Ok(Table {
             fields: BTreeMap::emptied(&self.fields)?,
         })
+    }
+
+    // Puts copies of the name and of the value.
+    fn put_copy(&mut self, name: &Text, value: &Value) -> Result<(), Mem>
+        ensures { OnOk result (self.new ≡ put self.old name.now (view value.now)) }
+    {
+        let name = name.copy()?;
+        self.put(name, copy(value)?)
+    }
+
+    // A table equal to this one.
+    pub(crate) fn copied(&self) -> Result<Table, Mem>
+        ensures { IfOk result (λ table. table ≡ self.now) }
+    {
+        let mut copies = self.emptied()?;
+        for (name, value) in self.iter() {
+            copies.put_copy(name, value)?;
+        }
+        Ok(copies)
     }
 
     // How many fields it has.

@@ -7,9 +7,10 @@ ghost use Rattle.value_model.specs.Val.{vals_of, fields_of};
 ghost use Rattle.value_model.specs.Valid.{IsValue, AreValues, IsDocument};
 ghost use Rattle.value_model.specs.Order.{text_cmp};
 ghost use Rattle.value_model.specs.Doc.{get, put, remove};
-ghost use Rattle.ejson_value.specs.View.{view, views, entries};
+ghost use Rattle.ejson_value.specs.View.{view, views, entries, held_fields};
 
 use crate::bytes::Bytes;
+use crate::copying::copy;
 use crate::memory::Mem;
 use crate::row::{Member, Row};
 use crate::table::Table;
@@ -20,6 +21,7 @@ use std::alloc::Global;
 use std::collections::btree_map;
 use std::iter::Iterator;
 use std::marker::Model;
+use std::sync::Arc;
 use std::{mem, slice};
 
 /// A value of EJSON (the appendix on EJSON of Meteor's DDP.md). A contract sees it by `view`.
@@ -40,24 +42,30 @@ pub enum Value {
 }
 
 /// One value on the heap. A contract sees it as that value.
-#[derive(Debug, Drop)]
+#[derive(Debug)]
 #[cycle(value)]
 pub struct Boxed {
     inner: Box<Value>,
 }
 
-/// A list of values. A contract sees it as the list of its values.
-#[derive(Debug, Drop)]
+/// A list of values. Lists that are copies of one another have the same memory, until one of them is
+/// changed. A contract sees it as the list of its values.
+#[derive(Debug)]
 #[cycle(value)]
 pub struct Items {
-    items: Vec<Value>,
+    alloc: Global,
+    // None where there was never one.
+    items: Option<Arc<Vec<Value>>>,
 }
 
-/// A document: a finite map from names to values. A contract sees its pairs by rising name.
+/// A document: a finite map from names to values. Documents that are copies of one another have the
+/// same memory, until one of them is changed. A contract sees its pairs by rising name.
 #[derive(Debug)]
 #[cycle(value)]
 pub struct Doc {
-    fields: Members,
+    alloc: Global,
+    // None where there was never one.
+    fields: Option<Arc<Members>>,
 }
 
 // The most fields that stand in a row.
@@ -79,6 +87,7 @@ pub struct Fields<'a> {
 
 #[derive(Drop)]
 enum Walk<'a> {
+    None,
     Few(slice::Iter<'a, Member>),
     Many(btree_map::Iter<'a, Text, Value>),
 }
@@ -121,17 +130,17 @@ impl Model for Items {
 
     ghost use Rattle.value_model.specs.Depth.{vals_depth};
     ghost use Rattle.value_model.specs.Valid.{AreValues};
-    ghost use Rattle.ejson_value.specs.View.{views};
+    ghost use Rattle.ejson_value.specs.View.{views, held_items};
 
-    ghost view = { λ a. views a.items.items };
+    ghost view = { λ a. views (held_items a.items) };
 
-    ghost invariant = { λ a. AreValues (vals_of (views a.items.items)) };
+    ghost invariant = { λ a. AreValues (vals_of (views (held_items a.items))) };
 
     ghost size = { λ vs. 2 * vals_depth (vals_of vs) + 1 };
 
-    ghost use Rattle.ejson_value.specs.Falls.{most_le-depth};
+    ghost use Rattle.ejson_value.specs.Falls.{items_le};
 
-    ghost size_decreases = { λ a h. Prim.omega (arith, most_le-depth a.items.items) };
+    ghost size_decreases = { λ a h. items_le a };
 }
 
 impl Model for Doc {
@@ -146,17 +155,17 @@ impl Model for Doc {
 
     ghost use Rattle.value_model.specs.Depth.{fields_depth};
     ghost use Rattle.value_model.specs.Valid.{IsDocument};
-    ghost use Rattle.ejson_value.specs.View.{held_fields};
+    ghost use Rattle.ejson_value.specs.View.{doc_fields};
 
-    ghost view = { λ a. held_fields a.fields };
+    ghost view = { λ a. doc_fields a.fields };
 
-    ghost invariant = { λ a. IsDocument (held_fields a.fields) };
+    ghost invariant = { λ a. IsDocument (doc_fields a.fields) };
 
     ghost size = { λ es. 2 * fields_depth (fields_of es) + 2 };
 
-    ghost use Rattle.ejson_value.specs.Falls.{members_le};
+    ghost use Rattle.ejson_value.specs.Falls.{doc_le};
 
-    ghost size_decreases = { λ a h. Prim.omega (arith, members_le a.fields) };
+    ghost size_decreases = { λ a h. doc_le a };
 }
 
 impl<'a> Model for Fields<'a> {
@@ -184,6 +193,7 @@ impl<'a> Iterator for Fields<'a> {
 
     fn next(&mut self) -> Option<(&'a Text, &'a Value)> {
         match &mut self.walk {
+            Walk::None => None,
             Walk::Few(members) => {
                 let member = members.next()?;
                 Some((&member.name, &member.value))
@@ -193,13 +203,68 @@ impl<'a> Iterator for Fields<'a> {
     }
 }
 
-// By a call, so that no walk of the borrow checker splits where a document is dropped.
+// These are dropped by a call, so that no walk of the borrow checker splits where a value is dropped.
+
+impl Drop for Boxed {
+    #[cycle(value)]
+    fn drop(self) {
+        let Boxed { inner } = self;
+        drop(inner);
+    }
+}
+
+impl Drop for Items {
+    #[cycle(value)]
+    fn drop(self) {
+        let Items { alloc, items } = self;
+        drop(items);
+    }
+}
+
 impl Drop for Doc {
     #[cycle(value)]
     fn drop(self) {
-        let Doc { fields } = self;
+        let Doc { alloc, fields } = self;
         drop(fields);
     }
+}
+
+// Puts the value behind the others.
+fn put_behind(items: &mut Vec<Value>, value: Value) -> Result<(), Mem>
+    ensures ok { OnOk result (views items.new.items ≡ views items.old.items ++ view value ∷ []) }
+    ensures err { OnErr result (views items.new.items ≡ views items.old.items) }
+{
+    items.push(value)?;
+    Ok(())
+}
+
+// Takes the value at this place out.
+fn take_at(items: &mut Vec<Value>, place: usize) -> Value
+    requires { place < length (views items.old.items) }
+    ensures value { Some (view result) ≡ slice_get (views items.old.items) place }
+    ensures removed { views items.new.items ≡ remove_item (views items.old.items) place }
+{
+    items.remove(place)
+}
+
+// Puts the value at this place and hands out the one that was there.
+fn swap_at(items: &mut Vec<Value>, place: usize, value: Value) -> Value
+    requires { place < length (views items.old.items) }
+    ensures value { Some (view result) ≡ slice_get (views items.old.items) place }
+    ensures replaced { views items.new.items ≡ slice_set (views items.old.items) place (view value) }
+{
+    mem::replace(&mut items[place], value)
+}
+
+// Copies of the values, with room for one more.
+fn copies(alloc: Global, items: &[Value]) -> Result<Vec<Value>, Mem>
+    ensures { IfOk result (λ copies. views copies.items ≡ views items.now) }
+{
+    let mut copies = Vec::with_capacity(alloc, items.len().saturating_add(1))?;
+    for item in items {
+        copies.push(copy(item)?)?;
+    }
+    Ok(copies)
 }
 
 impl Items {
@@ -207,37 +272,57 @@ impl Items {
     pub fn new(alloc: Global) -> Items
         ensures { result ≡ [] }
     {
-        Items {
-            items: Vec::new(alloc),
-        }
+        Items { alloc, items: None }
     }
 
     /// How many values it has.
     pub fn len(&self) -> usize
         ensures { result ≡ length self.now }
     {
-        self.items.len()
+        self.as_slice().len()
     }
 
     /// Whether it has none.
     pub fn is_empty(&self) -> bool
         ensures { result ≡ (length self.now == 0) }
     {
-        self.items.is_empty()
+        self.as_slice().is_empty()
     }
 
     /// The value at this place.
     pub fn get(&self, place: usize) -> Option<&Value>
         ensures { option_map (λ v. view v.now) result ≡ slice_get self.now place }
     {
-        self.items.get(place)
+        self.as_slice().get(place)
     }
 
     /// The values in order.
     pub fn as_slice(&self) -> &[Value]
         ensures { views result.now ≡ self.now }
     {
-        self.items.as_slice()
+        match &self.items {
+            None => &[],
+            Some(items) => items.as_slice(),
+        }
+    }
+
+    // Copies of its values, with room for one more.
+    fn copies(&self) -> Result<Vec<Value>, Mem>
+        ensures same { IfOk result (λ copies. views copies.items ≡ self.now) }
+        ensures known { AreValues (vals_of self.now) }
+    {
+        self.known();
+        copies(self.alloc, self.as_slice())
+    }
+
+    // Puts these in place of its values.
+    fn hold(&mut self, items: Vec<Value>) -> Result<(), Mem>
+        requires { AreValues (vals_of (views items.items)) }
+        ensures ok { OnOk result (self.new ≡ views items.items) }
+        ensures err { OnErr result (self.new ≡ self.old) }
+    {
+        self.items = Some(Arc::new(self.alloc, items)?);
+        Ok(())
     }
 
     /// Puts the value behind the others.
@@ -246,34 +331,64 @@ impl Items {
         ensures err { OnErr result (self.new ≡ self.old) }
     {
         value.known();
-        self.items.push(value)?;
-        Ok(())
+        if let Some(items) = &mut self.items {
+            if let Some(own) = Arc::get_mut(items) {
+                return put_behind(own, value);
+            }
+        }
+        let mut items = self.copies()?;
+        put_behind(&mut items, value)?;
+        self.hold(items)
     }
 
     /// Takes the value at this place out; those behind it move down.
-    pub fn remove(&mut self, place: usize) -> Value
+    pub fn remove(&mut self, place: usize) -> Result<Value, Mem>
         requires { place < length self.old }
-        ensures value { Some (view result) ≡ slice_get self.old place }
-        ensures removed { self.new ≡ remove_item self.old place }
+        ensures value { IfOk result (λ value. Some (view value) ≡ slice_get self.old place) }
+        ensures removed { OnOk result (self.new ≡ remove_item self.old place) }
+        ensures err { OnErr result (self.new ≡ self.old) }
     {
-        self.items.remove(place)
+        if let Some(items) = &mut self.items {
+            if let Some(own) = Arc::get_mut(items) {
+                return Ok(take_at(own, place));
+            }
+        }
+        let mut items = self.copies()?;
+        let value = take_at(&mut items, place);
+        self.hold(items)?;
+        Ok(value)
     }
 
     /// Puts the value at this place and hands out the one that was there.
-    pub fn replace(&mut self, place: usize, value: Value) -> Value
+    pub fn replace(&mut self, place: usize, value: Value) -> Result<Value, Mem>
         requires { place < length self.old }
-        ensures value { Some (view result) ≡ slice_get self.old place }
-        ensures replaced { self.new ≡ slice_set self.old place (view value) }
+        ensures value { IfOk result (λ there. Some (view there) ≡ slice_get self.old place) }
+        ensures replaced { OnOk result (self.new ≡ slice_set self.old place (view value)) }
+        ensures err { OnErr result (self.new ≡ self.old) }
     {
         value.known();
-        mem::replace(&mut self.items[place], value)
+        if let Some(items) = &mut self.items {
+            if let Some(own) = Arc::get_mut(items) {
+                return Ok(swap_at(own, place, value));
+            }
+        }
+        let mut items = self.copies()?;
+        let there = swap_at(&mut items, place, value);
+        self.hold(items)?;
+        Ok(there)
     }
 
-    /// An empty list beside this one, of the same allocator.
-    pub(crate) fn emptied(&self) -> Items
-        ensures { result ≡ [] }
+    /// A list equal to this one. It copies no value.
+    pub fn copy(&self) -> Result<Items, Mem>
+        ensures { IfOk result (λ vs. vs ≡ self.now) }
     {
-        Items::new(*self.items.allocator())
+        Ok(Items {
+            alloc: self.alloc,
+            items: match &self.items {
+                None => None,
+                Some(items) => Some(Arc::try_clone(items)?),
+            },
+        })
     }
 
     /// Tells a proof what its values keep; it does nothing.
@@ -334,26 +449,96 @@ impl Value {
     }
 }
 
+impl Members {
+    fn len(&self) -> usize
+        ensures { result ≡ length (held_fields self.now) }
+    {
+        match self {
+            Members::Few(row) => row.len(),
+            Members::Many(table) => table.len(),
+        }
+    }
+
+    fn get(&self, name: &Text) -> Option<&Value>
+        ensures { option_map (λ v. view v.now) result ≡ get (held_fields self.now) name.now }
+    {
+        match self {
+            Members::Few(row) => row.get(name),
+            Members::Many(table) => table.get(name),
+        }
+    }
+
+    // Whether the fields stand in a row that is full and lacks this one.
+    fn has_full_row(&self, name: &Text) -> bool {
+        match self {
+            Members::Few(row) => row.len() >= MAX_ROW && row.place(name).is_err(),
+            Members::Many(_) => false,
+        }
+    }
+
+    // Moves the fields from a row into a table.
+    fn make_table(&mut self) -> Result<(), Mem>
+        ensures { held_fields self.new ≡ held_fields self.old }
+    {
+        if let Members::Few(row) = self {
+            let table = Table::of(row)?;
+            *self = Members::Many(table);
+        }
+        Ok(())
+    }
+
+    fn put(&mut self, name: Text, value: Value) -> Result<(), Mem>
+        ensures ok { OnOk result (held_fields self.new ≡ put (held_fields self.old) name (view value)) }
+        ensures err { OnErr result (held_fields self.new ≡ held_fields self.old) }
+    {
+        if self.has_full_row(&name) {
+            self.make_table()?;
+        }
+        match self {
+            Members::Few(row) => row.put(name, value),
+            Members::Many(table) => table.put(name, value),
+        }
+    }
+
+    fn remove(&mut self, name: &Text) -> Option<Value>
+        ensures value { option_map view result ≡ get (held_fields self.old) name.now }
+        ensures removed { held_fields self.new ≡ remove (held_fields self.old) name.now }
+    {
+        match self {
+            Members::Few(row) => row.remove(name),
+            Members::Many(table) => table.remove(name),
+        }
+    }
+
+    fn known(&self)
+        ensures { IsDocument (held_fields self.now) }
+    {
+        match self {
+            Members::Few(row) => row.known(),
+            Members::Many(table) => table.known(),
+        }
+    }
+
+    // Copies of the fields, of the same kind.
+    fn copies(&self) -> Result<Members, Mem>
+        ensures { IfOk result (λ copies. held_fields copies ≡ held_fields self.now) }
+    {
+        match self {
+            Members::Few(row) => Ok(Members::Few(row.copied()?)),
+            Members::Many(table) => Ok(Members::Many(table.copied()?)),
+        }
+    }
+}
+
 impl Doc {
     /// A document with no fields.
     pub fn new(alloc: Global) -> Doc
         ensures { result ≡ [] }
     {
         Doc {
-            fields: Members::Few(Row::new(alloc)),
+            alloc,
+            fields: None,
         }
-    }
-
-    // An empty document of the same allocator, of the same kind, and with room for as many fields as a row has.
-    pub(crate) fn emptied(&self) -> Result<Doc, Mem>
-        ensures { IfOk result (λ doc. doc ≡ []) }
-    {
-        Ok(Doc {
-            fields: match &self.fields {
-                Members::Few(row) => Members::Few(row.emptied()?),
-                Members::Many(table) => Members::Many(table.emptied()?),
-            },
-        })
     }
 
     /// How many fields it has.
@@ -361,8 +546,8 @@ impl Doc {
         ensures { result ≡ length self.now }
     {
         match &self.fields {
-            Members::Few(row) => row.len(),
-            Members::Many(table) => table.len(),
+            None => 0,
+            Some(fields) => fields.len(),
         }
     }
 
@@ -378,27 +563,28 @@ impl Doc {
         ensures { option_map (λ v. view v.now) result ≡ get self.now name.now }
     {
         match &self.fields {
-            Members::Few(row) => row.get(name),
-            Members::Many(table) => table.get(name),
+            None => None,
+            Some(fields) => fields.get(name),
         }
     }
 
-    // Whether the fields stand in a row that is full and lacks this one.
-    fn has_full_row(&self, name: &Text) -> bool {
-        match &self.fields {
-            Members::Few(row) => row.len() >= MAX_ROW && row.place(name).is_err(),
-            Members::Many(_) => false,
-        }
-    }
-
-    // Moves the fields from a row into a table.
-    fn make_table(&mut self) -> Result<(), Mem>
-        ensures { self.new ≡ self.old }
+    // Copies of its fields.
+    fn copies(&self) -> Result<Members, Mem>
+        ensures { IfOk result (λ copies. held_fields copies ≡ self.now) }
     {
-        if let Members::Few(row) = &mut self.fields {
-            let table = Table::of(row)?;
-            self.fields = Members::Many(table);
+        match &self.fields {
+            None => Ok(Members::Few(Row::new(self.alloc))),
+            Some(fields) => fields.copies(),
         }
+    }
+
+    // Puts these in place of its fields.
+    fn hold(&mut self, fields: Members) -> Result<(), Mem>
+        ensures ok { OnOk result (self.new ≡ held_fields fields) }
+        ensures err { OnErr result (self.new ≡ self.old) }
+    {
+        fields.known();
+        self.fields = Some(Arc::new(self.alloc, fields)?);
         Ok(())
     }
 
@@ -407,32 +593,48 @@ impl Doc {
         ensures ok { OnOk result (self.new ≡ put self.old name (view value)) }
         ensures err { OnErr result (self.new ≡ self.old) }
     {
-        if self.has_full_row(&name) {
-            self.make_table()?;
-        }
-        match &mut self.fields {
-            Members::Few(row) => {
-                let put = row.put(name, value);
-                row.known();
-                put
-            }
-            Members::Many(table) => {
-                let put = table.put(name, value);
-                table.known();
-                put
+        if let Some(fields) = &mut self.fields {
+            if let Some(own) = Arc::get_mut(fields) {
+                let put = own.put(name, value);
+                own.known();
+                return put;
             }
         }
+        let mut fields = self.copies()?;
+        fields.put(name, value)?;
+        self.hold(fields)
     }
 
     /// Takes the field of this name out.
-    pub fn remove(&mut self, name: &Text) -> Option<Value>
-        ensures value { option_map view result ≡ get self.old name.now }
-        ensures removed { self.new ≡ remove self.old name.now }
+    pub fn remove(&mut self, name: &Text) -> Result<Option<Value>, Mem>
+        ensures value { IfOk result (λ value. option_map view value ≡ get self.old name.now) }
+        ensures removed { OnOk result (self.new ≡ remove self.old name.now) }
+        ensures err { OnErr result (self.new ≡ self.old) }
     {
-        match &mut self.fields {
-            Members::Few(row) => row.remove(name),
-            Members::Many(table) => table.remove(name),
+        if let Some(fields) = &mut self.fields {
+            if let Some(own) = Arc::get_mut(fields) {
+                let there = own.remove(name);
+                own.known();
+                return Ok(there);
+            }
         }
+        let mut fields = self.copies()?;
+        let there = fields.remove(name);
+        self.hold(fields)?;
+        Ok(there)
+    }
+
+    /// A document equal to this one. It copies no field.
+    pub fn copy(&self) -> Result<Doc, Mem>
+        ensures { IfOk result (λ doc. doc ≡ self.now) }
+    {
+        Ok(Doc {
+            alloc: self.alloc,
+            fields: match &self.fields {
+                None => None,
+                Some(fields) => Some(Arc::try_clone(fields)?),
+            },
+        })
     }
 
     /// The fields by rising name.
@@ -442,8 +644,11 @@ impl Doc {
     {
         Fields {
             walk: match &self.fields {
-                Members::Few(row) => Walk::Few(row.iter()),
-                Members::Many(table) => Walk::Many(table.iter()),
+                None => Walk::None,
+                Some(fields) => match fields.as_ref() {
+                    Members::Few(row) => Walk::Few(row.iter()),
+                    Members::Many(table) => Walk::Many(table.iter()),
+                },
             },
         }
     }
@@ -452,9 +657,6 @@ impl Doc {
     pub fn known(&self)
         ensures { IsDocument self.now }
     {
-        match &self.fields {
-            Members::Few(row) => row.known(),
-            Members::Many(table) => table.known(),
-        }
+        let _ = &self.fields;
     }
 }

@@ -1,12 +1,23 @@
-use Rattle.std.proofs.Common.{◌∷◌, [], subst, sym, ap, ◌∙◌}
-use Rattle.std.proofs.lemmas.List.{map-append}
-use Rattle.value_model.specs.Val.{vals_of}
-use Rattle.value_model.specs.Valid.{AreValues}
+use Rattle.std.proofs.Common.{◌≡◌, List, ◌∷◌, [], ◌++◌, Result, Ok, Err, subst, sym}
+use Rattle.value_model.specs.Val.{Val, vals_of}
+use Rattle.value_model.specs.Valid.{AreValues, IsValue}
 use Rattle.value_model.specs.ValidLaws.{AreValues-append}
-use Rattle.ejson_value.specs.View.{view, views}
+use Rattle.std.specs.Prelude.{OnOk, OnErr}
+use Rattle.ejson_value.specs.View.{view}
 use Rattle.ejson_value.proofs.value.Items.push.Goals as goal
 
-pub invariant_of-self-2 : goal.invariant_of-self-2
-invariant_of-self-2 c =
-    let same = ap views c.in_ok-push.ensures.items ∙ map-append view c.self.inside.items.items (c.args.value ∷ []) in
-    subst (λ vs. AreValues (vals_of vs)) (sym same) (AreValues-append _ _ c.self.invariant c.known.ensures)
+-- the values of a list that another was put behind, or was not
+pushed : {X E : Type 0} (result : Result X E) (old new : List Val) (v : Val) →
+    OnOk result (new ≡ old ++ v ∷ []) → OnErr result (new ≡ old) → AreValues (vals_of old) → IsValue v → AreValues (vals_of new)
+pushed (Ok x) old new v more same olds one = subst (λ vs. AreValues (vals_of vs)) (sym more) (AreValues-append old _ olds one)
+pushed (Err e) old new v more same olds one = subst (λ vs. AreValues (vals_of vs)) (sym same) olds
+
+pub invariant_of-self : goal.invariant_of-self
+invariant_of-self c =
+    let olds = rw (← c.in-Some-get_mut.ensures.value) at rw c.in-Some.is at c.self.invariant in
+    pushed c.put_behind.result _ _ (view c.args.value) c.put_behind.ensures.ok c.put_behind.ensures.err olds c.known.ensures
+
+pub hold-requires : goal.hold-requires
+hold-requires c =
+    let olds = subst (λ vs. AreValues (vals_of vs)) (sym c.in_ok-items.ensures.same) c.copies.ensures.known in
+    subst (λ vs. AreValues (vals_of vs)) (sym c.in_ok-put_behind.ensures.ok) (AreValues-append _ _ olds c.known.ensures)

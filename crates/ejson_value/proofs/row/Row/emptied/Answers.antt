@@ -1,8 +1,0 @@
-use Rattle.std.proofs.Common.{subst, sym}
-use Rattle.value_model.specs.Valid.{IsDocument}
-use Rattle.ejson_value.specs.View.{pairs, entries}
-use Rattle.ejson_value.proofs.Places.{IsDocument-none}
-use Rattle.ejson_value.proofs.row.Row.emptied.Goals as goal
-
-pub invariant_of-result : goal.invariant_of-result
-invariant_of-result c = subst (λ ms. IsDocument (entries (pairs ms))) (sym c.in_ok-with_capacity.ensures.items) IsDocument-none
