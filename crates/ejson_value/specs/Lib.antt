@@ -1,3 +1,4 @@
+pub mod Held
 pub mod View
 pub mod Falls
 pub mod Entries
