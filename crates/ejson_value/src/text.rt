@@ -19,7 +19,6 @@ use std::marker::Model;
 const MAX_SHORT: usize = 24;
 
 /// A text of UTF-8. A contract sees it as its bytes, and texts go byte by byte.
-#[derive(Drop)]
 pub struct Text {
     alloc: Global,
     inner: Held,
@@ -205,6 +204,13 @@ impl Text {
             alloc: self.alloc,
             inner: self.inner.copy()?,
         })
+    }
+}
+
+impl Drop for Text {
+    fn drop(self) {
+        let Text { alloc: _, inner } = self;
+        drop(inner);
     }
 }
 

