@@ -91,7 +91,7 @@ can_refuse k s = is_at_work s && is_blocked_by k s.carried.own.blocking
 abbrev pub tested : Bool → ASession → Result (Unit {0}) EventFault
 tested enabled s = if enabled then (if is_full s then Err fault.JournalFull else Ok tt) else Err fault.Idle
 
--- `Idle` comes where the event isn't enabled, `JournalFull` where it is and the journal is full, and want of memory only else
+-- `Idle` comes only where the event isn't enabled, `JournalFull` only where it is and the journal is full; memory may be wanting at any time
 abbrev pub IsCause : Bool → ASession → EventFault → Type 0
 IsCause enabled s fault.Idle = enabled ≡ false
 IsCause enabled s fault.JournalFull = (enabled ≡ true) × (is_full s ≡ true)
