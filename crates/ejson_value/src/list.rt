@@ -71,11 +71,23 @@ impl<T> ListOf<T> {
 }
 
 impl<T: Drop> ListOf<T> {
+    // Makes room for one more element, where there is none for twice as many.
+    fn make_room(&mut self) -> Result<(), Mem>
+        ensures { self.new ≡ self.old }
+    {
+        let len = self.items.len();
+        if len == self.items.capacity() {
+            self.items.reserve_exact(len.max(1))?;
+        }
+        Ok(())
+    }
+
     /// Puts the element behind the others.
     pub fn push(&mut self, item: T) -> Result<(), Mem>
         ensures ok { OnOk result (self.new ≡ self.old ++ item ∷ []) }
         ensures err { OnErr result (self.new ≡ self.old) }
     {
+        self.make_room()?;
         self.items.push(item)?;
         Ok(())
     }
@@ -86,11 +98,11 @@ impl<T: Copied> ListOf<T> {
     pub fn copy(&self) -> Result<ListOf<T>, Mem>
         ensures { IfOk result (λ c. c ≡ self.now) }
     {
-        let mut copies = ListOf::new(self.allocator());
+        let mut items = Vec::with_capacity(self.allocator(), self.len())?;
         for item in self.as_slice() {
-            copies.push(item.copied()?)?;
+            items.push(item.copied()?)?;
         }
-        Ok(copies)
+        Ok(ListOf { items })
     }
 }
 
