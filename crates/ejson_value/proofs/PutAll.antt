@@ -1,12 +1,16 @@
 -- Lemmas of changes put into contents.
-use Rattle.std.proofs.Common.{◌≡◌, ◌<◌, ℕ, suc, ◌+◌, Bool, true, false, cond, if◌then◌else◌, ◌&&◌, ◌||◌, List, [], ◌∷◌, Option, None, Some, IsSome, is_none, unwrap_or, length, drop, get_or, refl, ap, sym, subst, ◌∙◌, add-one}
+use Rattle.std.proofs.Common.{◌≡◌, ◌<◌, ℕ, suc, ◌+◌, Bool, true, false, cond, if◌then◌else◌, ◌&&◌, ◌||◌, List, [], ◌∷◌, map, length, drop, get_or}
+use Rattle.std.proofs.Common.{Option, None, Some, IsSome, is_none, unwrap_or, refl, ap, ap₂, sym, subst, ◌∙◌, add-one, arith}
+use Rattle.std.specs.List.{AllByRecursion, AllAdjacentBelow}
+use Rattle.std.proofs.lemmas.List.{get_or-map, length-map}
+use Rattle.std.proofs.lemmas.Map.Keys.{IsDistinct-from_sorted, IsDistinct-head, IsDistinct-tail, sorted_from_all_adjacent}
 use Rattle.std.specs.Option.{option_or}
-use Rattle.std.specs.Ordering.{eq_by_cmp}
+use Rattle.std.specs.Ordering.{eq_by_cmp, is_lt}
 use Rattle.std.proofs.lemmas.Cmp.{eq_by_cmp_equiv}
 use Rattle.std.proofs.Math.Seq.{drop-cons}
 use Rattle.std.specs.BTreeMap.{insert_entry}
 use Rattle.map_model.specs.Maps.{at, set, IsSorted}
-use Rattle.map_model.specs.MapLaws.{at-put, at-set, at-tail, sorted-put, sorted-set, same_maps, key_is}
+use Rattle.map_model.specs.MapLaws.{at-put, at-set, at-tail, sorted-put, sorted-set, same_maps, key_is, eq_by_cmp-self}
 use Rattle.map_model.specs.Changes.{last_at, changed}
 use Rattle.map_model.specs.ChangeLaws.{at-changed, sorted-changed}
 use Rattle.value_model.specs.Val.{Entries}
@@ -14,9 +18,10 @@ use Rattle.ejson_value.specs.declared.key.Key.{Key}
 use Rattle.ejson_value.specs.declared.change.Change.{Change}
 use Rattle.ejson_value.specs.Key.{key_cmp, key_total, key_order}
 use Rattle.value_model.specs.Valid.{IsDocument}
-use Rattle.ejson_value.specs.ChangeLaws.{AllFit}
+use Rattle.ejson_value.specs.ChangeLaws.{AllFit, HaveDistinctKeys}
 use Rattle.ejson_value.specs.Rows.{Rows, AreRows, AreDocuments-put}
 use Rattle.ejson_value.specs.Changes.{changes_of, has_new}
+use Rattle.ejson_value.proofs.Places.{lt_of}
 use Rattle.std.proofs.lemmas.List.Elements.{All-head, All-tail}
 
 -- contents that have a document in place of another are those with it put
@@ -200,6 +205,62 @@ places_hidden : (last : Option (Option Entries)) (new : Bool) (old : Option Entr
 places_hidden (Some w) new old none = refl
 places_hidden None new old none = ap (λ b. cond b (Some []) old) (none refl)
 
+-- no two of the changes that go by rising key are at one key
+pub rising_apart : (cs : List Change) → AllAdjacentBelow (λ (x y : Change). true ≡ is_lt (key_cmp x.key y.key)) cs (length cs) → HaveDistinctKeys cs
+rising_apart cs rise =
+    let none : Change = record { key = record { collection = []; id = [] }; before = None; after = None } in
+    let keys = map (λ (c : Change). c.key) cs in
+    IsDistinct-from_sorted key_cmp keys (sorted_from_all_adjacent key_total keys none.key (λ k l.
+    let within : k + 1 < length cs = subst (λ n. k + 1 < n) (length-map cs (λ (c : Change). c.key)) l in
+    ap₂ key_cmp (get_or-map (λ (c : Change). c.key) cs k none none.key (omega (arith, within))) (get_or-map (λ (c : Change). c.key) cs (k + 1) none none.key within)
+    ∙ lt_of _ (sym (rise k none within))))
+
+-- the first copy is of what the first change leaves
+pub first_copy : (c : Change) (cs : List Change) (copies left : List (Option Entries)) (after : Option Entries)
+    → copies ≡ map (λ (c : Change). c.after) (c ∷ cs) → copies ≡ after ∷ left → after ≡ c.after
+first_copy c cs copies left after are first = ap (λ (os : List (Option Entries)). get_or os 0 None) (sym first ∙ are)
+
+-- as long as a change is left, so is a copy
+pub no_copy : {P : Type 0} (c : Change) (cs : List Change) (copies left : List (Option Entries))
+    → copies ≡ map (λ (c : Change). c.after) (c ∷ cs) → left ≡ drop 1 copies → copies ≡ left → P
+no_copy c cs copies left are rest none =
+    let longer = ap (λ (os : List (Option Entries)). length os) (sym are ∙ (none ∙ (rest ∙ ap (drop 1) are))) in absurd (omega (arith, longer))
+
+-- nothing is said of a key at which no change is
+last_apart : (key : Key) (cs : List Change) → AllByRecursion (λ q. eq_by_cmp key_cmp key q ≡ false) (map (λ (c : Change). c.key) cs) → last_at key_cmp key (changes_of cs) ≡ None
+last_apart key [] apart = refl
+last_apart key (c ∷ cs) apart = ap₂ (λ last b. option_or last (cond b (Some c.after) None)) (last_apart key cs apart.1) apart.0
+
+place_stays : (e : Bool) (last : Option (Option Entries)) (after w old : Option Entries) → (e ≡ true → last ≡ None) → IsSome last
+    → (IsSome (option_or last (cond e (Some after) None)) → IsSome old) → IsSome (cond e w old)
+place_stays true None after w old alone some place = cc
+place_stays true (Some x) after w old alone some place = let none = alone refl in cc
+place_stays false None after w old alone some place = cc
+place_stays false (Some x) after w old alone some place = place refl
+
+-- one change made, of changes at distinct keys: the keys of the others have what they had
+pub places_left : (rows : Rows) (c : Change) (cs : List Change) (w : Option Entries) → IsSorted key_cmp rows → HaveDistinctKeys (c ∷ cs)
+    → ((k : Key) → IsSome (last_at key_cmp k (changes_of (c ∷ cs))) → IsSome (at key_cmp rows k))
+    → (k : Key) → IsSome (last_at key_cmp k (changes_of cs)) → IsSome (at key_cmp (set key_cmp rows c.key w) k)
+places_left rows c cs w s apart places k some =
+    subst IsSome (sym (at-set key_order rows c.key w k s))
+    (place_stays (eq_by_cmp key_cmp k c.key) (last_at key_cmp k (changes_of cs)) c.after w (at key_cmp rows k)
+    (λ e. ap (λ (q : Key). last_at key_cmp q (changes_of cs)) (key_is key_order k c.key e)
+    ∙ last_apart c.key cs (IsDistinct-head (eq_by_cmp key_cmp) c.key (map (λ (c : Change). c.key) cs) apart))
+    some (places k))
+
+pub apart_left : (c : Change) (cs : List Change) → HaveDistinctKeys (c ∷ cs) → HaveDistinctKeys cs
+apart_left c cs apart = IsDistinct-tail (eq_by_cmp key_cmp) c.key (map (λ (c : Change). c.key) cs) apart
+
+some_last : (last : Option (Option Entries)) (after : Option Entries) (e : Bool) → e ≡ true → IsSome (option_or last (cond e (Some after) None))
+some_last None after true e = refl
+some_last (Some w) after true e = refl
+some_last last after false e = cc
+
+-- the first change's key has a place
+pub first_place : (rows : Rows) (c : Change) (cs : List Change) → ((k : Key) → IsSome (last_at key_cmp k (changes_of (c ∷ cs))) → IsSome (at key_cmp rows k)) → IsSome (at key_cmp rows c.key)
+first_place rows c cs places = places c.key (some_last (last_at key_cmp c.key (changes_of cs)) c.after (eq_by_cmp key_cmp c.key c.key) (eq_by_cmp-self key_order c.key))
+
 -- what the plan makes of the contents with their places is what the changes make of those before
 pub all_put : (cs : List Change) (plan : List (Key × Option Entries)) (rows placed after : Rows) → IsSorted key_cmp rows → IsSorted key_cmp after
     → ((k : Key) → at key_cmp plan k ≡ last_at key_cmp k (changes_of cs))
@@ -212,3 +273,14 @@ all_put cs plan rows placed after s t planned places done =
     ∙ (ap (unwrap_or (last_at key_cmp k (changes_of cs))) (places k)
     ∙ (places_hidden (last_at key_cmp k (changes_of cs)) (has_new k cs) (at key_cmp rows k) (none_new cs k)
     ∙ sym (at-changed key_order rows (changes_of cs) k s)))))
+
+-- what the changes make of the contents with their places is what they make of those before
+pub all_made : (cs : List Change) (rows placed : Rows) → IsSorted key_cmp rows → IsSorted key_cmp placed
+    → ((k : Key) → at key_cmp placed k ≡ (if has_new k cs then Some [] else at key_cmp rows k)) → changed key_cmp placed (changes_of cs) ≡ changed key_cmp rows (changes_of cs)
+all_made cs rows placed s t places =
+    same_maps key_order (changed key_cmp placed (changes_of cs)) (changed key_cmp rows (changes_of cs))
+    (sorted-changed key_order placed (changes_of cs) t) (sorted-changed key_order rows (changes_of cs) s) (λ k.
+    at-changed key_order placed (changes_of cs) k t
+    ∙ (ap (unwrap_or (last_at key_cmp k (changes_of cs))) (places k)
+    ∙ (places_hidden (last_at key_cmp k (changes_of cs)) (has_new k cs) (at key_cmp rows k) (none_new cs k)
+    ∙ sym (at-changed key_order rows (changes_of cs) k s))))

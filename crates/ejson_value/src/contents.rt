@@ -146,8 +146,9 @@ impl Contents {
     }
 
     // Puts a copy of the document at this key.
-    fn put_copy(&mut self, key: &Key, doc: &Doc) -> Result<(), Mem>
-        ensures { OnOk result (self.new ≡ set key_cmp self.old key.now (Some doc.now)) }
+    pub(crate) fn put_copy(&mut self, key: &Key, doc: &Doc) -> Result<(), Mem>
+        ensures ok { OnOk result (self.new ≡ set key_cmp self.old key.now (Some doc.now)) }
+        ensures err { OnErr result (self.new ≡ self.old) }
     {
         let key = key.copy()?;
         self.put(key, doc.copy()?)
