@@ -140,7 +140,7 @@ fn field_changed(
     ensures { Gives (λ doc. doc) result (field_changed (λ there. changed_at (edit_view operator.now) rest.now there) fields part.now) }
 {
     fields.known();
-    let there = fields.remove(part.name());
+    let there = fields.remove(part.name())?;
     let left = changed_at(alloc, operator, rest, there)?;
     Ok(with_left(fields, part, left)?)
 }
@@ -176,9 +176,9 @@ fn changed_at_place(
     ensures { Gives (λ vs. vs) result (made (λ left. with_element items place left) (changed_at (edit_view operator.now) rest.now (slice_get items place))) }
 {
     if place < items.len() {
-        let there = items.replace(place, Value::Null);
+        let there = items.replace(place, Value::Null)?;
         let left = changed_at(alloc, operator, rest, Some(there))?;
-        drop(items.replace(place, left.unwrap_or(Value::Null)));
+        drop(items.replace(place, left.unwrap_or(Value::Null))?);
         Ok(items)
     } else {
         let left = changed_at(alloc, operator, rest, None)?;
@@ -257,7 +257,7 @@ fn replaced(alloc: Global, fields: &Doc, id: &Text) -> Result<Doc, ApplyFault>
                 return Err(ApplyFault::IdChange);
             }
             let mut kept = fields.copy()?;
-            drop(kept.remove(&name));
+            drop(kept.remove(&name)?);
             Ok(kept)
         }
     }

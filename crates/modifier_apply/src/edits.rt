@@ -72,23 +72,23 @@ fn without_passing(alloc: Global, items: &Items, test: &Test) -> Result<Items, M
     Ok(kept)
 }
 
-fn without_last(mut items: Items) -> Items
-    ensures { result ≡ take (length items - 1) items }
+fn without_last(mut items: Items) -> Result<Items, Mem>
+    ensures { IfOk result (λ vs. vs ≡ take (length items - 1) items) }
 {
     let length = items.len();
     if 0 < length {
-        drop(items.remove(length - 1));
+        drop(items.remove(length - 1)?);
     }
-    items
+    Ok(items)
 }
 
-fn without_first(mut items: Items) -> Items
-    ensures { result ≡ drop 1 items }
+fn without_first(mut items: Items) -> Result<Items, Mem>
+    ensures { IfOk result (λ vs. vs ≡ drop 1 items) }
 {
     if !items.is_empty() {
-        drop(items.remove(0));
+        drop(items.remove(0)?);
     }
-    items
+    Ok(items)
 }
 
 fn least(operand: &Value, value: Value) -> Result<Value, Mem>
@@ -130,8 +130,8 @@ fn list_edited(alloc: Global, operator: &Operator, items: Items) -> Result<Items
         Operator::AddToSet(operands) => with_missing(alloc, items, operands),
         Operator::PullEqual(operand) => without_equal(alloc, &items, operand),
         Operator::PullPassing(test) => without_passing(alloc, &items, test),
-        Operator::PopLast => Ok(without_last(items)),
-        Operator::PopFirst => Ok(without_first(items)),
+        Operator::PopLast => without_last(items),
+        Operator::PopFirst => without_first(items),
         Operator::Set(_)
         | Operator::Unset
         | Operator::Increment(_)

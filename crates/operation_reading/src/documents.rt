@@ -21,7 +21,7 @@ fn without(fields: &Doc, name: &Text) -> Result<Doc, Mem>
     ensures { IfOk result (λ doc. doc ≡ remove fields.now name.now) }
 {
     let mut doc = fields.copy()?;
-    doc.remove(name);
+    doc.remove(name)?;
     Ok(doc)
 }
 

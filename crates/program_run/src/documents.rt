@@ -76,7 +76,7 @@ fn without_id(alloc: Global, fields: &Doc) -> Result<Doc, Mem>
 {
     let name = Text::from_str(alloc, "_id")?;
     let mut doc = fields.copy()?;
-    doc.remove(&name);
+    doc.remove(&name)?;
     Ok(doc)
 }
 

@@ -9,14 +9,15 @@ use crate::fault::ServeFault;
 use ejson_value::{DataMsg, Doc, Mem, Text, copy};
 
 // Takes the named fields out of the document.
-fn clear(doc: &mut Doc, names: &[Text])
-    ensures { doc.new ≡ without text_cmp doc.old names.now }
+fn clear(doc: &mut Doc, names: &[Text]) -> Result<(), Mem>
+    ensures { OnOk result (doc.new ≡ without text_cmp doc.old names.now) }
 {
     let mut left = names.len();
     while left > 0 {
         left -= 1;
-        drop(doc.remove(&names[left]));
+        drop(doc.remove(&names[left])?);
     }
+    Ok(())
 }
 
 // Puts the fields into the document.
@@ -35,7 +36,7 @@ fn changed(doc: &Doc, fields: &Doc, cleared: &[Text]) -> Result<Doc, Mem>
     ensures { IfOk result (λ d. d ≡ with_fields text_cmp (without text_cmp doc.now cleared.now) fields.now) }
 {
     let mut doc = doc.copy()?;
-    clear(&mut doc, cleared);
+    clear(&mut doc, cleared)?;
     put_fields(&mut doc, fields)?;
     Ok(doc)
 }

@@ -144,11 +144,19 @@ fn put_first(alloc: Global, contents: &mut Contents) -> Result<(), Mem> {
     contents.put_all(&changes)
 }
 
+// By falling key, and two of them at one.
 fn put_second(alloc: Global, contents: &mut Contents) -> Result<(), Mem> {
     let mut changes = Changes::new(alloc);
     push_change(alloc, contents, &mut changes, "c", Some(task(alloc, 3)?))?;
     push_change(alloc, contents, &mut changes, "b", None)?;
+    push_change(alloc, contents, &mut changes, "a", None)?;
     push_change(alloc, contents, &mut changes, "a", Some(task(alloc, 4)?))?;
+    contents.put_all(&changes)
+}
+
+fn put_third(alloc: Global, contents: &mut Contents) -> Result<(), Mem> {
+    let mut changes = Changes::new(alloc);
+    push_change(alloc, contents, &mut changes, "c", None)?;
     contents.put_all(&changes)
 }
 
@@ -157,11 +165,9 @@ fn changes_are_put(alloc: Global) -> Result<bool, Mem> {
     put_first(alloc, &mut contents)?;
     let put = contents.len() == 2 && has_task(alloc, &contents, "b", 2)?;
     put_second(alloc, &mut contents)?;
-    Ok(
-        put && contents.len() == 2
-            && has_task(alloc, &contents, "a", 4)?
-            && has_task(alloc, &contents, "c", 3)?,
-    )
+    let put = put && contents.len() == 2 && has_task(alloc, &contents, "c", 3)?;
+    put_third(alloc, &mut contents)?;
+    Ok(put && contents.len() == 1 && has_task(alloc, &contents, "a", 4)?)
 }
 
 fn one_change(alloc: Global) -> Result<Changes, Mem> {

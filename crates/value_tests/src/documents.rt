@@ -14,7 +14,7 @@ fn put_number(alloc: Global, fields: &mut Doc, number: i64, value: i64) -> Resul
 }
 
 fn takes(alloc: Global, fields: &mut Doc, number: i64) -> Result<bool, Mem> {
-    let taken = fields.remove(&numbered(alloc, number)?);
+    let taken = fields.remove(&numbered(alloc, number)?)?;
     Ok(taken.is_some_and(|value| is_int(&value, number)))
 }
 

@@ -65,18 +65,26 @@ fn numbers(alloc: Global) -> Result<Items, Mem> {
     Ok(items)
 }
 
-fn is_edited(items: &mut Items) -> bool {
+fn is_edited(items: &mut Items) -> Result<bool, Mem> {
     if items.is_empty() || items.len() != 2 || items.get(2).is_some() {
-        return false;
+        return Ok(false);
     }
-    let second = items.replace(1, int(3));
-    let first = items.remove(0);
-    is_int(&first, 1) && is_int(&second, 2) && items.get(0).is_some_and(|v| is_int(v, 3))
+    let second = items.replace(1, int(3))?;
+    let first = items.remove(0)?;
+    let right = is_int(&first, 1) && is_int(&second, 2);
+    Ok(right && items.get(0).is_some_and(|v| is_int(v, 3)))
 }
 
 fn lists_are_edited(alloc: Global) -> Result<bool, Mem> {
     let mut items = numbers(alloc)?;
-    Ok(is_edited(&mut items))
+    is_edited(&mut items)
+}
+
+// Whether a copy stays as it was when the list that it was made of is edited.
+fn list_copies_stay(alloc: Global) -> Result<bool, Mem> {
+    let mut items = numbers(alloc)?;
+    let copied = items.copy()?;
+    Ok(is_edited(&mut items)? && copied.len() == 2 && copied.get(1).is_some_and(|v| is_int(v, 2)))
 }
 
 fn fields(alloc: Global) -> Result<Doc, Mem> {
@@ -95,18 +103,20 @@ fn names_of(fields: &Doc, alloc: Global) -> Result<Text, Mem> {
     Ok(names)
 }
 
-fn loses_field(fields: &mut Doc, name: &Text) -> bool {
-    let taken = fields.remove(name);
-    taken.is_some_and(|v| is_int(&v, 4))
-        && fields.get(name).is_none()
-        && fields.remove(name).is_none()
+fn loses_field(fields: &mut Doc, name: &Text) -> Result<bool, Mem> {
+    let taken = fields.remove(name)?;
+    Ok(
+        taken.is_some_and(|v| is_int(&v, 4))
+            && fields.get(name).is_none()
+            && fields.remove(name)?.is_none(),
+    )
 }
 
 fn documents_are_edited(alloc: Global) -> Result<bool, Mem> {
     let name = text(alloc, "m")?;
     let mut fields = fields(alloc)?;
     let copied = fields.copy()?;
-    Ok(loses_field(&mut fields, &name) && copied.get(&name).is_some_and(|v| is_int(v, 4)))
+    Ok(loses_field(&mut fields, &name)? && copied.get(&name).is_some_and(|v| is_int(v, 4)))
 }
 
 fn documents_are_sorted(alloc: Global) -> Result<bool, Mem> {
@@ -155,6 +165,7 @@ fn edits_are_right(alloc: Global) -> Result<bool, Mem> {
             && texts_are_copied(alloc)?
             && bytes_are_edited(alloc)?
             && lists_are_edited(alloc)?
+            && list_copies_stay(alloc)?
             && documents_are_edited(alloc)?
             && documents_are_sorted(alloc)?,
     )
