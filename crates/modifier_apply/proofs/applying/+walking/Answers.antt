@@ -12,17 +12,17 @@ use Rattle.modifier_apply.specs.Modified.{with_field, field_changed, element_cha
 use Rattle.modifier_apply.proofs.Walks.{left_put, view_or, element_put, element_behind, passed_on, object_changed, list_changed}
 use Rattle.modifier_apply.proofs.applying.+walking.Goals as goal
 
-pub changed_at_place-returns-in_ok-left : goal.changed_at_place-returns-in_ok-left
-changed_at_place-returns-in_ok-left t c =
+pub changed_at_place-returns-in_ok-replace : goal.changed_at_place-returns-in_ok-replace
+changed_at_place-returns-in_ok-replace t c =
     let e = edit_view c.args.operator.now in
     let rest = c.args.rest.now in
     let items = c.args.items in
     let place = c.args.place in
     let left = c.in_ok-left.left in
     let within : place < length items = omega (arith, c.len.ensures, c.if-place-len.true) in
-    element_put items place (changed_at e rest (slice_get items place)) (option_map view left) within (ap (λ o. changed_at e rest o) (sym c.replace-there.ensures.value) ∙ c.in_ok-left.ensures)
-    ∙ ap (λ vs. Ok vs) (sym (c.replace.ensures.replaced
-    ∙ (ap (λ vs. slice_set vs place (view c.unwrap_or.result)) c.replace-there.ensures.replaced
+    element_put items place (changed_at e rest (slice_get items place)) (option_map view left) within (ap (λ o. changed_at e rest o) (sym c.in_ok-there.ensures.value) ∙ c.in_ok-left.ensures)
+    ∙ ap (λ vs. Ok vs) (sym (c.in_ok-replace.ensures.replaced
+    ∙ (ap (λ vs. slice_set vs place (view c.unwrap_or.result)) c.in_ok-there.ensures.replaced
     ∙ ap (λ v. slice_set (slice_set items place null) place v) (ap view c.unwrap_or.ensures ∙ view_or left))))
 
 pub changed_at_place-returns-in_ok-put_behind : goal.changed_at_place-returns-in_ok-put_behind
@@ -65,5 +65,5 @@ field_changed-returns t c =
     let rest = c.args.rest.now in
     let fields = c.args.fields in
     let part = c.args.part.now in
-    ap (λ o. made (λ left. with_field fields part left) o) (ap (λ o. changed_at e rest o) (ap (λ n. get fields n) (sym c.name.ensures) ∙ sym c.remove-there.ensures.value) ∙ c.in_ok-left.ensures)
-    ∙ ap (λ es. Ok es) (left_put fields c.remove-there.new.self c.in_ok-with_left.field-0 c.name.result.now part c.in_ok-left.left c.known.ensures.names c.remove-there.ensures.removed c.name.ensures c.in_ok-with_left.ensures)
+    ap (λ o. made (λ left. with_field fields part left) o) (ap (λ o. changed_at e rest o) (ap (λ n. get fields n) (sym c.name.ensures) ∙ sym c.in_ok-there.ensures.value) ∙ c.in_ok-left.ensures)
+    ∙ ap (λ es. Ok es) (left_put fields c.remove.new.self c.in_ok-with_left.field-0 c.name.result.now part c.in_ok-left.left c.known.ensures.names c.in_ok-there.ensures.removed c.name.ensures c.in_ok-with_left.ensures)

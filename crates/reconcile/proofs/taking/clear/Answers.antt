@@ -6,5 +6,5 @@ pub loop-left-preserved : goal.loop-left-preserved
 loop-left-preserved c = (
   omega (arith, c.loop-left.invariant.0),
   clear_step c.args.doc.now c.args.names.now c.loop-left.left c.index-names-left.result c.loop-left.doc c.remove.new.self c.loop-left-test.true c.loop-left.invariant.0 c.index-names-left.is
-      c.loop-left.invariant.1 c.remove.ensures.removed,
+      c.loop-left.invariant.1 c.in_ok-remove.ensures.removed,
 )
