@@ -30,6 +30,35 @@ fn texts_are_copied(alloc: Global) -> Result<bool, Mem> {
     Ok(copied == text && before < text && copied.as_str() == "éb")
 }
 
+// Letters of 30 bytes, the 24th and 25th of them one letter.
+const LETTERS: &str = "abcdefghijklmnopqrstuvwéxyz.!";
+
+fn is_like(alloc: Global, text: &Text, wanted: &str) -> Result<bool, Mem> {
+    let made = Text::from_string(String::from_str(alloc, wanted)?);
+    Ok(text.as_str() == wanted && made.copy()? == *text)
+}
+
+fn texts_grow(alloc: Global) -> Result<bool, Mem> {
+    let mut text = Text::new(alloc);
+    let mut wanted = String::new(alloc);
+    for letter in LETTERS.chars() {
+        text.push(letter)?;
+        wanted.push(letter)?;
+        if !is_like(alloc, &text, wanted.as_str())? {
+            return Ok(false);
+        }
+    }
+    Ok(true)
+}
+
+fn texts_are_joined(alloc: Global) -> Result<bool, Mem> {
+    let mut text = Text::from_str(alloc, "abcdefghijklmnopqrstu")?;
+    text.push_str("vw")?;
+    text.push_str("éx")?;
+    text.push_str("yz.!")?;
+    is_like(alloc, &text, LETTERS)
+}
+
 fn bytes_are_edited(alloc: Global) -> Result<bool, Mem> {
     let mut data = Bytes::from_vec(Vec::from_slice(alloc, b"\x07")?);
     data.push(8)?;
@@ -163,6 +192,8 @@ fn edits_are_right(alloc: Global) -> Result<bool, Mem> {
     Ok(
         texts_are_edited(alloc)?
             && texts_are_copied(alloc)?
+            && texts_grow(alloc)?
+            && texts_are_joined(alloc)?
             && bytes_are_edited(alloc)?
             && lists_are_edited(alloc)?
             && list_copies_stay(alloc)?
