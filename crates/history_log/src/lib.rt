@@ -4,10 +4,12 @@
 mod batch;
 mod changes;
 mod kept;
+mod kept_entry;
 mod lines;
 mod log;
 
 pub use batch::Batch;
 pub use history_model::entry::Entry;
 pub use kept::{call_bytes, new_bytes};
+pub use kept_entry::KeptEntry;
 pub use log::{Log, Logged};

@@ -2,6 +2,7 @@
 ghost use Rattle.std.specs.Prelude.{◌≡◌, ◌++◌, ◌∷◌, [], map, codes, IfOk, OnOk};
 ghost use Rattle.value_model.specs.Val.{text, list, vals_of};
 ghost use Rattle.ejson_value.specs.View.{view};
+ghost use Rattle.history_model.specs.declared.entry.Entry.TheVariants.{Step};
 ghost use Rattle.history_log.specs.Log.{entries_in};
 ghost use Rattle.history_log.specs.Lines.{worded, number, session_text, doc_value, entry_value, line_of};
 
@@ -128,7 +129,8 @@ fn admin_words(alloc: Global, op: &Items) -> Result<Items, Mem>
     Ok(items)
 }
 
-fn entry_words(alloc: Global, entry: &Entry) -> Result<Items, Mem>
+/// What the line of an entry lists.
+pub(crate) fn entry_words(alloc: Global, entry: &Entry) -> Result<Items, Mem>
     ensures { IfOk result (λ items. list (vals_of items) ≡ entry_value entry.now) }
 {
     match entry {
@@ -144,10 +146,18 @@ fn entry_words(alloc: Global, entry: &Entry) -> Result<Items, Mem>
     }
 }
 
-fn push_entry(alloc: Global, lines: &mut Lines, entry: &Entry) -> Result<(), Mem>
-    ensures { OnOk result (lines.new ≡ lines.old ++ line_of (entry_value entry.now) ∷ []) }
+/// The line of an entry.
+pub(crate) fn entry_line(alloc: Global, entry: &Entry) -> Result<Text, Mem>
+    ensures { IfOk result (λ line. line ≡ line_of (entry_value entry.now)) }
 {
-    push_line(alloc, lines, entry_words(alloc, entry)?)
+    list_text(alloc, entry_words(alloc, entry)?)
+}
+
+/// The line of a step.
+pub(crate) fn step_line(alloc: Global, session: u32, k: u64) -> Result<Text, Mem>
+    ensures { IfOk result (λ line. line ≡ line_of (entry_value (Step session k))) }
+{
+    list_text(alloc, call_words(alloc, "step", session, k)?)
 }
 
 /// A line for each entry.
@@ -155,7 +165,7 @@ pub(crate) fn push_entries(alloc: Global, lines: &mut Lines, logged: &[Logged]) 
     ensures { OnOk result (lines.new ≡ lines.old ++ map line_of (map entry_value (entries_in logged.now))) }
 {
     for one in logged {
-        push_entry(alloc, lines, &one.entry)?;
+        lines.push(one.entry.line(alloc)?)?;
     }
     Ok(())
 }

@@ -5,6 +5,7 @@ ghost use Rattle.history_log.specs.Lines.{store_lines, history_lines};
 
 use crate::batch::Batch;
 use crate::changes::{joined, made};
+use crate::kept_entry::KeptEntry;
 use crate::lines::{first_line, push_docs, push_entries};
 use ejson_codec::Lines;
 use ejson_value::{Changes, Contents, Mem};
@@ -15,7 +16,7 @@ use std::marker::Model;
 /// An entry, with the changes that it made.
 #[derive(Drop)]
 pub struct Logged {
-    pub entry: Entry,
+    pub entry: KeptEntry,
     pub changes: Changes,
 }
 
@@ -66,6 +67,7 @@ impl Log {
         ensures ok { OnOk result (self.new ≡ self.old ++ record { entry = entry; changes = [] } ∷ []) }
         ensures err { OnErr result (self.new ≡ self.old) }
     {
+        let entry = KeptEntry::of(self.allocator(), entry)?;
         let changes = Changes::new(self.allocator());
         self.logged.push(Logged { entry, changes })?;
         Ok(())

@@ -7,7 +7,8 @@ use Rattle.ejson_value.specs.declared.value.Value.{Value}
 use Rattle.ejson_value.specs.declared.value.Value.TheVariants as shape
 use Rattle.ejson_value.specs.View.{view}
 
-abbrev value_of : Val → Value
+-- the value that is seen so
+abbrev pub value_of : Val → Value
 value_of null = shape.Null
 value_of (boolean b) = shape.Bool b
 value_of (int z) = shape.Int z
@@ -18,7 +19,7 @@ value_of (list vs) = shape.List (list_of vs)
 value_of (object fs) = shape.Object (entries_of fs)
 value_of (user name v) = shape.User name v
 
-value_back : (v : Value) → value_of (view v) ≡ v
+pub value_back : (v : Value) → value_of (view v) ≡ v
 value_back shape.Null = refl
 value_back (shape.Bool b) = refl
 value_back (shape.Int z) = refl

@@ -116,6 +116,13 @@ step 6 => ended 13 failed 403 No rule allows
 begin 7 /tasks/update ["t3",{"$set":{"n":3}}] "S1-7" => begun
 step 7 => ended 15 done 1"#;
 
+    // A line has 32 levels where it can be read back, its own list counted.
+    const FLAT: &str = r#"begin 9007199254740991 e [[[[[[[[[[[[[[[[[[[[[[[[[[[[[[[]]]]]]]]]]]]]]]]]]]]]]]]]]]]]]] {"n":[1,true]} => ended 1 done
+history => ["history",1] | ["begin","S1",9007199254740991,"e",[[[[[[[[[[[[[[[[[[[[[[[[[[[[[[[]]]]]]]]]]]]]]]]]]]]]]]]]]]]]]],{"n":[1,true]}]"#;
+
+    const DEEP: &str = r#"begin 0 e [[[[[[[[[[[[[[[[[[[[[[[[[[[[[[[[]]]]]]]]]]]]]]]]]]]]]]]]]]]]]]]] null => ended 1 done
+history => ["history",1] | ["begin","S1",0,"e",[[[[[[[[[[[[[[[[[[[[[[[[[[[[[[[[]]]]]]]]]]]]]]]]]]]]]]]]]]]]]]]],null]"#;
+
     fn value(alloc: Global, text: &str) -> Result<Value, Fail> {
         Ok(parse(alloc, &Text::from_str(alloc, text)?)?)
     }
@@ -406,7 +413,7 @@ step 7 => ended 15 done 1"#;
 
     #[test]
     fn scripts(rt: HostRuntime) -> Result<(), Fail> {
-        for script in [RUNS, FAILURES, PAIRS, OPERATIONS, REFUSALS] {
+        for script in [RUNS, FAILURES, PAIRS, OPERATIONS, REFUSALS, FLAT, DEEP] {
             let wrong = wrong_in(rt.alloc(), APP, script)?;
             assert!(rt; wrong.is_empty(), "{}", wrong.as_str());
         }

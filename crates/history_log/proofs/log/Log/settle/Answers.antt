@@ -1,4 +1,4 @@
-use Rattle.std.proofs.Common.{◌≡◌, ◌+◌, ◌-◌, ◌<◌, length, vec_len, ap, sym, ◌∙◌, arith}
+use Rattle.std.proofs.Common.{◌≡◌, ◌+◌, ◌-◌, ◌<◌, length, vec_len, ap, ◌∙◌, arith}
 use Rattle.history_log.specs.contracts.log.Log.{the_view}
 use Rattle.history_log.specs.Log.{settled}
 use Rattle.history_log.proofs.Turns.{settled-set, settled-none}

@@ -1,0 +1,144 @@
+//! An entry as a log keeps it.
+ghost use Rattle.std.specs.Prelude.{◌≡◌, IfOk, IfSome};
+ghost use Rattle.value_model.specs.Val.{list, vals_of};
+ghost use Rattle.ejson_value.specs.View.{view};
+ghost use Rattle.history_log.specs.Entries.{Says, Keeps};
+ghost use Rattle.history_log.specs.Lines.{entry_value, line_of};
+
+use crate::lines::{entry_line, entry_words, step_line};
+use ejson_codec::text;
+use ejson_value::{Items, Mem, Text, Value, depth};
+use history_model::entry::Entry;
+use std::alloc::Global;
+use std::marker::Model;
+
+/// How many lists, objects and values of user types may stand in one another in a text that is read.
+const MAX_LEVELS: u64 = 32;
+
+/// The greatest of EJSON's numbers.
+const MAX_NUMBER: u64 = 9_007_199_254_740_991;
+
+/// An entry of a history. It is kept as the line that is printed of it, where it can be read back from
+/// the line. A contract sees it as the entry.
+#[derive(Drop)]
+pub struct KeptEntry {
+    form: Form,
+}
+
+#[derive(Drop)]
+enum Form {
+    Step { session: u32, k: u64 },
+    Begin { session: u32, line: Text },
+    Admin { line: Text },
+    // What can't be read back from its line.
+    Whole(Box<Entry>),
+}
+
+impl Model for KeptEntry {
+    ghost use Rattle.std.specs.Coded.{codes};
+    ghost use Rattle.value_model.specs.Coding.{val_code};
+    ghost use Rattle.history_model.specs.declared.entry.Entry.{Entry};
+
+    ghost Value = { Entry };
+
+    ghost coded = { Prim.hlevel (codes, val_code) };
+
+    ghost use Rattle.history_log.specs.Entries.{entry_of, HasLine};
+
+    ghost view = { λ e. entry_of e.form };
+
+    ghost invariant = { λ e. HasLine e.form };
+}
+
+// Whether the entry may be kept as its line. A step is smaller than its line.
+fn may_have_line(entry: &Entry) -> bool {
+    match entry {
+        Entry::Begin { k, .. } => *k <= MAX_NUMBER,
+        Entry::Step { .. } => false,
+        Entry::Admin { .. } => true,
+    }
+}
+
+// The value's text, None where the value is too deep to be read back from it.
+fn text_told(alloc: Global, value: &Value) -> Result<Option<Text>, Mem>
+    ensures { IfOk result (λ told. IfSome told (λ text. Says text (view value.now))) }
+{
+    if depth(value) > MAX_LEVELS {
+        return Ok(None);
+    }
+    let text = text(alloc, value)?;
+    // A copy has no more memory than it needs.
+    Ok(Some(text.copy()?))
+}
+
+fn list_told(alloc: Global, items: Items) -> Result<Option<Text>, Mem>
+    ensures { IfOk result (λ told. IfSome told (λ text. Says text (list (vals_of items)))) }
+{
+    let value = Value::List(items);
+    let told = text_told(alloc, &value);
+    drop(value);
+    told
+}
+
+// The entry's line, None where the entry isn't kept as its line.
+fn line_told(alloc: Global, entry: &Entry) -> Result<Option<Text>, Mem>
+    ensures { IfOk result (λ told. IfSome told (λ line. Says line (entry_value entry.now))) }
+{
+    if may_have_line(entry) {
+        list_told(alloc, entry_words(alloc, entry)?)
+    } else {
+        Ok(None)
+    }
+}
+
+fn with_line(entry: Entry, line: Text) -> Form
+    requires { Says line (entry_value entry) }
+    ensures { Keeps result entry }
+{
+    match entry {
+        Entry::Begin { session, .. } => Form::Begin { session, line },
+        Entry::Step { session, k } => Form::Step { session, k },
+        Entry::Admin { .. } => Form::Admin { line },
+    }
+}
+
+fn without_line(alloc: Global, entry: Entry) -> Result<Form, Mem>
+    ensures { IfOk result (λ form. Keeps form entry) }
+{
+    match entry {
+        Entry::Step { session, k } => Ok(Form::Step { session, k }),
+        entry => Ok(Form::Whole(Box::new(alloc, entry)?)),
+    }
+}
+
+fn form_of(alloc: Global, entry: Entry) -> Result<Form, Mem>
+    ensures { IfOk result (λ form. Keeps form entry) }
+{
+    match line_told(alloc, &entry)? {
+        Some(line) => Ok(with_line(entry, line)),
+        None => without_line(alloc, entry),
+    }
+}
+
+impl KeptEntry {
+    /// Keeps the entry.
+    pub(crate) fn of(alloc: Global, entry: Entry) -> Result<KeptEntry, Mem>
+        ensures { IfOk result (λ kept. kept ≡ entry) }
+    {
+        Ok(KeptEntry {
+            form: form_of(alloc, entry)?,
+        })
+    }
+
+    /// The line that is printed of the entry.
+    pub(crate) fn line(&self, alloc: Global) -> Result<Text, Mem>
+        ensures { IfOk result (λ line. line ≡ line_of (entry_value self.now)) }
+    {
+        match &self.form {
+            Form::Step { session, k } => step_line(alloc, *session, *k),
+            Form::Begin { line, .. } => line.copy(),
+            Form::Admin { line } => line.copy(),
+            Form::Whole(entry) => entry_line(alloc, entry.as_ref()),
+        }
+    }
+}
