@@ -51,15 +51,15 @@ held_alone sub doc sorted = record {
 pub whole_is : (sub : ℕ) (doc : Option Entries) (old new : KeptDoc) → IsHeld old → IsHeld new → IsKeptAfter sub doc old new → IsChange sub doc old (Whole new)
 whole_is sub doc old new was held after = record { was = was; form = tt; after = record { publishers = after.publishers; claims = after.claims }; held = held }
 
-pub has-alone_if : (sub : ℕ) (doc : Option Entries) (s : ℕ) → has s (alone_if sub doc).publishers ≡ cond (s == sub) (is_some doc) false
+has-alone_if : (sub : ℕ) (doc : Option Entries) (s : ℕ) → has s (alone_if sub doc).publishers ≡ cond (s == sub) (is_some doc) false
 has-alone_if sub None s = elim (s == sub) as (λ b. false ≡ cond b false false) [ true ↦ refl | false ↦ refl ]
 has-alone_if sub (Some doc) s = elim (s == sub) as (λ b. (b || false) ≡ cond b true false) [ true ↦ refl | false ↦ refl ]
 
-pub claims-alone_if : (sub : ℕ) (doc : Option Entries) (f : List ℕ) → claims_of text_cmp (alone_if sub doc) f ≡ placed sub (value_in doc f) []
+claims-alone_if : (sub : ℕ) (doc : Option Entries) (f : List ℕ) → claims_of text_cmp (alone_if sub doc) f ≡ placed sub (value_in doc f) []
 claims-alone_if sub None f = refl
 claims-alone_if sub (Some doc) f = claims-alone sub doc f
 
-pub placed_again : (sub : ℕ) (x y : Option Val) → placed sub x (placed sub y []) ≡ placed sub x []
+placed_again : (sub : ℕ) (x y : Option Val) → placed sub x (placed sub y []) ≡ placed sub x []
 placed_again sub None None = refl
 placed_again sub None (Some v) = ap (λ b. cond (not b) ((sub, v) ∷ []) []) (sub-self sub)
 placed_again sub (Some w) None = refl
@@ -74,9 +74,18 @@ alone_is sub before doc was held = whole_is sub doc (alone_if sub before) (alone
 })
 
 -- ---- what becomes of a document that another publishes alone
-pub no_claim_of : (sub first : ℕ) (x : Option Val) → (sub == first) ≡ false → placed first x [] ≡ placed sub None (placed first x [])
+no_claim_of : (sub first : ℕ) (x : Option Val) → (sub == first) ≡ false → placed first x [] ≡ placed sub None (placed first x [])
 no_claim_of sub first None e = refl
 no_claim_of sub first (Some v) e = sym (ap (λ b. cond (not b) ((first, v) ∷ []) []) e)
+
+pub untouched : (sub first : ℕ) (doc : Entries) → (sub == first) ≡ false → IsHeld (alone first doc) → IsChange sub None (alone first doc) (Whole (alone first doc))
+untouched sub first doc other held = whole_is sub None (alone first doc) (alone first doc) held held (record {
+  publishers = λ s. elim (s == sub) as (λ b. (s == sub) ≡ b → has s (first ∷ []) ≡ cond b false (has s (first ∷ []))) [
+    | true ↦ λ t. ap (λ b. b || false) (ap (λ r. r == first) (same_sub s sub t) ∙ other)
+    | false ↦ λ _. refl
+  ] refl;
+  claims = λ f. claims-alone first doc f ∙ no_claim_of sub first (at text_cmp doc f) other ∙ ap (placed sub None) (sym (claims-alone first doc f));
+})
 
 pub two_is : (first : ℕ) (doc : Entries) (second : ℕ) (added : Entries) (made : KeptDoc) → made.publishers ≡ first ∷ second ∷ []
     → ((f : List ℕ) → claims_of text_cmp made f ≡ placed second (at text_cmp added f) (placed first (at text_cmp doc f) [])) → IsKeptAfter second (Some added) (alone first doc) made

@@ -51,7 +51,7 @@ pub has_after : (sub s : ℕ) (b : Bool) (old new : List ℕ) → new ≡ filter
 has_after sub s b old new is = ap (has s) is ∙ has-append s (filter (λ p. not (p == sub)) old) (cond b (sub ∷ []) []) ∙ ap (λ x. x || has s (cond b (sub ∷ []) [])) (has-others sub s old) ∙ joined s sub b (has s old)
 
 -- one entry more behind others
-pub at-above : {K X : Type 0} (R : K → K → Ordering) (es : List (K × X)) (k : K) → IsAbove R k (keys_of es) → at R es k ≡ None
+at-above : {K X : Type 0} (R : K → K → Ordering) (es : List (K × X)) (k : K) → IsAbove R k (keys_of es) → at R es k ≡ None
 at-above R [] k h = refl
 at-above R (e ∷ es) k h = ap (λ r. cond (is_eq r) (Some e.1) (at R es k)) h.0 ∙ at-above R es k h.1
 
@@ -97,7 +97,7 @@ changed_is sub w claims = elim (keeps sub w claims) as (λ b. keeps sub w claims
   | false ↦ λ _. refl
 ] refl
 
-pub or_unwrap : {X : Type 0} (x y : Option X) (d : X) → unwrap_or (option_or x y) d ≡ unwrap_or x (unwrap_or y d)
+or_unwrap : {X : Type 0} (x y : Option X) (d : X) → unwrap_or (option_or x y) d ≡ unwrap_or x (unwrap_or y d)
 or_unwrap None y d = refl
 or_unwrap (Some v) y d = refl
 

@@ -4,7 +4,5 @@ pub mod KeptAfter
 pub mod Once
 pub mod Places
 pub mod Puts
-pub mod Rows
-pub mod Edited
 pub mod Telling
 pub mod Walks

@@ -8,8 +8,8 @@ use Rattle.merge_model.specs.Kept.{claimed, has, is_empty, nothing_kept, first_v
 use Rattle.merge_model.specs.KeptLaws.{at-merged_fields}
 use Rattle.ejson_value.specs.Key.{name_order, key_order}
 use Rattle.kept_document.specs.declared.held.Change.{Change}
-use Rattle.kept_document.specs.declared.held.Change.TheVariants.{Whole, Part, Edit}
-use Rattle.kept_document.specs.Held.{KeptDoc, is_alone, is_shared, AreOnce, IsHeld, SameDoc, IsDocGrown}
+use Rattle.kept_document.specs.declared.held.Change.TheVariants.{Whole, Part}
+use Rattle.kept_document.specs.Held.{KeptDoc, is_shared, AreOnce, IsHeld, SameDoc, IsDocGrown}
 use Rattle.kept_document.specs.Changes.{with_change, IsChange, IsFor, HasPlaces}
 use Rattle.kept_document.proofs.KeptAfter.{claims-with_part}
 use Rattle.kept_document.proofs.Telling.{no_claims}
@@ -27,10 +27,6 @@ same_change a b (Part e) same = record {
   publishers = refl;
   claims = λ f. claims-with_part b e f ∙ ap (unwrap_or (at text_cmp e.fields f)) (same.claims f) ∙ sym (claims-with_part a e f);
 }
-same_change a b (Edit e) same = record {
-  publishers = refl;
-  claims = λ f. claims-with_part b e f ∙ ap (unwrap_or (at text_cmp e.fields f)) (same.claims f) ∙ sym (claims-with_part a e f);
-}
 
 pub held_same : (a b : KeptDoc) → SameDoc a b → IsSorted text_cmp b.fields → IsHeld a → IsHeld b
 held_same a b same sorted held = record {
@@ -43,7 +39,6 @@ held_same a b same sorted held = record {
 pub change_held : (a b : KeptDoc) (change : Change) → SameDoc a b → IsSorted text_cmp b.fields → IsHeld (with_change a change) → IsHeld (with_change b change)
 change_held a b (Whole e) same sorted held = held
 change_held a b (Part e) same sorted held = held_same (with_change a (Part e)) (with_change b (Part e)) (same_change a b (Part e) same) (sorted-union name_order e.fields b.fields sorted) held
-change_held a b (Edit e) same sorted held = held_same (with_change a (Edit e)) (with_change b (Edit e)) (same_change a b (Edit e) same) (sorted-union name_order e.fields b.fields sorted) held
 
 pub grown_itself : (e : KeptDoc) → IsDocGrown e e
 grown_itself e = record { same = same_itself e; names = λ f h. h; held = λ h. h }
@@ -54,12 +49,10 @@ grown_on a b c p q = record { same = same_on a b c p.same q.same; names = λ f h
 pub form_on : (a b : KeptDoc) (change : Change) → SameDoc a b → IsFor a change → IsFor b change
 form_on a b (Whole e) same is = tt
 form_on a b (Part e) same is = ap is_shared same.publishers ∙ is
-form_on a b (Edit e) same is = (ap is_alone same.publishers ∙ is.0, is.1 ∙ sym same.publishers)
 
 pub places_on : (a b : KeptDoc) (change : Change) → IsDocGrown a b → HasPlaces a change → HasPlaces b change
 places_on a b (Whole e) grown has = tt
 places_on a b (Part e) grown has = record { shared = ap is_shared grown.same.publishers ∙ has.shared; names = λ f h. grown.names f (has.names f h) }
-places_on a b (Edit e) grown has = record { alone = ap is_alone grown.same.publishers ∙ has.alone; same = has.same ∙ sym grown.same.publishers; names = λ f h. grown.names f (has.names f h) }
 
 -- a change of a document is one of the document with more places
 pub change_grown : (sub : ℕ) (doc : Option Entries) (a b : KeptDoc) (change : Change) → IsDocGrown a b → IsChange sub doc a change → IsChange sub doc b change

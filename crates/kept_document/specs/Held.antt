@@ -10,7 +10,7 @@ use Rattle.std.specs.Ordering.{is_eq}
 use Rattle.map_model.specs.Maps.{at, IsSorted, filter_map_entries}
 use Rattle.value_model.specs.Val.{Val, Entries}
 use Rattle.value_model.specs.Order.{text_cmp, compare}
-use Rattle.merge_model.specs.Kept.{Kept, nothing_kept, is_empty, claimed, placed, has, there_after, claims_of, claims_after}
+use Rattle.merge_model.specs.Kept.{Kept, nothing_kept, claimed, placed, has, there_after, claims_of, claims_after}
 use Rattle.kept_document.specs.Claims.{claims_code}
 
 -- what is kept of a document
@@ -65,11 +65,6 @@ changed_field sub (Some claims) value = changed_claims sub value claims
 abbrev pub is_shared : List ℕ → Bool
 is_shared [] = false
 is_shared (s ∷ others) = list_any (λ r. not (r == s)) others
-
--- one subscription alone publishes the document
-abbrev pub is_alone : List ℕ → Bool
-is_alone [] = false
-is_alone (s ∷ others) = is_empty others
 
 -- the publisher, if there is one alone
 abbrev pub sole : List ℕ → Option ℕ

@@ -3,4 +3,3 @@ pub mod Held
 pub mod Forms
 pub mod Changes
 pub mod Sides
-pub mod Row

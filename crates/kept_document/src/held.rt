@@ -1,42 +1,38 @@
 //! What is kept of one document, and what changes of it.
-ghost use Rattle.std.specs.Prelude.{◌≡◌, ◌==◌, true, false, not, OnOk, IfOk, option_copied, None, Some, if◌then◌else◌};
+ghost use Rattle.std.specs.Prelude.{◌≡◌, ◌==◌, true, false, not, OnOk, IfOk, IfSome, option_copied, None, Some, if◌then◌else◌};
 ghost use Rattle.std.specs.List.{list_any};
 ghost use Rattle.merge_model.specs.Kept.{has, is_empty, nothing_kept, merged_fields};
-ghost use Rattle.kept_document.specs.declared.held.Change.TheVariants.{Whole, Part, Edit};
-ghost use Rattle.kept_document.specs.Held.{is_alone, is_shared, sole, alone_if, left_to, IsHeld, SameDoc, IsDocGrown};
+ghost use Rattle.kept_document.specs.declared.held.Change.TheVariants.{Whole};
+ghost use Rattle.kept_document.specs.Held.{is_shared, sole, alone, alone_if, left_to, IsHeld, SameDoc, IsDocGrown};
 ghost use Rattle.kept_document.specs.Changes.{held_in, with_change, IsChange, HasPlaces, IsFor};
 
-use crate::plain::Plain;
 use crate::shared::Shared;
 use ejson_value::{Doc, Mem};
 use std::alloc::Global;
 use std::marker::Model;
 
-// Who publishes a document: nobody; one subscription, with all that it publishes; or several.
+// Who publishes a document: nobody; one subscription, with the document that it publishes; or several.
 #[derive(Drop)]
 enum Form {
     Nobody,
-    One(Plain),
+    One { sub: u64, doc: Doc },
     Several(Shared),
 }
 
-/// What is kept of a document. That of one publisher alone is kept plain; the claims on each field
-/// are kept while there are two or more. A contract sees the claims either way, as `Kept`.
+/// What is kept of a document. That of one publisher alone is kept plain, as one whole document; the
+/// claims on each field are kept while there are two or more. A contract sees the claims either way,
+/// as `Kept`.
 pub struct Held {
     form: Form,
 }
 
-/// What changes of a document: all that is kept of it; while two or more subscriptions publish it
-/// before and afterwards, the claims on some of its fields; while one alone does, some of its fields.
+/// What changes of a document: all that is kept of it, or, while two or more subscriptions publish
+/// it before and afterwards, the claims on some of its fields.
 #[derive(Drop)]
 pub enum Change {
     Whole(Held),
     Part(Shared),
-    Edit(Plain),
 }
-
-// The most fields of an edit: with more of them it is cheaper to copy the document than to move its fields for each.
-const MAX_EDIT: usize = 256;
 
 impl Model for Held {
     ghost use Rattle.std.specs.Prelude.{ℕ, List};
@@ -94,8 +90,7 @@ fn left_to(alloc: Global, shared: &Shared, publisher: u64) -> Result<Held, Mem>
     ensures { IfOk result (λ held. held ≡ left_to publisher shared.now) }
 {
     let doc = shared.fields_by(alloc, publisher)?;
-    let plain = Plain::of(alloc, publisher, &doc)?;
-    Ok(Held::one(plain))
+    Ok(Held::one(publisher, doc))
 }
 
 // What changes of a document that several subscriptions publish, once `sub` publishes this, or none.
@@ -115,52 +110,19 @@ fn change_of_shared(
     }
 }
 
-// What is kept of a document that one subscription alone publishes, once another publishes this too.
-fn both(alloc: Global, plain: &Plain, sub: u64, added: &Doc) -> Result<Held, Mem>
-    requires { has sub plain.now.publishers ≡ false }
-    ensures { IfOk result (λ held. IsChange sub (Some added.now) plain.now (Whole held)) }
+// What is kept of a document that `first` alone publishes, once another publishes this, or none.
+fn beside(alloc: Global, first: u64, doc: &Doc, sub: u64, added: Option<&Doc>) -> Result<Held, Mem>
+    requires { (sub == first) ≡ false }
+    ensures { IfOk result (λ held. IsChange sub (option_copied added.entry) (alone first doc.now) (Whole held)) }
 {
-    plain.known();
-    let shared = plain.beside(alloc, sub, added)?;
-    shared.known();
-    Ok(Held::several(shared))
-}
-
-// What changes of a document that one subscription alone publishes, once another publishes this, or none.
-fn change_beside(alloc: Global, plain: &Plain, sub: u64, added: Option<&Doc>) -> Result<Change, Mem>
-    requires { has sub plain.now.publishers ≡ false }
-    ensures { IfOk result (λ change. IsChange sub (option_copied added.entry) plain.now change) }
-{
-    match added {
-        None => Ok(Change::Edit(plain.unchanged(alloc))),
-        Some(added) => Ok(Change::Whole(both(alloc, plain, sub, added)?)),
-    }
-}
-
-// What changes of a document that the subscription alone publishes, once it publishes this.
-fn edited(alloc: Global, plain: &Plain, sub: u64, doc: &Doc) -> Result<Change, Mem>
-    requires { has sub plain.now.publishers ≡ true }
-    ensures { IfOk result (λ change. IsChange sub (Some doc.now) plain.now change) }
-{
-    plain.known();
-    let edit = plain.edit(alloc, doc)?;
-    if edit.len() <= MAX_EDIT {
-        return Ok(Change::Edit(edit));
-    }
     doc.known();
-    let plain = Plain::of(alloc, sub, doc)?;
-    Ok(Change::Whole(Held::one(plain)))
-}
-
-// The same, where it may publish no document any more.
-fn change_of_plain(alloc: Global, plain: &Plain, sub: u64, doc: Option<&Doc>) -> Result<Change, Mem>
-    requires { has sub plain.now.publishers ≡ true }
-    ensures { IfOk result (λ change. IsChange sub (option_copied doc.entry) plain.now change) }
-{
-    plain.known();
-    match doc {
-        None => Ok(Change::Whole(Held::new())),
-        Some(doc) => edited(alloc, plain, sub, doc),
+    match added {
+        None => Ok(Held::one(first, doc.copy()?)),
+        Some(added) => {
+            let shared = Shared::of_two(alloc, first, doc, sub, added)?;
+            shared.known();
+            Ok(Held::several(shared))
+        }
     }
 }
 
@@ -171,13 +133,13 @@ impl Held {
         Held { form: Form::Nobody }
     }
 
-    // A document that one subscription alone publishes.
-    fn one(plain: Plain) -> Held
-        ensures { result ≡ plain }
+    // A document that the subscription alone publishes.
+    fn one(sub: u64, doc: Doc) -> Held
+        ensures { result ≡ alone sub doc }
     {
-        plain.known();
+        doc.known();
         Held {
-            form: Form::One(plain),
+            form: Form::One { sub, doc },
         }
     }
 
@@ -192,12 +154,12 @@ impl Held {
     }
 
     // What the subscription alone publishes, which may be no document.
-    fn of(alloc: Global, sub: u64, doc: Option<&Doc>) -> Result<Held, Mem>
+    fn of(sub: u64, doc: Option<&Doc>) -> Result<Held, Mem>
         ensures { IfOk result (λ held. held ≡ alone_if sub (option_copied doc.entry)) }
     {
         match doc {
             None => Ok(Held::new()),
-            Some(doc) => Ok(Held::one(Plain::of(alloc, sub, doc)?)),
+            Some(doc) => Ok(Held::one(sub, doc.copy()?)),
         }
     }
 
@@ -214,7 +176,7 @@ impl Held {
     {
         match &self.form {
             Form::Nobody => false,
-            Form::One(plain) => plain.publishes(sub),
+            Form::One { sub: publisher, .. } => sub == *publisher,
             Form::Several(shared) => shared.publishes(sub),
         }
     }
@@ -224,10 +186,7 @@ impl Held {
     {
         match &self.form {
             Form::Nobody => false,
-            Form::One(plain) => {
-                plain.known();
-                true
-            }
+            Form::One { .. } => true,
             Form::Several(shared) => {
                 shared.known();
                 true
@@ -240,11 +199,7 @@ impl Held {
         ensures { option_copied result ≡ (if is_shared self.now.publishers then Some self.now else None) }
     {
         match &self.form {
-            Form::Nobody => None,
-            Form::One(plain) => {
-                plain.known();
-                None
-            }
+            Form::Nobody | Form::One { .. } => None,
             Form::Several(shared) => {
                 shared.known();
                 Some(shared)
@@ -260,19 +215,12 @@ impl Held {
     }
 
     /// What one subscription alone publishes.
-    pub(crate) fn plain(&self) -> Option<&Plain>
-        ensures { option_copied result ≡ (if is_alone self.now.publishers then Some self.now else None) }
+    pub(crate) fn plain(&self) -> Option<&Doc>
+        ensures { IfSome result (λ doc. doc.now ≡ merged_fields self.now.fields) }
     {
         match &self.form {
-            Form::Nobody => None,
-            Form::One(plain) => {
-                plain.known();
-                Some(plain)
-            }
-            Form::Several(shared) => {
-                shared.known();
-                None
-            }
+            Form::Nobody | Form::Several(_) => None,
+            Form::One { doc, .. } => Some(doc),
         }
     }
 
@@ -282,15 +230,20 @@ impl Held {
     {
         match &self.form {
             Form::Nobody => {
-                let held = Held::of(alloc, sub, doc)?;
+                let held = Held::of(sub, doc)?;
                 held.known();
                 Ok(Change::Whole(held))
             }
-            Form::One(plain) => {
-                if plain.publishes(sub) {
-                    change_of_plain(alloc, plain, sub, doc)
+            Form::One {
+                sub: first,
+                doc: old,
+            } => {
+                if sub == *first {
+                    let held = Held::of(sub, doc)?;
+                    held.known();
+                    Ok(Change::Whole(held))
                 } else {
-                    change_beside(alloc, plain, sub, doc)
+                    Ok(Change::Whole(beside(alloc, *first, old, sub, doc)?))
                 }
             }
             Form::Several(shared) => change_of_shared(alloc, shared, sub, doc),
@@ -304,57 +257,8 @@ impl Held {
         ensures room { OnOk result (HasPlaces self.new change.now) }
     {
         match (&mut self.form, change) {
-            (Form::Several(shared), Change::Part(part)) => {
-                shared.known();
-                shared.make_places(alloc, part)
-            }
-            (Form::One(plain), Change::Edit(edit)) => {
-                plain.known();
-                plain.make_places(edit)
-            }
-            (Form::One(plain), Change::Part(_)) => {
-                plain.known();
-                Ok(())
-            }
-            (Form::Several(shared), Change::Edit(_)) => {
-                shared.known();
-                Ok(())
-            }
+            (Form::Several(shared), Change::Part(part)) => shared.make_places(alloc, part),
             _ => Ok(()),
-        }
-    }
-
-    // Takes over a change in part.
-    fn take_part(&mut self, part: Shared)
-        requires places { HasPlaces self.old (Part part) }
-        requires held { IsHeld (with_change self.old (Part part)) }
-        ensures same { SameDoc (with_change self.old (Part part)) self.new }
-        ensures held { IsHeld self.new }
-    {
-        match &mut self.form {
-            Form::Nobody => {}
-            Form::One(plain) => plain.known(),
-            Form::Several(shared) => {
-                shared.take(part);
-                shared.known();
-            }
-        }
-    }
-
-    // Takes over an edit.
-    fn take_edit(&mut self, edit: Plain)
-        requires places { HasPlaces self.old (Edit edit) }
-        requires held { IsHeld (with_change self.old (Edit edit)) }
-        ensures same { SameDoc (with_change self.old (Edit edit)) self.new }
-        ensures held { IsHeld self.new }
-    {
-        match &mut self.form {
-            Form::Nobody => {}
-            Form::One(plain) => {
-                plain.take(edit);
-                plain.known();
-            }
-            Form::Several(shared) => shared.known(),
         }
     }
 
@@ -367,8 +271,12 @@ impl Held {
     {
         match change {
             Change::Whole(held) => *self = held,
-            Change::Part(part) => self.take_part(part),
-            Change::Edit(edit) => self.take_edit(edit),
+            Change::Part(part) => {
+                if let Form::Several(shared) = &mut self.form {
+                    shared.take(part);
+                    shared.known();
+                }
+            }
         }
     }
 
@@ -378,7 +286,7 @@ impl Held {
     {
         match &self.form {
             Form::Nobody => Ok(Doc::new(alloc)),
-            Form::One(plain) => plain.merged(alloc),
+            Form::One { doc, .. } => doc.copy(),
             Form::Several(shared) => shared.merged(alloc),
         }
     }
@@ -392,7 +300,6 @@ impl Change {
         match self {
             Change::Whole(held) => held.publishes(sub),
             Change::Part(part) => part.publishes(sub),
-            Change::Edit(edit) => edit.publishes(sub),
         }
     }
 
@@ -404,10 +311,6 @@ impl Change {
             Change::Whole(held) => held.is_published(),
             Change::Part(part) => {
                 part.known();
-                true
-            }
-            Change::Edit(edit) => {
-                edit.known();
                 true
             }
         }
@@ -422,10 +325,6 @@ impl Change {
             Change::Part(part) => {
                 part.known();
                 true
-            }
-            Change::Edit(edit) => {
-                edit.known();
-                false
             }
         }
     }

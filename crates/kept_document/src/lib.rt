@@ -4,13 +4,10 @@
 
 mod claims;
 mod differences;
-mod edits;
 mod fields;
 mod held;
 mod messages;
 mod pairs;
-mod plain;
-mod row;
 mod shared;
 mod sides;
 

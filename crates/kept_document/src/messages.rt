@@ -4,13 +4,12 @@ ghost use Rattle.map_model.specs.Differences.{between, changed_unless_same, new_
 ghost use Rattle.merge_model.specs.Kept.{merged_doc, merged_fields};
 ghost use Rattle.value_model.specs.Order.{text_cmp};
 ghost use Rattle.ejson_value.specs.Messages.{said};
-ghost use Rattle.kept_document.specs.declared.held.Change.TheVariants.{Part, Edit};
+ghost use Rattle.kept_document.specs.declared.held.Change.TheVariants.{Part};
 ghost use Rattle.kept_document.specs.Held.{same_value};
 ghost use Rattle.kept_document.specs.Changes.{IsFor, with_change};
 
 use crate::differences::difference;
 use crate::held::{Change, Held};
-use crate::plain::Plain;
 use crate::shared::Shared;
 use ejson_value::{DataMsg, Doc, Key, Mem, Names};
 use std::alloc::Global;
@@ -48,9 +47,14 @@ fn changed_whole(alloc: Global, key: &Key, old: &Held, new: &Held) -> Result<Opt
         (new_fields text_cmp same_value (merged_fields old.now.fields) (merged_fields new.now.fields))
         (cleared text_cmp same_value (merged_fields old.now.fields) (merged_fields new.now.fields)))) }
 {
-    let before = old.merged(alloc)?;
-    let after = new.merged(alloc)?;
-    changed(alloc, key, &before, &after)
+    match (old.plain(), new.plain()) {
+        (Some(before), Some(after)) => changed(alloc, key, before, after),
+        _ => {
+            let before = old.merged(alloc)?;
+            let after = new.merged(alloc)?;
+            changed(alloc, key, &before, &after)
+        }
+    }
 }
 
 // The message about a document after all that is kept of it has changed.
@@ -107,27 +111,15 @@ fn told_part(alloc: Global, key: &Key, old: &Shared, part: &Shared) -> Result<Op
     unless_same(key, fields, names)
 }
 
-// The message about a document after some of the fields that one subscription alone publishes have changed.
-fn told_edit(alloc: Global, key: &Key, old: &Plain, edit: &Plain) -> Result<Option<DataMsg>, Mem>
-    requires { edit.now.publishers ≡ old.now.publishers }
-    ensures { IfOk result (λ message. option_map said message ≡ option_map (λ step. (key.now, step))
-        (between text_cmp same_value (merged_doc old.now) (merged_doc (with_change old.now (Edit edit.now))))) }
-{
-    old.known();
-    let (fields, names) = edit.told(alloc, old)?;
-    unless_same(key, fields, names)
-}
-
 /// The message about a document after a change, if the client sees it otherwise then.
 pub fn told(alloc: Global, key: &Key, old: &Held, change: &Change) -> Result<Option<DataMsg>, Mem>
     requires { IsFor old.now change.now }
     ensures { IfOk result (λ message. option_map said message ≡ option_map (λ step. (key.now, step))
         (between text_cmp same_value (merged_doc old.now) (merged_doc (with_change old.now change.now)))) }
 {
-    match (change, old.shared(), old.plain()) {
-        (Change::Whole(new), _, _) => told_whole(alloc, key, old, new),
-        (Change::Part(part), Some(old), _) => told_part(alloc, key, old, part),
-        (Change::Edit(edit), _, Some(old)) => told_edit(alloc, key, old, edit),
-        _ => Ok(None),
+    match (change, old.shared()) {
+        (Change::Whole(new), _) => told_whole(alloc, key, old, new),
+        (Change::Part(part), Some(old)) => told_part(alloc, key, old, part),
+        (Change::Part(_), None) => Ok(None),
     }
 }

@@ -1,5 +1,5 @@
 //! The fields that are kept of a document beside those of a new one.
-ghost use Rattle.std.specs.Prelude.{◌≡◌, option_map, option_copied};
+ghost use Rattle.std.specs.Prelude.{◌≡◌, ◌++◌, option_map, option_copied};
 ghost use Rattle.map_model.specs.Maps.{IsSorted};
 ghost use Rattle.value_model.specs.Order.{text_cmp};
 ghost use Rattle.ejson_value.specs.View.{view};
