@@ -171,7 +171,7 @@ impl Held {
     }
 
     /// Whether the subscription publishes the document.
-    pub(crate) fn publishes(&self, sub: u64) -> bool
+    pub fn publishes(&self, sub: u64) -> bool
         ensures { result ≡ has sub self.now.publishers }
     {
         match &self.form {
