@@ -15,3 +15,4 @@ pub mod Limits
 pub mod Built
 pub mod TextLaws
 pub mod RisingLaws
+pub mod ExactLaws

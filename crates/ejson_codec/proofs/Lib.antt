@@ -6,3 +6,4 @@ pub mod Found
 pub mod Fields
 pub mod WritingTurns
 pub mod TextLaws
+mod WriterTurns

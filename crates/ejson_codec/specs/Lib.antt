@@ -11,3 +11,7 @@ pub mod Trees
 pub mod TreeLaws
 pub mod SizeLaws
 pub mod ValueLaws
+pub mod Exact
+pub mod CompactLaws
+pub mod ExactLaws
+pub mod Tokens

@@ -6,14 +6,18 @@ mod fault;
 mod laws;
 mod reading;
 mod shape;
+mod text_writer;
 mod texts;
+mod token_writing;
 mod writing;
 
 use ejson_value::{ListOf, Text};
 pub use fault::{EjsonFault, ParseFault, ReadFault};
 pub use laws::{one_tree, size_of_text};
 pub use reading::read;
+pub use text_writer::TextWriter;
 pub use texts::{parse, text};
+pub use token_writing::{put_document, put_items, put_value};
 pub use writing::{put_member, write, write_document};
 
 /// Texts, one for each line.

@@ -13,7 +13,8 @@ ghost use Rattle.ejson_codec.specs.Written.{written};
 
 use crate::fault::ParseFault;
 use crate::reading::read;
-use crate::writing::write;
+use crate::text_writer::TextWriter;
+use crate::token_writing::put_value;
 use ejson_value::{Mem, Text, Value};
 use serde_json::Value as Json;
 use std::alloc::Global;
@@ -38,6 +39,7 @@ pub fn text(alloc: Global, value: &Value) -> Result<Text, Mem>
     ensures reads_back { IfOk result (λ text. depth (view value.now) ≤ max_levels → parsed text ≡ Ok (view value.now)) }
 {
     value.known();
-    let tree = write(alloc, value)?;
-    Ok(Text::from_string(tree.to_string(alloc)?))
+    let mut out = TextWriter::new(alloc)?;
+    put_value(alloc, &mut out, value)?;
+    Ok(out.finish())
 }

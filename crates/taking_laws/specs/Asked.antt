@@ -19,9 +19,9 @@ use Rattle.ddp_messages.specs.ClientLaws.{client_ok}
 use Rattle.ddp_messages.specs.RisingLaws.{client_rising}
 use Rattle.ddp_messages.specs.TextLaws.{client_depth}
 use Rattle.ddp_messages.specs.Written.{client_written}
-use Rattle.text_model.specs.Exact.{HasExactNumbers}
-use Rattle.text_model.specs.TextLaws.{read-compact_text}
-use Rattle.text_model.specs.WrittenTextLaws.{exact_items}
+use Rattle.ejson_codec.specs.Exact.{HasExactNumbers}
+use Rattle.ejson_codec.specs.CompactLaws.{read-compact_text}
+use Rattle.ejson_codec.specs.ExactLaws.{exact_items}
 use Rattle.text_model.specs.MessageLaws.{client_text_back}
 use Rattle.client_model.specs.Client.{client_text}
 use Rattle.app_model.specs.App.{App, method}

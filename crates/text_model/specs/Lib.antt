@@ -1,5 +1,2 @@
-pub mod Exact
-pub mod TextLaws
-pub mod WrittenTextLaws
 pub mod ReadTreeLaws
 pub mod MessageLaws

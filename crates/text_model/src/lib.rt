@@ -15,7 +15,7 @@ ghost use Rattle.ddp_messages.specs.ServerMessage.{ServerMessage};
 ghost use Rattle.ddp_messages.specs.Answers.{client_answer, server_answer};
 ghost use Rattle.ddp_messages.specs.Written.{client_written, server_written};
 ghost use Rattle.ddp_messages.specs.Limits.{ClientKeepsLimits, ClientHasValues, ServerKeepsLimits, ServerHasValues};
-ghost use Rattle.text_model.specs.Exact.{HasExactNumbers};
+ghost use Rattle.ejson_codec.specs.Exact.{HasExactNumbers};
 
 /// The compact text of a tree without floats reads as the tree.
 pub fn compact_texts_read_back()

@@ -1,4 +1,4 @@
-use Rattle.text_model.specs.TextLaws.{read-compact_text}
+use Rattle.ejson_codec.specs.CompactLaws.{read-compact_text}
 use Rattle.text_model.proofs.compact_texts_read_back.Goals as goal
 
 pub returns : goal.returns

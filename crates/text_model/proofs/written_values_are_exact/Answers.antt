@@ -1,4 +1,4 @@
-use Rattle.text_model.specs.WrittenTextLaws.{exact-written}
+use Rattle.ejson_codec.specs.ExactLaws.{exact-written}
 use Rattle.text_model.proofs.written_values_are_exact.Goals as goal
 
 pub returns : goal.returns

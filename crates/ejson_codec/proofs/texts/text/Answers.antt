@@ -1,25 +1,36 @@
-use Rattle.std.proofs.Common.{length, ◌≡◌, false, sym, ap, ◌∙◌}
+use Rattle.std.proofs.Common.{◌++◌, length, refl, sym, ap, ◌∙◌}
+use Rattle.json.specs.Print.{print}
 use Rattle.serde_json.specs.Read as json_text
-use Rattle.serde_json.specs.Written.{has_float, compact_text}
+use Rattle.serde_json.proofs.Texts.{print-outline}
 use Rattle.ejson_value.specs.View.{view}
-use Rattle.serde_json.specs.View.{view as json_view}
+use Rattle.ejson_codec.specs.CompactLaws.{read-compact_text}
+use Rattle.ejson_codec.specs.ExactLaws.{exact-written}
 use Rattle.ejson_codec.specs.SizeLaws.{size-written}
-use Rattle.ejson_codec.specs.TreeLaws.{rising_written, has_float-written}
+use Rattle.ejson_codec.specs.Tokens.{tree_tokens}
+use Rattle.ejson_codec.specs.TreeLaws.{rising_written}
+use Rattle.ejson_codec.specs.Written.{written}
 use Rattle.ejson_codec.proofs.TextLaws.{parsed_back}
 use Rattle.ejson_codec.proofs.texts.text.Goals as goal
 
-pub returns-in_err-tree-clause-keys : goal.returns-in_err-tree-clause-keys
-returns-in_err-tree-clause-keys c = rising_written (view c.args.value.now) c.known.ensures
+pub returns-in_err-out-clause-keys : goal.returns-in_err-out-clause-keys
+returns-in_err-out-clause-keys c = rising_written (view c.args.value.now) c.known.ensures
+
+pub returns-in_err-put_value-clause-keys : goal.returns-in_err-put_value-clause-keys
+returns-in_err-put_value-clause-keys c = rising_written (view c.args.value.now) c.known.ensures
+
+pub returns-clause-keys : goal.returns-clause-keys
+returns-clause-keys c = rising_written (view c.args.value.now) c.known.ensures
 
 pub returns-clause-exact : goal.returns-clause-exact
 returns-clause-exact c =
-    let v = view c.args.value.now in
-    let is = c.in_ok-tree.ensures.tree in
-    let plain : has_float (json_view c.in_ok-tree.tree) ≡ false = ap has_float is ∙ has_float-written v in
-    c.from_string.ensures ∙ c.in_ok-to_string.ensures.text plain ∙ ap compact_text is
+    let d = written (view c.args.value.now) in
+    c.finish.ensures ∙ ap print (c.in_ok-put_value.ensures ∙ ap (λ old. old ++ tree_tokens d) c.in_ok-out.ensures) ∙ print-outline d
 
 pub returns-clause-size : goal.returns-clause-size
 returns-clause-size c = ap length (returns-clause-exact c) ∙ sym (size-written (view c.args.value.now) c.known.ensures)
 
 pub returns-clause-reads_back : goal.returns-clause-reads_back
-returns-clause-reads_back c = parsed_back (view c.args.value.now) (json_view c.in_ok-tree.tree) c.from_string.result c.in_ok-tree.ensures.tree c.known.ensures (λ shallow. ap json_text.read c.from_string.ensures ∙ c.in_ok-to_string.ensures.reads_back shallow)
+returns-clause-reads_back c =
+    let v = view c.args.value.now in
+    let read = read-compact_text (written v) (exact-written v c.known.ensures) (rising_written v c.known.ensures) in
+    parsed_back v (written v) c.finish.result refl c.known.ensures (λ shallow. ap json_text.read (returns-clause-exact c) ∙ read shallow)

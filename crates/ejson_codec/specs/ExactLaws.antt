@@ -9,7 +9,7 @@ use Rattle.value_model.specs.Val.{Val, null, boolean, int, text, date, bytes, li
 use Rattle.value_model.specs.Size.{names_of, is_special}
 use Rattle.value_model.specs.Valid.{max_whole, IsWhole, IsValue, AreValues, HaveValues}
 use Rattle.ejson_codec.specs.Written.{written, items_written, members_written, escaped_if}
-use Rattle.text_model.specs.Exact.{IsExactNumber, HasExactNumbers, ItemsHaveExactNumbers, MembersHaveExactNumbers}
+use Rattle.ejson_codec.specs.Exact.{IsExactNumber, HasExactNumbers, ItemsHaveExactNumbers, MembersHaveExactNumbers}
 
 is_true : (b : Bool) → T b → b ≡ true
 is_true true h = refl

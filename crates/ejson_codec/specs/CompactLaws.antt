@@ -21,7 +21,7 @@ use Rattle.serde_json.proofs.Texts.{print-outline}
 use Rattle.value_model.specs.Order.{text_cmp}
 use Rattle.ejson_codec.specs.Shape.{keys_of_members}
 use Rattle.ejson_codec.specs.Trees.{HasRisingKeys, ItemsHaveRisingKeys, MembersHaveRisingKeys}
-use Rattle.text_model.specs.Exact.{IsExactNumber, HasExactNumbers, ItemsHaveExactNumbers, MembersHaveExactNumbers}
+use Rattle.ejson_codec.specs.Exact.{IsExactNumber, HasExactNumbers, ItemsHaveExactNumbers, MembersHaveExactNumbers}
 
 number_reads : (n : Num) → IsExactNumber n → number_of (number_text n) ≡ Some n
 number_reads (unsigned n) h = number_of-decimal n h
