@@ -1,4 +1,5 @@
 pub mod Counting
+pub mod InOrder
 pub mod Listing
 pub mod MakePlan
 pub mod Places

@@ -1,5 +1,5 @@
 -- A plan: what it leaves of a box, and that it does what the call says.
-use Rattle.std.proofs.Common.{◌≡◌, ℕ, ◌==◌, Bool, true, false, cond, List, [], ◌∷◌, Option, Some, None, is_some, IsSome, IfSome, option_and_then, Result, Ok, Err, IfOk, OnErr, refl, sym, ap, ap₂, subst, subst₂, ◌∙◌, true≢false}
+use Rattle.std.proofs.Common.{◌≡◌, ℕ, ◌==◌, Bool, true, false, cond, List, [], ◌∷◌, Option, Some, None, is_some, IsSome, IfSome, option_and_then, Result, Ok, Err, IfOk, OnOk, OnErr, refl, sym, ap, ap₂, subst, subst₂, ◌∙◌, true≢false}
 use Rattle.std.specs.Ordering.{is_eq}
 use Rattle.map_model.specs.Maps.{at, IsSorted, filter_map_entries}
 use Rattle.map_model.specs.MapLaws.{at-filter_map_entries, sorted-nil, sorted-filter_map_entries}
@@ -20,7 +20,7 @@ use Rattle.kept_document.specs.Held.{KeptDoc, same_value, IsHeld, SameDoc}
 use Rattle.kept_document.specs.Changes.{held_in, with_change}
 use Rattle.merge_box.specs.Index.{Lists, is_listed}
 use Rattle.merge_box.specs.State.{KeptDocs, Told, BoxState, shared_count, IsBoxAfter, Tells, Answers, IsPlan, IsBox}
-use Rattle.merge_box.specs.Inside.{Changes, docs_of, carried_out, with_change_if, after_at, IsGrown, IsInside, IsPlannedAt, IsPublished}
+use Rattle.merge_box.specs.Inside.{Changes, docs_of, carried_out, with_change_if, after_at, told_of, IsGrown, IsInside, IsPlannedAt, IsPublished}
 use Rattle.merge_box.proofs.Counting.{shared_docs}
 use Rattle.kept_document.proofs.KeptAfter.{no_claim}
 use Rattle.kept_document.proofs.Places.{change_held, places_on}
@@ -136,9 +136,6 @@ answers_of call old new messages whole after told = record {
     order : IsInOrder key_cmp text_cmp new
     order = record { by_key = whole.by_key; by_name = λ k. (whole.held k).by_name }
 
-abbrev pub told_of : KeptDocs → Changes → Told
-told_of kept changes = filter_map_entries (λ k change. between text_cmp same_value (merged_doc (kept_at key_cmp kept k)) (merged_doc (with_change (kept_at key_cmp kept k) change))) changes
-
 module _ (kept : KeptDocs) (changes : Changes) (lists : Lists) (inside : IsInside kept changes lists) where
   told_at : (k : Key) (x : Option Change) → option_and_then (λ change. between text_cmp same_value (merged_doc (kept_at key_cmp kept k)) (merged_doc (with_change (kept_at key_cmp kept k) change))) x
       ≡ between text_cmp same_value (merged_doc (kept_at key_cmp kept k)) (merged_doc (with_change_if x (kept_at key_cmp kept k)))
@@ -241,6 +238,15 @@ module _ (sub : ℕ) (news : List (Key × Option Entries)) (box : BoxState) (mes
   pub drop_is : IsPlan (apply sub news) box messages → IsPlan (drop_sub sub) box messages
   drop_is is = record { after = drop_after is; told = is.told; answers = answers_of (drop_sub sub) box.kept box.planned messages then_whole (drop_after is) is.told }
 
+-- the plan of news that leave the same at each key
+pub same_news : (sub : ℕ) (news others : List (Key × Option Entries)) (box : BoxState) (messages : Told) → IsBox box.planned → ((k : Key) → last_news key_cmp others k ≡ last_news key_cmp news k) → IsPlan (apply sub others) box messages → IsPlan (apply sub news) box messages
+same_news sub news others box messages whole same is =
+    let after : IsBoxAfter (apply sub news) box.kept box.planned = record {
+      publishers = λ k s. is.after.publishers k s ∙ ap (λ w. there_after sub w s (has s (publishers_at key_cmp box.kept k))) (same k);
+      claims = λ k f. is.after.claims k f ∙ ap (λ w. claims_after text_cmp sub w f (claims_of text_cmp (kept_at key_cmp box.kept k) f)) (same k);
+    } in
+    record { after = after; told = is.told; answers = answers_of (apply sub news) box.kept box.planned messages whole after is.told }
+
 -- a plan that was carried out over what was kept before
 pub done : (call : Call Key Entries) (old new : KeptDocs) (box : BoxState) (messages : Told) → box.kept ≡ old → new ≡ box.planned → IsPlan call box messages → IsPlan call (record { kept = old; planned = new }) messages
 done call old new box messages was now is = subst₂ (λ a b. IsPlan call (record { kept = a; planned = b }) messages) was (sym now) is
@@ -252,3 +258,7 @@ map_ok (Err e) P Q f h = tt
 pub on_err : {T E : Type 0} (r : Result T E) (P : Type 0) → P → OnErr r P
 on_err (Ok x) P h = tt
 on_err (Err e) P h = h
+
+pub on_ok : {T E : Type 0} (r : Result T E) (P Q : Type 0) → (P → Q) → OnOk r P → OnOk r Q
+on_ok (Ok x) P Q f h = f h
+on_ok (Err e) P Q f h = tt

@@ -120,12 +120,12 @@ IsGrown-itself kept = record { keys = λ k h. h; docs = λ k. grown_itself (kept
 pub IsGrown-on : (a b c : KeptDocs) → IsGrown a b → IsGrown b c → IsGrown a c
 IsGrown-on a b c p q = record { keys = λ k h. q.keys k (p.keys k h); docs = λ k. grown_on (kept_at key_cmp a k) (kept_at key_cmp b k) (kept_at key_cmp c k) (p.docs k) (q.docs k) }
 
-pub grown_at : (old new : KeptDocs) (key : Key) (e grown : KeptDoc) → Some e ≡ at key_cmp old key → ((k : Key) → at key_cmp new k ≡ cond (is_eq (key_cmp key k)) (Some grown) (at key_cmp old k)) → IsDocGrown e grown → IsGrown old new
+pub grown_at : (old new : KeptDocs) (key : Key) (e grown : KeptDoc) → kept_at key_cmp old key ≡ e → ((k : Key) → at key_cmp new k ≡ cond (is_eq (key_cmp key k)) (Some grown) (at key_cmp old k)) → IsDocGrown e grown → IsGrown old new
 grown_at old new key e grown value change grows = record {
   keys = put_grows key_order old new key (Some grown) change refl;
   docs = λ k. subst (IsDocGrown (kept_at key_cmp old k)) (sym (put_or key_order old new key (Some grown) change nothing_kept grown refl k))
       (elim (eq_by_cmp key_cmp k key) as (λ b. eq_by_cmp key_cmp k key ≡ b → IsDocGrown (kept_at key_cmp old k) (cond b grown (kept_at key_cmp old k))) [
-        | true ↦ λ t. subst (λ x. IsDocGrown x grown) (ap (λ x. unwrap_or x nothing_kept) (value ∙ ap (at key_cmp old) (sym (key_is key_order k key t)))) grows
+        | true ↦ λ t. subst (λ x. IsDocGrown x grown) (sym (ap (kept_at key_cmp old) (key_is key_order k key t) ∙ value)) grows
         | false ↦ λ _. grown_itself (kept_at key_cmp old k)
       ] refl);
 }

@@ -1,11 +1,14 @@
 -- What a plan makes of the documents, and what is kept once it is carried out.
-use Rattle.std.proofs.Common.{◌≡◌, ℕ, zero, suc, ◌+◌, ◌<◌, arith, add-one, length, get_or, take, option_map, option_to_list, Bool, true, false, cond, ◌||◌, ◌++◌, List, [], ◌∷◌, map, Option, Some, None, is_some, IsSome, unwrap_or, refl, sym, ap, ap₂, subst, subst₂, ⊎_elim, ◌∙◌, true≢false}
+use Rattle.std.proofs.Common.{◌≡◌, ℕ, append_assoc, zero, suc, ◌+◌, ◌<◌, arith, add-one, length, get_or, take, option_map, option_to_list, Bool, true, false, cond, ◌||◌, ◌++◌, List, [], ◌∷◌, map, Option, Some, None, is_some, IsSome, unwrap_or, refl, sym, ap, ap₂, subst, subst₂, ⊎_elim, ◌∙◌, true≢false}
 use Rattle.std.specs.Option.{option_or}
+use Rattle.std.specs.declared.cmp.Ordering.TheVariants.{Greater}
+use Rattle.std.specs.Map.{keys_of}
 use Rattle.std.specs.List.{list_any}
 use Rattle.std.specs.BTreeSet.{BTreeSet}
 use Rattle.std.proofs.lemmas.List.{map-append}
 use Rattle.ejson_value.specs.declared.change.Publish.{Publish}
-use Rattle.map_model.specs.Maps.{keyed, filter_map_entries}
+use Rattle.map_model.specs.Maps.{keyed}
+use Rattle.map_model.specs.Orders.{IsAbove}
 use Rattle.map_model.specs.Differences.{Step}
 use Rattle.map_model.specs.OrderLaws.{filter_map_entries-append}
 use Rattle.value_model.specs.Val.{Val}
@@ -13,21 +16,20 @@ use Rattle.ejson_value.specs.declared.message.DataMsg.{DataMsg}
 use Rattle.ejson_value.specs.Messages.{said}
 use Rattle.merge_box.specs.Index.{lists_of, is_listed}
 use Rattle.std.specs.Ordering.{eq_by_cmp, is_eq}
-use Rattle.std.proofs.lemmas.Map.Keys.{sorted_tail}
+use Rattle.std.specs.List.Sorted.{IsStrictlySortedBy}
 use Rattle.map_model.specs.Maps.{at, IsSorted}
-use Rattle.map_model.specs.MapLaws.{key_is, eq_by_cmp-self, at-tail}
+use Rattle.map_model.specs.MapLaws.{key_is}
 use Rattle.merge_model.specs.Kept.{has, kept_at, publishers_at, nothing_kept}
 use Rattle.merge_model.specs.Publishing.{last_news}
 use Rattle.value_model.specs.Val.{Entries}
 use Rattle.ejson_value.specs.declared.key.Key.{Key}
 use Rattle.ejson_value.specs.Key.{key_cmp, key_order}
 use Rattle.kept_document.specs.declared.held.Change.{Change}
-use Rattle.kept_document.specs.declared.held.Change.TheVariants.{Whole}
 use Rattle.kept_document.specs.Held.{KeptDoc, IsHeld, SameDoc, IsDocGrown}
 use Rattle.kept_document.specs.Changes.{held_in, with_change, IsChange, HasPlaces}
 use Rattle.ejson_value.specs.Changes.{news_of}
-use Rattle.merge_box.specs.State.{KeptDocs}
-use Rattle.merge_box.specs.Inside.{Changes, planned_at, with_change_if, after_at, IsGrown, IsReady, IsPlannedAt, IsPublished}
+use Rattle.merge_box.specs.State.{KeptDocs, Told}
+use Rattle.merge_box.specs.Inside.{Changes, with_change_if, after_at, step_of, told_of, IsGrown, IsReady, IsPlannedAt, IsPublished}
 use Rattle.kept_document.proofs.Places.{same_itself, places_on, change_grown}
 use Rattle.kept_document.proofs.Puts.{left_from, left_cases}
 use Rattle.merge_box.proofs.Listing.{either_way}
@@ -49,6 +51,13 @@ removed keys = map (λ k. (k, None)) keys
 
 pub gone_push : (keys : List Key) (key : Key) → removed keys ++ (key, None) ∷ [] ≡ removed (keys ++ key ∷ [])
 gone_push keys key = let f : Key → Key × Option Entries = λ k. (k, None) in sym (map-append f keys (key ∷ []))
+
+removed_keys : (keys : List Key) → keys_of (removed keys) ≡ keys
+removed_keys [] = refl
+removed_keys (k ∷ keys) = ap (λ ks. k ∷ ks) (removed_keys keys)
+
+pub removed_sorted : (keys : List Key) → IsStrictlySortedBy key_cmp keys → IsSorted key_cmp (removed keys)
+removed_sorted keys s = subst (IsStrictlySortedBy key_cmp) (sym (removed_keys keys)) s
 
 later : {D : Type 0} (b : Bool) (d : D) (w c : Option D) → option_or (cond b (Some d) w) c ≡ cond b (Some d) (option_or w c)
 later true d w c = refl
@@ -79,39 +88,29 @@ last_removed (q ∷ keys) k =
 pub unlisted_news : (index : List (ℕ × BTreeSet Key)) (sub : ℕ) (k : Key) → is_listed (lists_of index) sub k ≡ false → cond (is_listed (lists_of index) sub k) gone None ≡ None
 unlisted_news index sub k e = ap (λ b. cond b gone None) e
 
--- what is put into a plan
-pub put_planned_here : (old new : Changes) (key copied : Key) (change : Change) → copied ≡ key → ((k : Key) → at key_cmp new k ≡ cond (is_eq (key_cmp copied k)) (Some change) (at key_cmp old k)) → planned_at new key ≡ change
-put_planned_here old new key copied change same put = ap (λ x. unwrap_or x (Whole nothing_kept)) (put key ∙ ap (λ q. cond (is_eq (key_cmp q key)) (Some change) (at key_cmp old key)) same ∙ ap (λ b. cond b (Some change) (at key_cmp old key)) (eq_by_cmp-self key_order key))
-
-pub put_planned : (old new : Changes) (key copied : Key) (change : Change) → copied ≡ key → ((k : Key) → at key_cmp new k ≡ cond (is_eq (key_cmp copied k)) (Some change) (at key_cmp old k))
-    → (k : Key) → at key_cmp new k ≡ cond (eq_by_cmp key_cmp k key) (Some (planned_at new key)) (at key_cmp old k)
-put_planned old new key copied change same put k =
-    put k ∙ ap (λ q. cond (is_eq (key_cmp q k)) (Some change) (at key_cmp old k)) same
-    ∙ ap₂ (λ b e. cond b (Some e) (at key_cmp old k)) (either_way key k) (sym (put_planned_here old new key copied change same put))
-
 planned_grown : (sub : ℕ) (w : Option (Option Entries)) (a b : KeptDoc) (x : Option Change) → IsDocGrown a b → IsPlannedAt sub w a x → IsPlannedAt sub w b x
 planned_grown sub w a b None grown p = p
 planned_grown sub w a b (Some change) grown p = (p.0, p.1, change_grown sub p.0 a b change grown p.2, places_on a b change grown p.3)
 
 -- one more is planned
-pub planned_step : (sub : ℕ) (kept grown : KeptDocs) (plan new : Changes) (news : List Publish) (i : ℕ) (p : Publish) → news_of (take (i + 1) news) ≡ news_of (take i news) ++ (p.key, p.new) ∷ []
+pub planned_step : (sub : ℕ) (kept grown : KeptDocs) (plan new : Changes) (planned : Change) (news : List Publish) (i : ℕ) (p : Publish) → news_of (take (i + 1) news) ≡ news_of (take i news) ++ (p.key, p.new) ∷ []
     → IsGrown kept grown
     → ((k : Key) → IsPlannedAt sub (last_news key_cmp (news_of (take i news)) k) (kept_at key_cmp kept k) (at key_cmp plan k))
-    → ((k : Key) → at key_cmp new k ≡ cond (eq_by_cmp key_cmp k p.key) (Some (planned_at new p.key)) (at key_cmp plan k))
-    → IsChange sub p.new (kept_at key_cmp grown p.key) (planned_at new p.key) → HasPlaces (kept_at key_cmp grown p.key) (planned_at new p.key)
+    → ((k : Key) → at key_cmp new k ≡ cond (eq_by_cmp key_cmp k p.key) (Some planned) (at key_cmp plan k))
+    → IsChange sub p.new (kept_at key_cmp grown p.key) planned → HasPlaces (kept_at key_cmp grown p.key) planned
     → (k : Key) → IsPlannedAt sub (last_news key_cmp (news_of (take (i + 1) news)) k) (kept_at key_cmp grown k) (at key_cmp new k)
-planned_step sub kept grown plan new news i p more grows before change is places k =
+planned_step sub kept grown plan new planned news i p more grows before change is places k =
     subst (λ x. IsPlannedAt sub (last_news key_cmp (news_of (take (i + 1) news)) k) (kept_at key_cmp grown k) x) (sym (change k))
-    (subst (λ w. IsPlannedAt sub w (kept_at key_cmp grown k) (cond (eq_by_cmp key_cmp k p.key) (Some (planned_at new p.key)) (at key_cmp plan k))) (sym (ap (λ es. last_news key_cmp es k) more ∙ last_news-push (news_of (take i news)) p.key p.new k))
-    (elim (eq_by_cmp key_cmp k p.key) as (λ b. eq_by_cmp key_cmp k p.key ≡ b → IsPlannedAt sub (cond b (Some p.new) (last_news key_cmp (news_of (take i news)) k)) (kept_at key_cmp grown k) (cond b (Some (planned_at new p.key)) (at key_cmp plan k))) [
-      | true ↦ λ t. subst (λ q. IsPlannedAt sub (Some p.new) (kept_at key_cmp grown q) (Some (planned_at new p.key))) (sym (key_is key_order k p.key t)) (p.new, refl, is, places)
+    (subst (λ w. IsPlannedAt sub w (kept_at key_cmp grown k) (cond (eq_by_cmp key_cmp k p.key) (Some planned) (at key_cmp plan k))) (sym (ap (λ es. last_news key_cmp es k) more ∙ last_news-push (news_of (take i news)) p.key p.new k))
+    (elim (eq_by_cmp key_cmp k p.key) as (λ b. eq_by_cmp key_cmp k p.key ≡ b → IsPlannedAt sub (cond b (Some p.new) (last_news key_cmp (news_of (take i news)) k)) (kept_at key_cmp grown k) (cond b (Some planned) (at key_cmp plan k))) [
+      | true ↦ λ t. subst (λ q. IsPlannedAt sub (Some p.new) (kept_at key_cmp grown q) (Some planned)) (sym (key_is key_order k p.key t)) (p.new, refl, is, places)
       | false ↦ λ t. planned_grown sub (last_news key_cmp (news_of (take i news)) k) (kept_at key_cmp kept k) (kept_at key_cmp grown k) (at key_cmp plan k) (grows.docs k) (before k)
     ] refl))
 
-pub room_step : (kept grown : KeptDocs) (plan new : Changes) (key : Key) → ((k : Key) → IsSome (at key_cmp plan k) → IsSome (at key_cmp kept k)) → ((k : Key) → IsSome (at key_cmp kept k) → IsSome (at key_cmp grown k)) → IsSome (at key_cmp grown key)
-    → ((k : Key) → at key_cmp new k ≡ cond (eq_by_cmp key_cmp k key) (Some (planned_at new key)) (at key_cmp plan k)) → (k : Key) → IsSome (at key_cmp new k) → IsSome (at key_cmp grown k)
-room_step kept grown plan new key before grows here change k some =
-    elim (eq_by_cmp key_cmp k key) as (λ b. eq_by_cmp key_cmp k key ≡ b → is_some (cond b (Some (planned_at new key)) (at key_cmp plan k)) ≡ true → is_some (at key_cmp grown k) ≡ true) [
+pub room_step : (kept grown : KeptDocs) (plan new : Changes) (planned : Change) (key : Key) → ((k : Key) → IsSome (at key_cmp plan k) → IsSome (at key_cmp kept k)) → ((k : Key) → IsSome (at key_cmp kept k) → IsSome (at key_cmp grown k)) → IsSome (at key_cmp grown key)
+    → ((k : Key) → at key_cmp new k ≡ cond (eq_by_cmp key_cmp k key) (Some planned) (at key_cmp plan k)) → (k : Key) → IsSome (at key_cmp new k) → IsSome (at key_cmp grown k)
+room_step kept grown plan new planned key before grows here change k some =
+    elim (eq_by_cmp key_cmp k key) as (λ b. eq_by_cmp key_cmp k key ≡ b → is_some (cond b (Some planned) (at key_cmp plan k)) ≡ true → is_some (at key_cmp grown k) ≡ true) [
       | true ↦ λ t _. ap (λ q. is_some (at key_cmp grown q)) (key_is key_order k key t) ∙ here
       | false ↦ λ t h. grows k (before k h)
     ] refl (ap is_some (sym (change k)) ∙ some)
@@ -127,32 +126,45 @@ listed_step sub index grown news i p more before stays here k h =
       | false ↦ λ t some. stays sub k (before k some)
     ] refl (subst IsPublished (ap (λ es. last_news key_cmp es k) more ∙ last_news-push (news_of (take i news)) p.key p.new k) h)
 
--- what a walk over the changes comes to is the change at its key
-pub at_walk : (done : Changes) (k : Key) (change : Change) (rest : Changes) → IsSorted key_cmp (done ++ (k, change) ∷ rest) → at key_cmp (done ++ (k, change) ∷ rest) k ≡ Some change
-at_walk [] k change rest sorted = ap (λ b. cond b (Some change) (at key_cmp rest k)) (eq_by_cmp-self key_order k)
-at_walk (e ∷ done) k change rest sorted =
-    let later = at_walk done k change rest (sorted_tail key_cmp _ _ sorted) in
-    elim (eq_by_cmp key_cmp k e.0) as (λ b. eq_by_cmp key_cmp k e.0 ≡ b → cond b (Some e.1) (at key_cmp (done ++ (k, change) ∷ rest) k) ≡ Some change) [
-      | true ↦ λ t. absurd (true≢false (ap is_some (sym later ∙ at-tail key_order e (done ++ (k, change) ∷ rest) k sorted t)))
-      | false ↦ λ _. later
-    ] refl
+-- the keys of a plan are those of the news
+pub keys_step : (plan new : Changes) (planned : Change) (news : List Publish) (i : ℕ) (p : Publish) → news_of (take (i + 1) news) ≡ news_of (take i news) ++ (p.key, p.new) ∷ [] → new ≡ plan ++ (p.key, planned) ∷ []
+    → keys_of plan ≡ keys_of (news_of (take i news)) → keys_of new ≡ keys_of (news_of (take (i + 1) news))
+keys_step plan new planned news i p more push so_far =
+    ap keys_of push ∙ map-append (λ (e : Key × Change). e.0) plan ((p.key, planned) ∷ []) ∙ ap (λ ks. ks ++ p.key ∷ []) so_far
+    ∙ sym (ap keys_of more ∙ map-append (λ (e : Key × Option Entries). e.0) (news_of (take i news)) ((p.key, p.new) ∷ []))
 
 -- one more message
-pub message_next : {X : Type 0} (f : Key → X → Option (Step (List ℕ) Val)) (done : List (Key × X)) (k : Key) (x : X) (messages : List DataMsg) (message : Option DataMsg)
-    → map said messages ≡ filter_map_entries f done → option_map said message ≡ option_map (λ step. (k, step)) (f k x)
-    → map said (messages ++ option_to_list message) ≡ filter_map_entries f (done ++ (k, x) ∷ [])
-message_next f done k x messages message so_far is =
+pub message_added : (messages : List DataMsg) (message : Option DataMsg) (k : Key) (w : Option (Step (List ℕ) Val)) → option_map said message ≡ option_map (λ step. (k, step)) w
+    → map said (messages ++ option_to_list message) ≡ map said messages ++ keyed k w []
+message_added messages message k w is =
     map-append said messages (option_to_list message)
-    ∙ ap₂ (λ a b. a ++ b) so_far (listed message ∙ ap option_to_list is ∙ keyed_is (f k x))
-    ∙ sym (filter_map_entries-append f done (k, x))
+    ∙ ap (λ more. map said messages ++ more) (listed message ∙ ap option_to_list is ∙ keyed_is w)
   where
     listed : (m : Option DataMsg) → map said (option_to_list m) ≡ option_to_list (option_map said m)
     listed None = refl
     listed (Some m) = refl
 
-    keyed_is : (w : Option (Step (List ℕ) Val)) → option_to_list (option_map (λ step. (k, step)) w) ≡ keyed k w []
+    keyed_is : (v : Option (Step (List ℕ) Val)) → option_to_list (option_map (λ step. (k, step)) v) ≡ keyed k v []
     keyed_is None = refl
     keyed_is (Some step) = refl
+
+other_key : (key k : Key) → key_cmp key k ≡ Greater → eq_by_cmp key_cmp k key ≡ false
+other_key key k above = sym (either_way key k) ∙ ap is_eq above
+
+-- what is told of documents below a key, where no other document changes
+told_others : (kept new : KeptDocs) (plan : Changes) (key : Key) → ((k : Key) → eq_by_cmp key_cmp k key ≡ false → at key_cmp new k ≡ at key_cmp kept k) → IsAbove key_cmp key (keys_of plan) → told_of new plan ≡ told_of kept plan
+told_others kept new [] key others above = refl
+told_others kept new (e ∷ plan) key others above =
+    ap₂ (λ w rest. keyed e.0 (step_of (unwrap_or w nothing_kept) e.1) rest) (others e.0 (other_key key e.0 above.0)) (told_others kept new plan key others above.1)
+
+pub told_step : (kept new : KeptDocs) (plan after : Changes) (key : Key) (planned : Change) (start before now : Told) → after ≡ plan ++ (key, planned) ∷ []
+    → ((k : Key) → eq_by_cmp key_cmp k key ≡ false → at key_cmp new k ≡ at key_cmp kept k) → IsAbove key_cmp key (keys_of plan)
+    → before ≡ start ++ told_of kept plan → now ≡ before ++ keyed key (step_of (kept_at key_cmp new key) planned) [] → now ≡ start ++ told_of new after
+told_step kept new plan after key planned start before now push others above so_far added =
+    let last = keyed key (step_of (kept_at key_cmp new key) planned) [] in
+    added ∙ ap (λ ms. ms ++ last) (so_far ∙ ap (λ ms. start ++ ms) (sym (told_others kept new plan key others above)))
+    ∙ append_assoc start (told_of new plan) last
+    ∙ ap (λ ms. start ++ ms) (sym (ap (told_of new) push ∙ filter_map_entries-append (λ k change. step_of (kept_at key_cmp new k) change) plan (key, planned)))
 
 -- Carrying a plan out: `rest` is the plan without its first entry, the change of the document `key`, which makes `new` of `old`.
 module _ (plan rest : Changes) (old new : KeptDocs) (key : Key) (change : Change) (value : at key_cmp plan key ≡ Some change) (updates : (k : Key) → at key_cmp rest k ≡ cond (is_eq (key_cmp key k)) None (at key_cmp plan k))

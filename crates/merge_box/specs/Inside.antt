@@ -1,19 +1,19 @@
 -- What a box keeps inside: documents with places for what a plan brings, and the changes of the last plan.
-use Rattle.std.specs.Prelude.{◌≡◌, ℕ, true, List, Option, Some, None, IsSome, if◌then◌else◌}
+use Rattle.std.specs.Prelude.{◌≡◌, ◌++◌, ℕ, true, List, [], Option, Some, None, IsSome, if◌then◌else◌}
 use Rattle.std.specs.Option.{option_flatten}
-use Rattle.map_model.specs.Maps.{at, IsSorted, union, filter_map_entries}
+use Rattle.map_model.specs.Maps.{at, keyed, IsSorted, union, filter_map_entries}
+use Rattle.map_model.specs.Differences.{Step, between}
 use Rattle.value_model.specs.Val.{Val, Entries}
-use Rattle.std.specs.Prelude.{unwrap_or}
-use Rattle.merge_model.specs.Kept.{has, is_empty, nothing_kept, kept_at, publishers_at}
+use Rattle.value_model.specs.Order.{text_cmp}
+use Rattle.merge_model.specs.Kept.{has, is_empty, kept_at, merged_doc, publishers_at}
 use Rattle.merge_model.specs.Box.{unless_empty}
 use Rattle.ejson_value.specs.declared.key.Key.{Key}
 use Rattle.ejson_value.specs.Key.{key_cmp}
 use Rattle.kept_document.specs.declared.held.Change.{Change}
-use Rattle.kept_document.specs.declared.held.Change.TheVariants.{Whole}
-use Rattle.kept_document.specs.Held.{KeptDoc, IsHeld, IsDocGrown}
+use Rattle.kept_document.specs.Held.{KeptDoc, same_value, IsHeld, IsDocGrown}
 use Rattle.kept_document.specs.Changes.{held_in, with_change, IsChange, HasPlaces}
 use Rattle.merge_box.specs.Index.{Lists, is_listed}
-use Rattle.merge_box.specs.State.{KeptDocs}
+use Rattle.merge_box.specs.State.{KeptDocs, Told}
 
 -- the fields with claims
 abbrev pub claimed_fields : List (List ℕ × List (ℕ × Val)) → List (List ℕ × List (ℕ × Val))
@@ -30,10 +30,6 @@ docs_of kept = filter_map_entries (λ k e. published_doc e) kept
 -- what changes of documents, by key
 abbrev pub Changes : Type 0
 Changes = List (Key × Change)
-
--- the change at a key
-abbrev pub planned_at : Changes → Key → Change
-planned_at changes k = unwrap_or (at key_cmp changes k) (Whole nothing_kept)
 
 -- what is kept once the changes are carried out
 abbrev pub carried_out : Changes → KeptDocs → KeptDocs
@@ -71,6 +67,21 @@ pub record IsInside (kept : KeptDocs) (changes : Changes) (lists : Lists) : Type
 abbrev pub IsPlannedAt : ℕ → Option (Option Entries) → KeptDoc → Option Change → Type 0
 IsPlannedAt sub w old None = w ≡ None
 IsPlannedAt sub w old (Some change) = (d : Option Entries) × (w ≡ Some d) × IsChange sub d old change × HasPlaces old change
+
+-- what a client is told of a document after a change, if it sees it otherwise then
+abbrev pub step_of : KeptDoc → Change → Option (Step (List ℕ) Val)
+step_of old change = between text_cmp same_value (merged_doc old) (merged_doc (with_change old change))
+
+-- the same of each document that changes
+abbrev pub told_of : KeptDocs → Changes → Told
+told_of kept changes = filter_map_entries (λ k change. step_of (kept_at key_cmp kept k) change) changes
+
+-- the change of a document, e, is planned, its key is listed, and what the client is told of it is added
+pub record IsNext (sub : ℕ) (key : Key) (doc : Option Entries) (e : KeptDoc) (lists : Lists) (before after : Told) (change : Change) : Type 0 where
+  pub listed : IsSome doc → is_listed lists sub key ≡ true
+  pub is : IsChange sub doc e change
+  pub places : HasPlaces e change
+  pub told : after ≡ before ++ keyed key (step_of e change) []
 
 -- the news are of a document
 abbrev pub IsPublished : Option (Option Entries) → Type 0

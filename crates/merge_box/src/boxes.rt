@@ -1,6 +1,6 @@
 //! The merge box and its plans.
 ghost use Rattle.std.specs.Prelude.{◌≡◌, [], map, IfOk, OnOk, OnErr};
-ghost use Rattle.map_model.specs.Maps.{at};
+ghost use Rattle.map_model.specs.Maps.{at, IsSorted};
 ghost use Rattle.merge_model.specs.Publishing.{apply as applied, drop_sub as dropped};
 ghost use Rattle.merge_model.specs.Kept.{merged as merged_docs, merged_doc, kept_at};
 ghost use Rattle.ejson_value.specs.Key.{key_cmp};
@@ -9,7 +9,8 @@ ghost use Rattle.ejson_value.specs.Changes.{news_of};
 ghost use Rattle.merge_box.specs.State.{shared_count, IsBoxAfter, Tells, Answers, IsPlan, IsBox};
 
 use crate::index::{Index, forget_unlisted};
-use crate::plan::{ChangeMap, KeptMap, messages_of, plan_news, removals, take_all};
+use crate::news::{is_by_key, last_by_key};
+use crate::plan::{ChangeList, KeptMap, plan_news, removals, take_all};
 use ejson_value::{DataList, Doc, Key, Mem, Publish, Publishes};
 use std::alloc::Global;
 use std::collections::BTreeMap;
@@ -30,7 +31,7 @@ pub struct MergeBox {
     index: Index,
     // The last plan: its subscription, and what it changes.
     sub: u64,
-    changes: ChangeMap,
+    changes: ChangeList,
 }
 
 impl Model for MergeBox {
@@ -44,9 +45,9 @@ impl Model for MergeBox {
 
     ghost coded = { box_code };
 
-    ghost view = { λ a. record { kept = docs_of a.kept.entries; planned = docs_of (carried_out a.changes.entries a.kept.entries) } };
+    ghost view = { λ a. record { kept = docs_of a.kept.entries; planned = docs_of (carried_out a.changes.items a.kept.entries) } };
 
-    ghost invariant = { λ a. IsInside a.kept.entries a.changes.entries (lists_of a.index.entries) × (a.listed ≡ shared_count a.kept.entries) };
+    ghost invariant = { λ a. IsInside a.kept.entries a.changes.items (lists_of a.index.entries) × (a.listed ≡ shared_count a.kept.entries) };
 }
 
 /// What a planned call answers once it is carried out. What it changes waits in the box, with all
@@ -105,7 +106,7 @@ impl MergeBox {
             listed: 0,
             index: BTreeMap::new(alloc),
             sub: 0,
-            changes: BTreeMap::new(alloc),
+            changes: Vec::new(alloc),
         }
     }
 
@@ -117,20 +118,39 @@ impl MergeBox {
         let _ = &self.kept;
     }
 
-    // Plans what a subscription publishes now.
-    fn plan_call(&mut self, sub: u64, news: &[Publish]) -> Result<MergePlan, Mem>
+    // Plans what a subscription publishes now, where the news stand by rising key.
+    fn plan_by_key(&mut self, sub: u64, news: &[Publish]) -> Result<MergePlan, Mem>
+        requires { IsSorted key_cmp (news_of news.now) }
         ensures same { self.new.kept ≡ self.old.kept }
         ensures planned { IfOk result (λ plan. IsPlan (applied sub (news_of news.now)) self.new plan) }
         ensures err { OnErr result (self.new ≡ self.old) }
     {
-        let made = plan_news(&mut self.kept, &mut self.index, self.alloc, sub, news);
+        let mut messages = DataList::new(self.alloc);
+        let made = plan_news(
+            &mut self.kept,
+            &mut messages,
+            &mut self.index,
+            self.alloc,
+            sub,
+            news,
+        );
         let _len = self.kept.len();
         let changes = made?;
-        let _changed = changes.len();
-        let messages = messages_of(&self.kept, self.alloc, &changes)?;
         self.sub = sub;
         self.changes = changes;
         Ok(MergePlan { messages })
+    }
+
+    // Plans what a subscription publishes now, where the news stand in any order.
+    fn plan_unordered(&mut self, sub: u64, news: &[Publish]) -> Result<MergePlan, Mem>
+        ensures same { self.new.kept ≡ self.old.kept }
+        ensures planned { IfOk result (λ plan. IsPlan (applied sub (news_of news.now)) self.new plan) }
+        ensures err { OnErr result (self.new ≡ self.old) }
+    {
+        let last = last_by_key(self.alloc, news)?;
+        let plan = self.plan_by_key(sub, last.as_slice())?;
+        self.known();
+        Ok(plan)
     }
 
     /// Plans `apply`. What is kept stays as it is, and the plan is what `commit` carries out next.
@@ -139,7 +159,12 @@ impl MergeBox {
         ensures planned { IfOk result (λ plan. IsPlan (applied sub (news_of news.now)) self.new plan) }
         ensures err { OnErr result (self.new ≡ self.old) }
     {
-        self.plan_call(sub, news.as_slice())
+        let news = news.as_slice();
+        if is_by_key(news) {
+            self.plan_by_key(sub, news)
+        } else {
+            self.plan_unordered(sub, news)
+        }
     }
 
     /// Plans `drop_sub`. What is kept stays as it is, and the plan is what `commit` carries out next.
@@ -149,7 +174,7 @@ impl MergeBox {
         ensures err { OnErr result (self.new ≡ self.old) }
     {
         let news = removals(&self.index, self.alloc, sub)?;
-        let plan = self.plan_call(sub, news.as_slice())?;
+        let plan = self.plan_by_key(sub, news.as_slice())?;
         self.known();
         Ok(plan)
     }
@@ -161,7 +186,7 @@ impl MergeBox {
         ensures planned { self.new.planned ≡ self.new.kept }
         ensures messages { map said result ≡ plan }
     {
-        let changes = mem::replace(&mut self.changes, BTreeMap::new(self.alloc));
+        let changes = mem::replace(&mut self.changes, Vec::new(self.alloc));
         let listed = take_all(
             &mut self.kept,
             &mut self.index,

@@ -3,6 +3,7 @@
 
 mod boxes;
 mod index;
+mod news;
 mod plan;
 
 pub use boxes::{MergeBox, MergePlan};

@@ -1,19 +1,24 @@
-use Rattle.std.proofs.Common.{◌≡◌, ℕ, true, IsSome, take}
-use Rattle.map_model.specs.Maps.{at}
+use Rattle.std.proofs.Common.{◌≡◌, ◌++◌, ℕ, true, IsSome, map, take}
+use Rattle.std.specs.Map.{keys_of}
+use Rattle.map_model.specs.Maps.{at, IsSorted}
 use Rattle.merge_model.specs.Publishing.{last_news}
 use Rattle.merge_model.specs.Kept.{kept_at}
 use Rattle.ejson_value.specs.declared.key.Key.{Key}
 use Rattle.ejson_value.specs.Key.{key_cmp}
-use Rattle.merge_box.specs.Index.{lists_of, is_listed}
 use Rattle.ejson_value.specs.Changes.{news_of}
-use Rattle.merge_box.specs.Inside.{IsGrown, IsPlannedAt, IsPublished}
+use Rattle.ejson_value.specs.Messages.{said}
+use Rattle.merge_box.specs.Index.{lists_of, is_listed}
+use Rattle.merge_box.specs.Inside.{told_of, IsGrown, IsPlannedAt, IsPublished}
 use Rattle.merge_box.proofs.plan.plan_news.Given as goal
 
 abbrev pub invariant-loop-publish : goal.invariant-loop-publish
 invariant-loop-publish l = record {
   grown : IsGrown l.initial.kept.entries l.kept.entries;
   listed : (s : ℕ) (k : Key) → is_listed (lists_of l.initial.index.entries) s k ≡ true → is_listed (lists_of l.index.entries) s k ≡ true;
-  planned : (k : Key) → IsPlannedAt l.sub (last_news key_cmp (news_of (take l.publish-index l.news)) k) (kept_at key_cmp l.kept.entries k) (at key_cmp l.plan.entries k);
-  room : (k : Key) → IsSome (at key_cmp l.plan.entries k) → IsSome (at key_cmp l.kept.entries k);
+  keys : keys_of l.plan.items ≡ keys_of (news_of (take l.publish-index l.news));
+  by_key : IsSorted key_cmp l.plan.items;
+  planned : (k : Key) → IsPlannedAt l.sub (last_news key_cmp (news_of (take l.publish-index l.news)) k) (kept_at key_cmp l.kept.entries k) (at key_cmp l.plan.items k);
+  room : (k : Key) → IsSome (at key_cmp l.plan.items k) → IsSome (at key_cmp l.kept.entries k);
   listed_here : (k : Key) → IsPublished (last_news key_cmp (news_of (take l.publish-index l.news)) k) → is_listed (lists_of l.index.entries) l.sub k ≡ true;
+  told : map said l.messages ≡ map said l.initial.messages ++ told_of l.kept.entries l.plan.items;
 }

@@ -1,7 +1,9 @@
-use Rattle.std.proofs.Common.{◌∷◌, [], ◌++◌, None, ap, ap₂, ◌∙◌}
+use Rattle.std.proofs.Common.{◌∷◌, [], ◌++◌, None, ap, ap₂, sym, subst, ◌∙◌}
+use Rattle.map_model.specs.Maps.{IsSorted}
+use Rattle.ejson_value.specs.Key.{key_cmp}
 use Rattle.ejson_value.specs.Changes.{news_of}
 use Rattle.kept_document.proofs.Walks.{walk_on, walk_end}
-use Rattle.merge_box.proofs.Plans.{news_push, gone_push, removed}
+use Rattle.merge_box.proofs.Plans.{news_push, gone_push, removed, removed_sorted}
 use Rattle.merge_box.proofs.plan.removals_of.Goals as goal
 
 pub loop-key-preserved : goal.loop-key-preserved
@@ -17,7 +19,13 @@ loop-key-preserved c =
           ∙ ap₂ (λ es k. es ++ (k, None) ∷ []) walk.made c.in_ok-key.ensures ∙ gone_push walk.done key;
     }
 
-pub returns : goal.returns
-returns c =
+pub returns-clause-keys : goal.returns-clause-keys
+returns-clause-keys c =
     let walk = c.loop-key.invariant in
     walk.made ∙ ap removed (walk_end c.into_iter-key-iterator.result walk.done c.loop-key.key-iterator walk.whole c.in-None.ensures.steps.0 ∙ c.into_iter-key-iterator.ensures.into_iter_gives ∙ c.iter-key-items.ensures.rest)
+
+pub returns-clause-by_key : goal.returns-clause-by_key
+returns-clause-by_key c =
+    let walk = c.loop-key.invariant in
+    let all = walk.made ∙ ap removed (walk_end c.into_iter-key-iterator.result walk.done c.loop-key.key-iterator walk.whole c.in-None.ensures.steps.0 ∙ c.into_iter-key-iterator.ensures.into_iter_gives ∙ c.iter-key-items.ensures.rest) in
+    subst (λ es. IsSorted key_cmp es) (sym all) (removed_sorted c.args.keys.now.keys c.iter-key-items.ensures.ordered)
