@@ -7,3 +7,5 @@ pub mod Fields
 pub mod WritingTurns
 pub mod TextLaws
 mod WriterTurns
+pub mod TokenTurns
+pub mod PlainTurns

@@ -15,3 +15,4 @@ pub mod Exact
 pub mod CompactLaws
 pub mod ExactLaws
 pub mod Tokens
+pub mod Plain

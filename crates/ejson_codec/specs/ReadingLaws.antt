@@ -64,13 +64,13 @@ below_ok : {A : Type 0} (levels : ℕ) (f : ℕ → Result A EjsonFault) (a : A)
 below_ok zero f a h = absurd (cc h)
 below_ok (suc levels) f a h = (levels, refl, h)
 
-with_item_ok : (r : Result Val EjsonFault) (rest : Result (List Val) EjsonFault) (vs : List Val) → with_item r rest ≡ Ok vs
+pub with_item_ok : (r : Result Val EjsonFault) (rest : Result (List Val) EjsonFault) (vs : List Val) → with_item r rest ≡ Ok vs
     → (v : Val) × (more : List Val) × (r ≡ Ok v) × (rest ≡ Ok more) × (vs ≡ v ∷ more)
 with_item_ok (Ok v) (Ok more) vs h = (v, more, refl, refl, cc h)
 with_item_ok (Ok v) (Err e) vs h = absurd (cc h)
 with_item_ok (Err e) rest vs h = absurd (cc h)
 
-with_field_ok : (key : List ℕ) (r : Result Val EjsonFault) (rest : Result Entries EjsonFault) (es : Entries) → with_field key r rest ≡ Ok es
+pub with_field_ok : (key : List ℕ) (r : Result Val EjsonFault) (rest : Result Entries EjsonFault) (es : Entries) → with_field key r rest ≡ Ok es
     → (v : Val) × (more : Entries) × (r ≡ Ok v) × (rest ≡ Ok more) × (es ≡ (key, v) ∷ more)
 with_field_ok key (Ok v) (Ok more) es h = (v, more, refl, refl, cc h)
 with_field_ok key (Ok v) (Err e) es h = absurd (cc h)

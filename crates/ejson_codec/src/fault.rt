@@ -2,6 +2,7 @@
 ghost use Rattle.std.specs.Prelude.{◌≡◌};
 
 use ejson_value::Mem;
+use json::Invalid;
 use std::alloc::{AllocError, AllocFailed};
 use std::error::Error;
 use std::fmt;
@@ -122,5 +123,43 @@ impl From<ReadFault> for ParseFault {
             ReadFault::Ejson(fault) => ParseFault::Ejson(fault),
             ReadFault::Memory => ParseFault::Memory,
         }
+    }
+}
+
+/// Why a text wasn't read without a tree.
+#[derive(Clone, Copy, Debug, PartialEq, Eq)]
+pub enum PlainFault {
+    /// It has a form of EJSON or a fault, and is left to the reader of trees.
+    NotPlain,
+    Memory,
+}
+
+impl PlainFault {
+    // The fault in words.
+    fn words(&self) -> &'static str {
+        match self {
+            PlainFault::NotPlain => "not plain JSON",
+            PlainFault::Memory => "out of memory",
+        }
+    }
+}
+
+impl fmt::Display for PlainFault {
+    fn fmt<W: fmt::Write>(&self, f: &mut fmt::Formatter<W>) -> fmt::Result {
+        f.write_str(self.words())
+    }
+}
+
+impl Error for PlainFault {}
+
+impl From<Mem> for PlainFault {
+    fn from(_: Mem) -> PlainFault {
+        PlainFault::Memory
+    }
+}
+
+impl From<Invalid> for PlainFault {
+    fn from(_: Invalid) -> PlainFault {
+        PlainFault::NotPlain
     }
 }

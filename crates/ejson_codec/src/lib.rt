@@ -4,6 +4,7 @@
 mod base64_text;
 mod fault;
 mod laws;
+mod plain;
 mod reading;
 mod shape;
 mod text_writer;
@@ -12,8 +13,9 @@ mod token_writing;
 mod writing;
 
 use ejson_value::{ListOf, Text};
-pub use fault::{EjsonFault, ParseFault, ReadFault};
+pub use fault::{EjsonFault, ParseFault, PlainFault, ReadFault};
 pub use laws::{one_tree, size_of_text};
+pub use plain::{parse_members, parse_plain};
 pub use reading::read;
 pub use text_writer::TextWriter;
 pub use texts::{parse, text};

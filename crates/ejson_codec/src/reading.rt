@@ -18,7 +18,7 @@ use serde_json::{Map, Number, Value as Json};
 use std::alloc::Global;
 
 /// How many lists, objects and values of user types may stand in one another.
-const MAX_LEVELS: u8 = 32;
+pub(crate) const MAX_LEVELS: u8 = 32;
 
 /// Reads a tree as a value.
 pub fn read(alloc: Global, tree: &Json) -> Result<Value, ReadFault>
@@ -103,8 +103,8 @@ fn user_of(alloc: Global, name: UserName, value: Value) -> Result<Value, Mem>
     })
 }
 
-// Puts the value at the key.
-fn put_field(alloc: Global, doc: &mut Doc, key: &str, value: Value) -> Result<(), Mem>
+/// Puts the value at the key.
+pub(crate) fn put_field(alloc: Global, doc: &mut Doc, key: &str, value: Value) -> Result<(), Mem>
     ensures { OnOk result (doc.new ≡ put doc.old key.now (view value)) }
 {
     match Text::from_str(alloc, key) {

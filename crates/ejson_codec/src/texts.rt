@@ -11,7 +11,8 @@ ghost use Rattle.ejson_codec.specs.Reading.{max_levels, parsed, GivesParse};
 ghost use Rattle.ejson_codec.specs.Trees.{HasRisingKeys};
 ghost use Rattle.ejson_codec.specs.Written.{written};
 
-use crate::fault::ParseFault;
+use crate::fault::{ParseFault, PlainFault};
+use crate::plain::parse_plain;
 use crate::reading::read;
 use crate::text_writer::TextWriter;
 use crate::token_writing::put_value;
@@ -21,6 +22,18 @@ use std::alloc::Global;
 
 /// Reads a text as a value.
 pub fn parse(alloc: Global, text: &Text) -> Result<Value, ParseFault>
+    ensures found { IfOk result (λ v. (d : Data) × (json.read text.now ≡ Some d) × Reads d (view v) × (depth (view v) ≤ max_levels)) }
+    ensures exact { GivesParse view result (parsed text.now) }
+{
+    match parse_plain(alloc, text.as_str()) {
+        Ok(value) => Ok(value),
+        Err(PlainFault::NotPlain) => parse_tree(alloc, text),
+        Err(PlainFault::Memory) => Err(ParseFault::Memory),
+    }
+}
+
+// Reads a text as a value by its tree.
+fn parse_tree(alloc: Global, text: &Text) -> Result<Value, ParseFault>
     ensures found { IfOk result (λ v. (d : Data) × (json.read text.now ≡ Some d) × Reads d (view v) × (depth (view v) ≤ max_levels)) }
     ensures exact { GivesParse view result (parsed text.now) }
 {
