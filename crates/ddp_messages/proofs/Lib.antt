@@ -1,4 +1,1 @@
 pub mod Each
-pub mod Trees
-pub mod Texts
-pub mod BuiltTurns

@@ -12,7 +12,8 @@ pub mod Answers
 pub mod AnswerLaws
 pub mod Written
 pub mod Limits
-pub mod Built
+pub mod Tokens
+pub mod TokenLaws
 pub mod TextLaws
 pub mod RisingLaws
 pub mod ExactLaws

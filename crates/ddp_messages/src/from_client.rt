@@ -1,18 +1,18 @@
 //! The messages from a client.
-ghost use Rattle.std.specs.Prelude.{◌≡◌, Ok, IfOk};
-ghost use Rattle.serde_json.specs.View.{members_view};
+ghost use Rattle.std.specs.Prelude.{◌≡◌, ◌++◌, Ok, IfOk, OnOk};
 ghost use Rattle.serde_json.specs.Written.{compact_text};
+ghost use Rattle.ejson_codec.specs.Tokens.{tree_tokens};
 ghost use Rattle.ejson_codec.specs.Trees.{HasRisingKeys};
 ghost use Rattle.ddp_messages.specs.ClientMessage.{ClientMessage, client_view};
 ghost use Rattle.ddp_messages.specs.Answers.{IsClientText, client_answer, GivesMessage};
-ghost use Rattle.ddp_messages.specs.Written.{client_members, client_written};
+ghost use Rattle.ddp_messages.specs.Written.{client_written};
 ghost use Rattle.ddp_messages.specs.Limits.{ClientKeepsLimits, ClientHasValues};
 
 use crate::fault::{FieldFault, MsgFault};
-use crate::members::Members;
 use crate::parsing::{parsed, refusal};
 use crate::reading_client::message;
-use crate::writing::{connect, heartbeat, known_if_any, method, of_text, sub, text_of};
+use crate::writing::{connect, heartbeat, known_if_any, method, sub, unsub};
+use ejson_codec::TextWriter;
 use ejson_value::{Items, Mem, Names, Text, Value};
 use std::alloc::Global;
 
@@ -93,22 +93,22 @@ impl FromClient {
         }
     }
 
-    // The members of the message's object.
-    fn members(&self, alloc: Global) -> Result<Members, Mem>
-        ensures { IfOk result (λ ms. members_view ms.entries ≡ client_members (client_view self.now)) }
+    // Puts the message's object behind what is written.
+    fn put(&self, alloc: Global, out: &mut TextWriter) -> Result<(), Mem>
+        ensures { OnOk result (out.new ≡ out.old ++ tree_tokens (client_written (client_view self.now))) }
     {
         match self {
-            FromClient::Connect { version, support } => connect(alloc, version, support),
-            FromClient::Ping { id } => heartbeat(alloc, "ping", id),
-            FromClient::Pong { id } => heartbeat(alloc, "pong", id),
-            FromClient::Sub { id, name, params } => sub(alloc, id, name, params),
-            FromClient::Unsub { id } => of_text(alloc, "unsub", "id", id),
+            FromClient::Connect { version, support } => connect(out, version, support),
+            FromClient::Ping { id } => heartbeat(out, "ping", id),
+            FromClient::Pong { id } => heartbeat(out, "pong", id),
+            FromClient::Sub { id, name, params } => sub(alloc, out, id, name, params),
+            FromClient::Unsub { id } => unsub(out, id),
             FromClient::Method {
                 id,
                 method: name,
                 params,
                 random_seed,
-            } => method(alloc, id, name, params, random_seed),
+            } => method(alloc, out, id, name, params, random_seed),
         }
     }
 
@@ -119,6 +119,8 @@ impl FromClient {
         ensures reads_back { IfOk result (λ text. ClientKeepsLimits (client_view self.now) → IsClientText text (client_view self.now)) }
     {
         self.known();
-        text_of(alloc, self.members(alloc)?)
+        let mut out = TextWriter::new(alloc)?;
+        self.put(alloc, &mut out)?;
+        Ok(out.finish())
     }
 }

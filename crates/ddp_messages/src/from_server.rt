@@ -1,23 +1,24 @@
 //! The messages from a server.
-ghost use Rattle.std.specs.Prelude.{◌≡◌, Ok, IfOk};
-ghost use Rattle.serde_json.specs.View.{members_view};
+ghost use Rattle.std.specs.Prelude.{◌≡◌, ◌++◌, Ok, IfOk, OnOk, option_map};
+ghost use Rattle.serde_json.specs.Data.{object, no_members};
 ghost use Rattle.serde_json.specs.Written.{compact_text};
+ghost use Rattle.ejson_value.specs.View.{view};
+ghost use Rattle.ejson_codec.specs.Tokens.{tree_tokens};
 ghost use Rattle.ejson_codec.specs.Trees.{HasRisingKeys};
-ghost use Rattle.ddp_messages.specs.ServerMessage.{ServerMessage, server_view};
+ghost use Rattle.ddp_messages.specs.ServerMessage.{ServerMessage, server_view, about, finished};
 ghost use Rattle.ddp_messages.specs.Answers.{IsServerText, server_answer, GivesMessage};
-ghost use Rattle.ddp_messages.specs.Written.{data_members as document_members, server_members, server_written};
+ghost use Rattle.ddp_messages.specs.Written.{data_members, server_written};
 ghost use Rattle.ddp_messages.specs.Limits.{DataHasValues, ServerKeepsLimits, ServerHasValues};
 
 use crate::fault::{FieldFault, MsgFault};
-use crate::members::Members;
 use crate::parsing::{parsed, refusal};
 use crate::reading_server::message;
 use crate::writing::{
-    added, changed, error, heartbeat, known_if_any, nosub, of_text, of_texts, removed, result_of,
-    text_of,
+    added, changed, error, heartbeat, known_if_any, nosub, of_text, ready, removed, result_of,
+    updated,
 };
+use ejson_codec::TextWriter;
 use ejson_value::{DataMsg, Fault, Mem, Names, Text, Value};
-use serde_json::Map;
 use std::alloc::Global;
 
 /// A message from a server to a client.
@@ -115,26 +116,26 @@ impl FromServer {
         }
     }
 
-    // The members of the message's object.
-    fn members(&self, alloc: Global) -> Result<Members, Mem>
-        ensures { IfOk result (λ ms. members_view ms.entries ≡ server_members (server_view self.now)) }
+    // Puts the message's object behind what is written.
+    fn put(&self, alloc: Global, out: &mut TextWriter) -> Result<(), Mem>
+        ensures { OnOk result (out.new ≡ out.old ++ tree_tokens (server_written (server_view self.now))) }
     {
         match self {
-            FromServer::Connected { session } => of_text(alloc, "connected", "session", session),
-            FromServer::Failed { version } => of_text(alloc, "failed", "version", version),
-            FromServer::Ping { id } => heartbeat(alloc, "ping", id),
-            FromServer::Pong { id } => heartbeat(alloc, "pong", id),
-            FromServer::Nosub { id, error } => nosub(alloc, id, error),
-            FromServer::Ready { subs } => of_texts(alloc, "ready", "subs", subs),
-            FromServer::Data(message) => data_members(alloc, message),
+            FromServer::Connected { session } => of_text(out, "connected", "session", session),
+            FromServer::Failed { version } => of_text(out, "failed", "version", version),
+            FromServer::Ping { id } => heartbeat(out, "ping", id),
+            FromServer::Pong { id } => heartbeat(out, "pong", id),
+            FromServer::Nosub { id, error } => nosub(alloc, out, id, error),
+            FromServer::Ready { subs } => ready(out, subs),
+            FromServer::Data(message) => put_data(alloc, out, message),
             FromServer::Result {
                 id,
                 error,
                 result: value,
-            } => result_of(alloc, id, error, value),
-            FromServer::Updated { methods } => of_texts(alloc, "updated", "methods", methods),
-            FromServer::Error { reason, offending } => error(alloc, reason, offending),
-            FromServer::Unknown => Ok(Map::new(alloc)),
+            } => result_of(alloc, out, id, error, value),
+            FromServer::Updated { methods } => updated(out, methods),
+            FromServer::Error { reason, offending } => error(alloc, out, reason, offending),
+            FromServer::Unknown => nothing(out),
         }
     }
 
@@ -146,7 +147,9 @@ impl FromServer {
         ensures reads_back { IfOk result (λ text. ServerKeepsLimits (server_view self.now) → IsServerText text (server_view self.now)) }
     {
         self.known();
-        text_of(alloc, self.members(alloc)?)
+        let mut out = TextWriter::new(alloc)?;
+        self.put(alloc, &mut out)?;
+        Ok(out.finish())
     }
 }
 
@@ -159,17 +162,48 @@ fn known_document(message: &DataMsg)
     }
 }
 
-// The members of a message about a document.
-fn data_members(alloc: Global, message: &DataMsg) -> Result<Members, Mem>
-    ensures { IfOk result (λ ms. members_view ms.entries ≡ document_members message.now) }
+// Puts the object of a message about a document behind what is written.
+fn put_data(alloc: Global, out: &mut TextWriter, message: &DataMsg) -> Result<(), Mem>
+    ensures { OnOk result (out.new ≡ out.old ++ tree_tokens (object (data_members message.now))) }
 {
     match message {
-        DataMsg::Added { key, fields } => added(alloc, key, fields),
+        DataMsg::Added { key, fields } => added(alloc, out, key, fields),
         DataMsg::Changed {
             key,
             fields,
             cleared,
-        } => changed(alloc, key, fields, cleared),
-        DataMsg::Removed { key } => removed(alloc, key),
+        } => changed(alloc, out, key, fields, cleared),
+        DataMsg::Removed { key } => removed(alloc, out, key),
     }
+}
+
+// Puts the object without members behind what is written.
+fn nothing(out: &mut TextWriter) -> Result<(), Mem>
+    ensures { OnOk result (out.new ≡ out.old ++ tree_tokens (object no_members)) }
+{
+    out.begin_object()?;
+    out.end_object()
+}
+
+/// The text of a message about a document.
+pub fn data_text(alloc: Global, message: &DataMsg) -> Result<Text, Mem>
+    ensures { IfOk result (λ text. text ≡ compact_text (server_written (about message.now))) }
+{
+    let mut out = TextWriter::new(alloc)?;
+    put_data(alloc, &mut out, message)?;
+    Ok(out.finish())
+}
+
+/// The text of a `result`.
+pub fn result_text(
+    alloc: Global,
+    id: &Text,
+    error: &Option<Fault>,
+    value: &Option<Value>,
+) -> Result<Text, Mem>
+    ensures { IfOk result (λ text. text ≡ compact_text (server_written (finished id.now error.now (option_map view value.now)))) }
+{
+    let mut out = TextWriter::new(alloc)?;
+    result_of(alloc, &mut out, id, error, value)?;
+    Ok(out.finish())
 }

@@ -17,7 +17,7 @@ mod writing;
 pub use ejson_value::{DataMsg, Fault};
 pub use fault::MsgFault;
 pub use from_client::FromClient;
-pub use from_server::FromServer;
+pub use from_server::{FromServer, data_text, result_text};
 pub use laws::{
     client_message_reads_back, client_table_is_exact, no_other_wire_form, one_client_message,
     one_server_message, server_message_reads_back, server_table_is_exact, wire_form_has_its_id,

@@ -1,109 +1,145 @@
 //! Writing the members of a message.
-ghost use Rattle.std.specs.Prelude.{◌≡◌, IfOk, OnOk, option_map, codes};
-ghost use Rattle.serde_json.specs.Data.{string, array, put as put_at, no_members, member};
-ghost use Rattle.serde_json.specs.View.{view as json_view, items_view, members_view};
-ghost use Rattle.value_model.specs.Val.{vals_of};
+ghost use Rattle.std.specs.Prelude.{◌≡◌, ◌++◌, ◌∷◌, [], IfOk, OnOk, Some, option_map};
+ghost use Rattle.json.specs.Token.{begin_array};
+ghost use Rattle.serde_json.specs.Data.{string, array};
 ghost use Rattle.ejson_value.specs.View.{view};
-ghost use Rattle.ejson_codec.specs.Written.{written, items_written};
-ghost use Rattle.ddp_messages.specs.Written.{text_items, texts_tree as every_text, document_tree as fields_tree, unless_empty, told, fault_written};
-ghost use Rattle.ddp_messages.specs.Built.{put_if as put_some};
+ghost use Rattle.ejson_codec.specs.Tokens.{tree_tokens, elements_tokens};
+ghost use Rattle.ejson_codec.specs.Written.{written};
+ghost use Rattle.ddp_messages.specs.Tokens.{field_tokens};
+ghost use Rattle.ddp_messages.specs.Written.{text_tree, text_items, texts_tree, values_tree, document_tree, unless_empty, told, fault_written};
 
-use ejson_codec::{put_member, write, write_document};
+use ejson_codec::{TextWriter, put_document, put_items, put_value};
 use ejson_value::{Doc, Fault, Items, Mem, Names, Text, Value};
-use serde_json::{Map, Value as Json};
 use std::alloc::Global;
 
-pub(crate) type Members = Map<String, Json>;
-
-// ---- trees
-
-/// The tree of a text.
-pub(crate) fn text_tree(alloc: Global, text: &Text) -> Result<Json, Mem>
-    ensures { IfOk result (λ tree. json_view tree ≡ string text.now) }
+/// Puts these words at the key.
+pub(crate) fn put_str(out: &mut TextWriter, key: &str, words: &str) -> Result<(), Mem>
+    ensures { OnOk result (out.new ≡ out.old ++ field_tokens key.now (text_tree words.now)) }
 {
-    Ok(Json::String(String::from_str(alloc, text.as_str())?))
+    out.key(key)?;
+    out.string(words)
 }
 
-pub(crate) fn optional_text_tree(alloc: Global, text: &Option<Text>) -> Result<Option<Json>, Mem>
-    ensures { IfOk result (λ tree. option_map json_view tree ≡ option_map string text.now) }
+/// Puts a text at the key.
+pub(crate) fn put_text(out: &mut TextWriter, key: &str, text: &Text) -> Result<(), Mem>
+    ensures { OnOk result (out.new ≡ out.old ++ field_tokens key.now (text_tree text.now)) }
+{
+    put_str(out, key, text.as_str())
+}
+
+/// Puts a text at the key, if there is one.
+pub(crate) fn put_optional_text(
+    out: &mut TextWriter,
+    key: &str,
+    text: &Option<Text>,
+) -> Result<(), Mem>
+    ensures { OnOk result (out.new ≡ out.old ++ field_tokens key.now (option_map string text.now)) }
 {
     match text {
-        Some(text) => Ok(Some(text_tree(alloc, text)?)),
-        None => Ok(None),
+        Some(text) => put_text(out, key, text),
+        None => Ok(()),
     }
 }
 
-/// The tree of a list of texts.
-pub(crate) fn texts_tree(alloc: Global, texts: &Names) -> Result<Json, Mem>
-    ensures { IfOk result (λ tree. json_view tree ≡ array (text_items texts.now)) }
+// Puts a list of texts behind what is written.
+fn put_array(out: &mut TextWriter, texts: &Names) -> Result<(), Mem>
+    ensures { OnOk result (out.new ≡ out.old ++ begin_array ∷ elements_tokens (text_items texts.now)) }
 {
-    Ok(Json::Array(text_trees(alloc, texts)?))
-}
-
-fn text_trees(alloc: Global, texts: &Names) -> Result<Vec<Json>, Mem>
-    ensures { IfOk result (λ trees. items_view trees.items ≡ text_items texts.now) }
-{
-    let mut trees = Vec::new(alloc);
+    out.begin_array()?;
     for text in texts.as_slice() {
-        trees.push(text_tree(alloc, text)?)?;
+        out.string(text.as_str())?;
     }
-    Ok(trees)
+    out.end_array()
 }
 
-pub(crate) fn optional_texts_tree(alloc: Global, texts: &Option<Names>) -> Result<Option<Json>, Mem>
-    ensures { IfOk result (λ tree. option_map json_view tree ≡ option_map (λ ss. array (text_items ss)) texts.now) }
+/// Puts a list of texts at the key.
+pub(crate) fn put_texts(out: &mut TextWriter, key: &str, texts: &Names) -> Result<(), Mem>
+    ensures { OnOk result (out.new ≡ out.old ++ field_tokens key.now (texts_tree texts.now)) }
+{
+    out.key(key)?;
+    put_array(out, texts)
+}
+
+/// Puts a list of texts at the key, if there is one.
+pub(crate) fn put_optional_texts(
+    out: &mut TextWriter,
+    key: &str,
+    texts: &Option<Names>,
+) -> Result<(), Mem>
+    ensures { OnOk result (out.new ≡ out.old ++ field_tokens key.now (option_map (λ ss. array (text_items ss)) texts.now)) }
 {
     match texts {
-        Some(texts) => Ok(Some(texts_tree(alloc, texts)?)),
-        None => Ok(None),
+        Some(texts) => put_texts(out, key, texts),
+        None => Ok(()),
     }
 }
 
-/// The tree of a list of texts, None where it is empty.
-pub(crate) fn some_texts_tree(alloc: Global, texts: &Names) -> Result<Option<Json>, Mem>
-    ensures { IfOk result (λ tree. option_map json_view tree ≡ unless_empty every_text texts.now) }
+/// Puts a list of texts at the key, unless it is empty.
+pub(crate) fn put_some_texts(out: &mut TextWriter, key: &str, texts: &Names) -> Result<(), Mem>
+    ensures { OnOk result (out.new ≡ out.old ++ field_tokens key.now (unless_empty texts_tree texts.now)) }
 {
     if texts.is_empty() {
-        Ok(None)
+        Ok(())
     } else {
-        Ok(Some(texts_tree(alloc, texts)?))
+        put_texts(out, key, texts)
     }
 }
 
-/// The tree of a list of values.
-pub(crate) fn values_tree(alloc: Global, values: &Items) -> Result<Json, Mem>
-    ensures { IfOk result (λ tree. json_view tree ≡ array (items_written (vals_of values.now))) }
+/// Puts a list of values at the key.
+pub(crate) fn put_values(
+    alloc: Global,
+    out: &mut TextWriter,
+    key: &str,
+    values: &Items,
+) -> Result<(), Mem>
+    ensures { OnOk result (out.new ≡ out.old ++ field_tokens key.now (values_tree values.now)) }
 {
-    Ok(Json::Array(value_trees(alloc, values)?))
+    out.key(key)?;
+    put_items(alloc, out, values)
 }
 
-fn value_trees(alloc: Global, values: &Items) -> Result<Vec<Json>, Mem>
-    ensures { IfOk result (λ trees. items_view trees.items ≡ items_written (vals_of values.now)) }
+/// Puts a value at the key, if there is one.
+pub(crate) fn put_optional_value(
+    alloc: Global,
+    out: &mut TextWriter,
+    key: &str,
+    value: &Option<Value>,
+) -> Result<(), Mem>
+    ensures { OnOk result (out.new ≡ out.old ++ field_tokens key.now (option_map written (option_map view value.now))) }
 {
-    let mut trees = Vec::new(alloc);
-    for value in values.as_slice() {
-        trees.push(write(alloc, value)?)?;
-    }
-    Ok(trees)
+    let Some(value) = value else {
+        return Ok(());
+    };
+    out.key(key)?;
+    put_value(alloc, out, value)
 }
 
-pub(crate) fn optional_value_tree(alloc: Global, value: &Option<Value>) -> Result<Option<Json>, Mem>
-    ensures { IfOk result (λ tree. option_map json_view tree ≡ option_map written (option_map view value.now)) }
+/// Puts a document's fields at the key.
+pub(crate) fn put_fields(
+    alloc: Global,
+    out: &mut TextWriter,
+    key: &str,
+    fields: &Doc,
+) -> Result<(), Mem>
+    ensures { OnOk result (out.new ≡ out.old ++ field_tokens key.now (document_tree fields.now)) }
 {
-    match value {
-        Some(value) => Ok(Some(write(alloc, value)?)),
-        None => Ok(None),
-    }
+    out.key(key)?;
+    put_document(alloc, out, fields)
 }
 
-/// The tree of a document's fields, None where there are none.
-pub(crate) fn some_document_tree(alloc: Global, fields: &Doc) -> Result<Option<Json>, Mem>
-    ensures { IfOk result (λ tree. option_map json_view tree ≡ unless_empty fields_tree fields.now) }
+/// Puts a document's fields at the key, unless there are none.
+pub(crate) fn put_some_fields(
+    alloc: Global,
+    out: &mut TextWriter,
+    key: &str,
+    fields: &Doc,
+) -> Result<(), Mem>
+    ensures { OnOk result (out.new ≡ out.old ++ field_tokens key.now (unless_empty document_tree fields.now)) }
 {
     if fields.is_empty() {
-        Ok(None)
+        Ok(())
     } else {
-        Ok(Some(write_document(alloc, fields)?))
+        put_fields(alloc, out, key, fields)
     }
 }
 
@@ -119,73 +155,32 @@ fn told_text(alloc: Global, fault: &Fault) -> Result<Text, Mem>
     Ok(text)
 }
 
-// The tree of an error.
-fn fault_tree(alloc: Global, fault: &Fault) -> Result<Json, Mem>
-    ensures { IfOk result (λ tree. json_view tree ≡ fault_written fault.now) }
+// Puts an error behind what is written.
+fn put_fault(out: &mut TextWriter, fault: &Fault, message: &Text) -> Result<(), Mem>
+    requires { message.now ≡ told fault.now }
+    ensures { OnOk result (out.new ≡ out.old ++ tree_tokens (fault_written fault.now)) }
 {
-    let mut members = Map::new(alloc);
-    put_text(alloc, &mut members, "error", &fault.code)?;
-    put_str(alloc, &mut members, "errorType", "Meteor.Error")?;
-    put_text(alloc, &mut members, "message", &told_text(alloc, fault)?)?;
-    put_text(alloc, &mut members, "reason", &fault.reason)?;
-    Ok(Json::Object(members))
+    out.begin_object()?;
+    put_text(out, "error", &fault.code)?;
+    put_str(out, "errorType", "Meteor.Error")?;
+    put_text(out, "message", message)?;
+    put_text(out, "reason", &fault.reason)?;
+    out.end_object()
 }
 
-pub(crate) fn optional_fault_tree(alloc: Global, fault: &Option<Fault>) -> Result<Option<Json>, Mem>
-    ensures { IfOk result (λ tree. option_map json_view tree ≡ option_map fault_written fault.now) }
-{
-    match fault {
-        Some(fault) => Ok(Some(fault_tree(alloc, fault)?)),
-        None => Ok(None),
-    }
-}
-
-// ---- members
-
-/// Puts the tree at the key, if there is one.
-pub(crate) fn put_if(
+/// Puts an error at the key, if there is one.
+pub(crate) fn put_optional_fault(
     alloc: Global,
-    members: &mut Members,
+    out: &mut TextWriter,
     key: &str,
-    tree: Option<Json>,
+    fault: &Option<Fault>,
 ) -> Result<(), Mem>
-    ensures { OnOk result (members_view members.new.entries ≡ put_some key.now (option_map json_view tree) (members_view members.old.entries)) }
+    ensures { OnOk result (out.new ≡ out.old ++ field_tokens key.now (option_map fault_written fault.now)) }
 {
-    match tree {
-        Some(tree) => put_member(alloc, members, key, tree),
-        None => Ok(()),
-    }
-}
-
-/// Puts the text at the key.
-pub(crate) fn put_text(
-    alloc: Global,
-    members: &mut Members,
-    key: &str,
-    text: &Text,
-) -> Result<(), Mem>
-    ensures { OnOk result (members_view members.new.entries ≡ put_at key.now (string text.now) (members_view members.old.entries)) }
-{
-    put_member(alloc, members, key, text_tree(alloc, text)?)
-}
-
-// Puts the text at the key.
-fn put_str(alloc: Global, members: &mut Members, key: &str, text: &str) -> Result<(), Mem>
-    ensures { OnOk result (members_view members.new.entries ≡ put_at key.now (string text.now) (members_view members.old.entries)) }
-{
-    put_member(
-        alloc,
-        members,
-        key,
-        Json::String(String::from_str(alloc, text)?),
-    )
-}
-
-/// The members of a message of this name, without its fields.
-pub(crate) fn named(alloc: Global, name: &str) -> Result<Members, Mem>
-    ensures { IfOk result (λ ms. members_view ms.entries ≡ member (codes "msg") (string name.now) no_members) }
-{
-    let mut members = Map::new(alloc);
-    put_str(alloc, &mut members, "msg", name)?;
-    Ok(members)
+    let Some(fault) = fault else {
+        return Ok(());
+    };
+    let message = told_text(alloc, fault)?;
+    out.key(key)?;
+    put_fault(out, fault, &message)
 }

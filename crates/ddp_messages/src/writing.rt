@@ -1,36 +1,24 @@
-//! Writing the messages as JSON objects, and these as texts.
-ghost use Rattle.std.specs.Prelude.{◌≡◌, ◌≤◌, ◌∷◌, [], IfOk, IfSome, Some, false, option_map, codes};
-ghost use Rattle.serde_json.specs.Data.{string, array, object, put, no_members, member, depth};
-ghost use Rattle.serde_json.specs.Read as json;
-ghost use Rattle.serde_json.specs.Written.{has_float, compact_text};
-ghost use Rattle.serde_json.specs.View.{members_view};
+//! Writing the messages as the tokens of their JSON objects.
+ghost use Rattle.std.specs.Prelude.{◌≡◌, ◌++◌, ◌∷◌, [], OnOk, IfSome, option_map, codes};
+ghost use Rattle.serde_json.specs.Data.{string, object};
 ghost use Rattle.value_model.specs.Valid.{IsValue};
 ghost use Rattle.ejson_value.specs.View.{view};
 ghost use Rattle.ejson_value.specs.declared.message.DataMsg.TheVariants.{Added, Changed, Removed};
-ghost use Rattle.ddp_messages.specs.ClientMessage.{connect as connect_message, sub as sub_message, method as method_message};
-ghost use Rattle.ddp_messages.specs.ServerMessage.{nosub as nosub_message, finished as result_message, refused as error_message};
+ghost use Rattle.ejson_codec.specs.Tokens.{tree_tokens};
+ghost use Rattle.ddp_messages.specs.ClientMessage.{connect as connect_message, sub as sub_message, unsub as unsub_message, method as method_message};
+ghost use Rattle.ddp_messages.specs.ServerMessage.{nosub as nosub_message, ready as ready_message, finished as result_message, updated as updated_message, refused as error_message};
+ghost use Rattle.ddp_messages.specs.Tokens.{field_tokens};
 ghost use Rattle.ddp_messages.specs.Wire.{wire_of};
-ghost use Rattle.ddp_messages.specs.Written.{present, text_tree as every_text, text_items, client_members, data_members, server_members};
+ghost use Rattle.ddp_messages.specs.Written.{present, text_tree, client_written, data_members, server_written};
 
 use crate::members::{
-    Members, named, optional_fault_tree, optional_text_tree, optional_texts_tree,
-    optional_value_tree, put_if, put_text, some_document_tree, some_texts_tree, texts_tree,
-    values_tree,
+    put_fields, put_optional_fault, put_optional_text, put_optional_texts, put_optional_value,
+    put_some_fields, put_some_texts, put_str, put_text, put_texts, put_values,
 };
 use crate::wire::wire_id;
-use ejson_codec::{put_member, write_document};
+use ejson_codec::TextWriter;
 use ejson_value::{Doc, Fault, Items, Key, Mem, Names, Text, Value};
-use serde_json::Value as Json;
 use std::alloc::Global;
-
-/// The text of an object of these members.
-pub(crate) fn text_of(alloc: Global, members: Members) -> Result<Text, Mem>
-    ensures exact { IfOk result (λ text. has_float (object (members_view members.entries)) ≡ false → text ≡ compact_text (object (members_view members.entries))) }
-    ensures reads { IfOk result (λ text. depth (object (members_view members.entries)) ≤ json.max_depth → json.read text ≡ Some (object (members_view members.entries))) }
-{
-    let tree = Json::Object(members);
-    Ok(Text::from_string(tree.to_string(alloc)?))
-}
 
 /// Tells a proof what the value keeps, if there is one; it does nothing.
 pub(crate) fn known_if_any(value: &Option<Value>)
@@ -41,178 +29,197 @@ pub(crate) fn known_if_any(value: &Option<Value>)
     }
 }
 
-/// A message with one field, a text.
-pub(crate) fn of_text(alloc: Global, name: &str, key: &str, text: &Text) -> Result<Members, Mem>
-    ensures { IfOk result (λ ms. members_view ms.entries ≡ put key.now (string text.now) (member (codes "msg") (string name.now) no_members)) }
+/// A message with one field, a text whose key goes behind `msg`.
+pub(crate) fn of_text(out: &mut TextWriter, name: &str, key: &str, text: &Text) -> Result<(), Mem>
+    ensures { OnOk result (out.new ≡ out.old ++ tree_tokens (object (present ((codes "msg", text_tree name.now) ∷ (key.now, text_tree text.now) ∷ [])))) }
 {
-    let mut members = named(alloc, name)?;
-    put_text(alloc, &mut members, key, text)?;
-    Ok(members)
-}
-
-/// A message with one field, a list of texts.
-pub(crate) fn of_texts(alloc: Global, name: &str, key: &str, texts: &Names) -> Result<Members, Mem>
-    ensures { IfOk result (λ ms. members_view ms.entries ≡ put key.now (array (text_items texts.now)) (member (codes "msg") (string name.now) no_members)) }
-{
-    let mut members = named(alloc, name)?;
-    put_member(alloc, &mut members, key, texts_tree(alloc, texts)?)?;
-    Ok(members)
+    out.begin_object()?;
+    put_str(out, "msg", name)?;
+    put_text(out, key, text)?;
+    out.end_object()
 }
 
 /// A `ping` or a `pong`.
-pub(crate) fn heartbeat(alloc: Global, name: &str, id: &Option<Text>) -> Result<Members, Mem>
-    ensures { IfOk result (λ ms. members_view ms.entries ≡ present ((codes "id", option_map string id.now) ∷ (codes "msg", every_text name.now) ∷ [])) }
+pub(crate) fn heartbeat(out: &mut TextWriter, name: &str, id: &Option<Text>) -> Result<(), Mem>
+    ensures { OnOk result (out.new ≡ out.old ++ tree_tokens (object (present ((codes "id", option_map string id.now) ∷ (codes "msg", text_tree name.now) ∷ [])))) }
 {
-    let mut members = named(alloc, name)?;
-    put_if(alloc, &mut members, "id", optional_text_tree(alloc, id)?)?;
-    Ok(members)
+    out.begin_object()?;
+    put_optional_text(out, "id", id)?;
+    put_str(out, "msg", name)?;
+    out.end_object()
 }
+
+// ---- from a client
 
 pub(crate) fn connect(
-    alloc: Global,
+    out: &mut TextWriter,
     version: &Text,
     support: &Option<Names>,
-) -> Result<Members, Mem>
-    ensures { IfOk result (λ ms. members_view ms.entries ≡ client_members (connect_message version.now support.now)) }
+) -> Result<(), Mem>
+    ensures { OnOk result (out.new ≡ out.old ++ tree_tokens (client_written (connect_message version.now support.now))) }
 {
-    let mut members = of_text(alloc, "connect", "version", version)?;
-    put_if(
-        alloc,
-        &mut members,
-        "support",
-        optional_texts_tree(alloc, support)?,
-    )?;
-    Ok(members)
+    out.begin_object()?;
+    put_str(out, "msg", "connect")?;
+    put_optional_texts(out, "support", support)?;
+    put_text(out, "version", version)?;
+    out.end_object()
 }
 
-pub(crate) fn sub(alloc: Global, id: &Text, name: &Text, params: &Items) -> Result<Members, Mem>
-    ensures { IfOk result (λ ms. members_view ms.entries ≡ client_members (sub_message id.now name.now params.now)) }
+pub(crate) fn sub(
+    alloc: Global,
+    out: &mut TextWriter,
+    id: &Text,
+    name: &Text,
+    params: &Items,
+) -> Result<(), Mem>
+    ensures { OnOk result (out.new ≡ out.old ++ tree_tokens (client_written (sub_message id.now name.now params.now))) }
 {
-    let mut members = of_text(alloc, "sub", "id", id)?;
-    put_text(alloc, &mut members, "name", name)?;
-    put_member(alloc, &mut members, "params", values_tree(alloc, params)?)?;
-    Ok(members)
+    out.begin_object()?;
+    put_text(out, "id", id)?;
+    put_str(out, "msg", "sub")?;
+    put_text(out, "name", name)?;
+    put_values(alloc, out, "params", params)?;
+    out.end_object()
+}
+
+pub(crate) fn unsub(out: &mut TextWriter, id: &Text) -> Result<(), Mem>
+    ensures { OnOk result (out.new ≡ out.old ++ tree_tokens (client_written (unsub_message id.now))) }
+{
+    out.begin_object()?;
+    put_text(out, "id", id)?;
+    put_str(out, "msg", "unsub")?;
+    out.end_object()
 }
 
 pub(crate) fn method(
     alloc: Global,
+    out: &mut TextWriter,
     id: &Text,
     method: &Text,
     params: &Items,
     random_seed: &Option<Value>,
-) -> Result<Members, Mem>
-    ensures { IfOk result (λ ms. members_view ms.entries ≡ client_members (method_message id.now method.now params.now (option_map view random_seed.now))) }
+) -> Result<(), Mem>
+    ensures { OnOk result (out.new ≡ out.old ++ tree_tokens (client_written (method_message id.now method.now params.now (option_map view random_seed.now)))) }
 {
-    let mut members = of_text(alloc, "method", "id", id)?;
-    put_text(alloc, &mut members, "method", method)?;
-    put_member(alloc, &mut members, "params", values_tree(alloc, params)?)?;
-    put_if(
-        alloc,
-        &mut members,
-        "randomSeed",
-        optional_value_tree(alloc, random_seed)?,
-    )?;
-    Ok(members)
+    out.begin_object()?;
+    put_text(out, "id", id)?;
+    put_text(out, "method", method)?;
+    put_str(out, "msg", "method")?;
+    put_values(alloc, out, "params", params)?;
+    put_optional_value(alloc, out, "randomSeed", random_seed)?;
+    out.end_object()
 }
 
-pub(crate) fn nosub(alloc: Global, id: &Text, error: &Option<Fault>) -> Result<Members, Mem>
-    ensures { IfOk result (λ ms. members_view ms.entries ≡ server_members (nosub_message id.now error.now)) }
+// ---- from a server
+
+pub(crate) fn nosub(
+    alloc: Global,
+    out: &mut TextWriter,
+    id: &Text,
+    error: &Option<Fault>,
+) -> Result<(), Mem>
+    ensures { OnOk result (out.new ≡ out.old ++ tree_tokens (server_written (nosub_message id.now error.now))) }
 {
-    let mut members = of_text(alloc, "nosub", "id", id)?;
-    put_if(
-        alloc,
-        &mut members,
-        "error",
-        optional_fault_tree(alloc, error)?,
-    )?;
-    Ok(members)
+    out.begin_object()?;
+    put_optional_fault(alloc, out, "error", error)?;
+    put_text(out, "id", id)?;
+    put_str(out, "msg", "nosub")?;
+    out.end_object()
+}
+
+pub(crate) fn ready(out: &mut TextWriter, subs: &Names) -> Result<(), Mem>
+    ensures { OnOk result (out.new ≡ out.old ++ tree_tokens (server_written (ready_message subs.now))) }
+{
+    out.begin_object()?;
+    put_str(out, "msg", "ready")?;
+    put_texts(out, "subs", subs)?;
+    out.end_object()
+}
+
+pub(crate) fn updated(out: &mut TextWriter, methods: &Names) -> Result<(), Mem>
+    ensures { OnOk result (out.new ≡ out.old ++ tree_tokens (server_written (updated_message methods.now))) }
+{
+    out.begin_object()?;
+    put_texts(out, "methods", methods)?;
+    put_str(out, "msg", "updated")?;
+    out.end_object()
 }
 
 pub(crate) fn result_of(
     alloc: Global,
+    out: &mut TextWriter,
     id: &Text,
     error: &Option<Fault>,
     value: &Option<Value>,
-) -> Result<Members, Mem>
-    ensures { IfOk result (λ ms. members_view ms.entries ≡ server_members (result_message id.now error.now (option_map view value.now))) }
+) -> Result<(), Mem>
+    ensures { OnOk result (out.new ≡ out.old ++ tree_tokens (server_written (result_message id.now error.now (option_map view value.now)))) }
 {
-    let mut members = of_text(alloc, "result", "id", id)?;
-    put_if(
-        alloc,
-        &mut members,
-        "error",
-        optional_fault_tree(alloc, error)?,
-    )?;
-    put_if(
-        alloc,
-        &mut members,
-        "result",
-        optional_value_tree(alloc, value)?,
-    )?;
-    Ok(members)
+    out.begin_object()?;
+    put_optional_fault(alloc, out, "error", error)?;
+    put_text(out, "id", id)?;
+    put_str(out, "msg", "result")?;
+    put_optional_value(alloc, out, "result", value)?;
+    out.end_object()
 }
 
-pub(crate) fn error(alloc: Global, reason: &Text, offending: &Option<Value>) -> Result<Members, Mem>
-    ensures { IfOk result (λ ms. members_view ms.entries ≡ server_members (error_message reason.now (option_map view offending.now))) }
+pub(crate) fn error(
+    alloc: Global,
+    out: &mut TextWriter,
+    reason: &Text,
+    offending: &Option<Value>,
+) -> Result<(), Mem>
+    ensures { OnOk result (out.new ≡ out.old ++ tree_tokens (server_written (error_message reason.now (option_map view offending.now)))) }
 {
-    let mut members = of_text(alloc, "error", "reason", reason)?;
-    put_if(
-        alloc,
-        &mut members,
-        "offendingMessage",
-        optional_value_tree(alloc, offending)?,
-    )?;
-    Ok(members)
+    out.begin_object()?;
+    put_str(out, "msg", "error")?;
+    put_optional_value(alloc, out, "offendingMessage", offending)?;
+    put_text(out, "reason", reason)?;
+    out.end_object()
 }
 
-// A message about this document, without more.
-fn about(alloc: Global, name: &str, key: &Key) -> Result<Members, Mem>
-    ensures { IfOk result (λ ms. members_view ms.entries ≡ present ((codes "collection", every_text key.now.collection) ∷ (codes "id", every_text (wire_of key.now.id)) ∷ (codes "msg", every_text name.now) ∷ [])) }
+// Puts the wire form of a document's id.
+fn put_id(alloc: Global, out: &mut TextWriter, id: &Text) -> Result<(), Mem>
+    ensures { OnOk result (out.new ≡ out.old ++ field_tokens (codes "id") (text_tree (wire_of id.now))) }
 {
-    let mut members = of_text(alloc, name, "collection", &key.collection)?;
-    put_text(alloc, &mut members, "id", &wire_id(alloc, &key.id)?)?;
-    Ok(members)
+    let wire = wire_id(alloc, id)?;
+    put_text(out, "id", &wire)
 }
 
-pub(crate) fn added(alloc: Global, key: &Key, fields: &Doc) -> Result<Members, Mem>
-    ensures { IfOk result (λ ms. members_view ms.entries ≡ data_members (Added key.now fields.now)) }
+pub(crate) fn added(alloc: Global, out: &mut TextWriter, key: &Key, fields: &Doc) -> Result<(), Mem>
+    ensures { OnOk result (out.new ≡ out.old ++ tree_tokens (object (data_members (Added key.now fields.now)))) }
 {
-    let mut members = about(alloc, "added", key)?;
-    put_member(
-        alloc,
-        &mut members,
-        "fields",
-        write_document(alloc, fields)?,
-    )?;
-    Ok(members)
+    out.begin_object()?;
+    put_text(out, "collection", &key.collection)?;
+    put_fields(alloc, out, "fields", fields)?;
+    put_id(alloc, out, &key.id)?;
+    put_str(out, "msg", "added")?;
+    out.end_object()
 }
 
 pub(crate) fn changed(
     alloc: Global,
+    out: &mut TextWriter,
     key: &Key,
     fields: &Doc,
     cleared: &Names,
-) -> Result<Members, Mem>
-    ensures { IfOk result (λ ms. members_view ms.entries ≡ data_members (Changed key.now fields.now cleared.now)) }
+) -> Result<(), Mem>
+    ensures { OnOk result (out.new ≡ out.old ++ tree_tokens (object (data_members (Changed key.now fields.now cleared.now)))) }
 {
-    let mut members = about(alloc, "changed", key)?;
-    put_if(
-        alloc,
-        &mut members,
-        "fields",
-        some_document_tree(alloc, fields)?,
-    )?;
-    put_if(
-        alloc,
-        &mut members,
-        "cleared",
-        some_texts_tree(alloc, cleared)?,
-    )?;
-    Ok(members)
+    out.begin_object()?;
+    put_some_texts(out, "cleared", cleared)?;
+    put_text(out, "collection", &key.collection)?;
+    put_some_fields(alloc, out, "fields", fields)?;
+    put_id(alloc, out, &key.id)?;
+    put_str(out, "msg", "changed")?;
+    out.end_object()
 }
 
-pub(crate) fn removed(alloc: Global, key: &Key) -> Result<Members, Mem>
-    ensures { IfOk result (λ ms. members_view ms.entries ≡ data_members (Removed key.now)) }
+pub(crate) fn removed(alloc: Global, out: &mut TextWriter, key: &Key) -> Result<(), Mem>
+    ensures { OnOk result (out.new ≡ out.old ++ tree_tokens (object (data_members (Removed key.now)))) }
 {
-    about(alloc, "removed", key)
+    out.begin_object()?;
+    put_text(out, "collection", &key.collection)?;
+    put_id(alloc, out, &key.id)?;
+    put_str(out, "msg", "removed")?;
+    out.end_object()
 }

@@ -1,9 +1,11 @@
-use Rattle.std.proofs.Common.{codes, ap₂, ◌∙◌}
-use Rattle.ddp_messages.specs.Built.{put_if}
-use Rattle.ddp_messages.proofs.BuiltTurns.{changed_built}
+use Rattle.std.proofs.lemmas.Result.{on_ok_weaker}
+use Rattle.ejson_value.specs.declared.message.DataMsg.TheVariants.{Changed}
+use Rattle.ddp_messages.specs.TokenLaws.{table_written}
+use Rattle.ddp_messages.specs.Written.{data_table}
 use Rattle.ddp_messages.proofs.writing.changed.Goals as goal
 
 pub returns : goal.returns
 returns c =
-    c.in_ok-put_if-2.ensures ∙ ap₂ (put_if (codes "cleared")) c.in_ok-some_texts_tree.ensures
-    (c.in_ok-put_if.ensures ∙ ap₂ (put_if (codes "fields")) c.in_ok-some_document_tree.ensures c.in_ok-members.ensures) ∙ changed_built c.args.key.now c.args.fields.now c.args.cleared.now
+    let fields = data_table (Changed c.args.key.now c.args.fields.now c.args.cleared.now) in
+    on_ok_weaker c.end_object.result (λ ended. table_written fields c.args.out.now c.begin_object.new.self c.end_object.new.self c.in_ok-begin_object.ensures.ok
+    (c.put_some_texts.new.out, c.in_ok-put_some_texts.ensures, (c.put_text.new.out, c.in_ok-put_text.ensures, (c.put_some_fields.new.out, c.in_ok-put_some_fields.ensures, (c.put_id.new.out, c.in_ok-put_id.ensures, (c.put_str.new.out, c.in_ok-put_str.ensures, ended)))))) c.end_object.ensures.ok

@@ -1,8 +1,11 @@
-use Rattle.std.proofs.Common.{codes, ap₂, ◌∙◌}
-use Rattle.ddp_messages.specs.Built.{put_if}
-use Rattle.ddp_messages.proofs.BuiltTurns.{connect_built}
+use Rattle.std.proofs.lemmas.Result.{on_ok_weaker}
+use Rattle.ddp_messages.specs.ClientMessage as client
+use Rattle.ddp_messages.specs.TokenLaws.{table_written}
+use Rattle.ddp_messages.specs.Written.{client_table}
 use Rattle.ddp_messages.proofs.writing.connect.Goals as goal
 
 pub returns : goal.returns
 returns c =
-    c.in_ok-put_if.ensures ∙ ap₂ (put_if (codes "support")) c.in_ok-optional_texts_tree.ensures c.in_ok-members.ensures ∙ connect_built c.args.version.now c.args.support.now
+    let fields = client_table (client.connect c.args.version.now c.args.support.now) in
+    on_ok_weaker c.end_object.result (λ ended. table_written fields c.args.out.now c.begin_object.new.self c.end_object.new.self c.in_ok-begin_object.ensures.ok
+    (c.put_str.new.out, c.in_ok-put_str.ensures, (c.put_optional_texts.new.out, c.in_ok-put_optional_texts.ensures, (c.put_text.new.out, c.in_ok-put_text.ensures, ended)))) c.end_object.ensures.ok

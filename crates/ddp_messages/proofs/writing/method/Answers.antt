@@ -1,14 +1,13 @@
-use Rattle.std.proofs.Common.{codes, ap, ap₂, ◌∙◌}
 use Rattle.std.proofs.Common.{option_map}
-use Rattle.serde_json.specs.Data.{put}
+use Rattle.std.proofs.lemmas.Result.{on_ok_weaker}
 use Rattle.ejson_value.specs.View.{view}
-use Rattle.serde_json.specs.Data.{string}
-use Rattle.ddp_messages.specs.Built.{put_if}
-use Rattle.ddp_messages.proofs.BuiltTurns.{method_built}
+use Rattle.ddp_messages.specs.ClientMessage as client
+use Rattle.ddp_messages.specs.TokenLaws.{table_written}
+use Rattle.ddp_messages.specs.Written.{client_table}
 use Rattle.ddp_messages.proofs.writing.method.Goals as goal
 
 pub returns : goal.returns
 returns c =
-    c.in_ok-put_if.ensures ∙ ap₂ (put_if (codes "randomSeed")) c.in_ok-optional_value_tree.ensures
-    (c.in_ok-put_member.ensures.ok ∙ ap₂ (put (codes "params")) c.in_ok-values_tree.ensures (c.in_ok-put_text.ensures ∙ ap (put (codes "method") (string c.args.method.now)) c.in_ok-members.ensures))
-    ∙ method_built c.args.id.now c.args.method.now c.args.params.now (option_map view c.args.random_seed.now)
+    let fields = client_table (client.method c.args.id.now c.args.method.now c.args.params.now (option_map view c.args.random_seed.now)) in
+    on_ok_weaker c.end_object.result (λ ended. table_written fields c.args.out.now c.begin_object.new.self c.end_object.new.self c.in_ok-begin_object.ensures.ok
+    (c.put_text.new.out, c.in_ok-put_text.ensures, (c.put_text-2.new.out, c.in_ok-put_text-2.ensures, (c.put_str.new.out, c.in_ok-put_str.ensures, (c.put_values.new.out, c.in_ok-put_values.ensures, (c.put_optional_value.new.out, c.in_ok-put_optional_value.ensures, ended)))))) c.end_object.ensures.ok

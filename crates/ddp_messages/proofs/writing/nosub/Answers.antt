@@ -1,8 +1,11 @@
-use Rattle.std.proofs.Common.{codes, ap₂, ◌∙◌}
-use Rattle.ddp_messages.specs.Built.{put_if}
-use Rattle.ddp_messages.proofs.BuiltTurns.{nosub_built}
+use Rattle.std.proofs.lemmas.Result.{on_ok_weaker}
+use Rattle.ddp_messages.specs.ServerMessage as server
+use Rattle.ddp_messages.specs.TokenLaws.{table_written}
+use Rattle.ddp_messages.specs.Written.{server_table}
 use Rattle.ddp_messages.proofs.writing.nosub.Goals as goal
 
 pub returns : goal.returns
 returns c =
-    c.in_ok-put_if.ensures ∙ ap₂ (put_if (codes "error")) c.in_ok-optional_fault_tree.ensures c.in_ok-members.ensures ∙ nosub_built c.args.id.now c.args.error.now
+    let fields = server_table (server.nosub c.args.id.now c.args.error.now) in
+    on_ok_weaker c.end_object.result (λ ended. table_written fields c.args.out.now c.begin_object.new.self c.end_object.new.self c.in_ok-begin_object.ensures.ok
+    (c.put_optional_fault.new.out, c.in_ok-put_optional_fault.ensures, (c.put_text.new.out, c.in_ok-put_text.ensures, (c.put_str.new.out, c.in_ok-put_str.ensures, ended)))) c.end_object.ensures.ok

@@ -1,0 +1,11 @@
+use Rattle.std.proofs.lemmas.Result.{on_ok_weaker}
+use Rattle.ddp_messages.specs.ClientMessage as client
+use Rattle.ddp_messages.specs.TokenLaws.{table_written}
+use Rattle.ddp_messages.specs.Written.{client_table}
+use Rattle.ddp_messages.proofs.writing.unsub.Goals as goal
+
+pub returns : goal.returns
+returns c =
+    let fields = client_table (client.unsub c.args.id.now) in
+    on_ok_weaker c.end_object.result (λ ended. table_written fields c.args.out.now c.begin_object.new.self c.end_object.new.self c.in_ok-begin_object.ensures.ok
+    (c.put_text.new.out, c.in_ok-put_text.ensures, (c.put_str.new.out, c.in_ok-put_str.ensures, ended))) c.end_object.ensures.ok
