@@ -167,30 +167,13 @@ pub fn updated_text(alloc: Global, id: &Text) -> Result<Text, Mem>
 fn done_text(alloc: Global, id: &Text, value: &Option<Value>) -> Result<Text, Mem>
     ensures { IfOk result (λ text. text ≡ server_text (server.finished id.now None (option_map view value.now))) }
 {
-    let id = id.copy()?;
-    let result = copy_value(value)?;
-    text_of(
-        alloc,
-        FromServer::Result {
-            id,
-            error: None,
-            result,
-        },
-    )
+    ddp_messages::result_text(alloc, id, &None, value)
 }
 
 fn error_text(alloc: Global, id: &Text, fault: Fault) -> Result<Text, Mem>
     ensures { IfOk result (λ text. text ≡ server_text (result_by (failed fault) id.now)) }
 {
-    let id = id.copy()?;
-    text_of(
-        alloc,
-        FromServer::Result {
-            id,
-            error: Some(fault),
-            result: None,
-        },
-    )
+    ddp_messages::result_text(alloc, id, &Some(fault), &None)
 }
 
 /// The text of the `result` of a method, by how its run came out.
@@ -232,8 +215,7 @@ pub fn refused_texts(alloc: Global, id: &Text) -> Result<Texts, Mem>
 fn data_text(alloc: Global, message: &DataMsg) -> Result<Text, Mem>
     ensures { IfOk result (λ text. text ≡ data_text message.now) }
 {
-    let message = message.copy()?;
-    text_of(alloc, FromServer::Data(message))
+    ddp_messages::data_text(alloc, message)
 }
 
 /// The texts of messages about documents.
