@@ -16,3 +16,4 @@ pub mod CompactLaws
 pub mod ExactLaws
 pub mod Tokens
 pub mod Plain
+pub mod KindLaws
