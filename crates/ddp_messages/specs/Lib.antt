@@ -17,3 +17,4 @@ pub mod TokenLaws
 pub mod TextLaws
 pub mod RisingLaws
 pub mod ExactLaws
+pub mod Plain

@@ -16,7 +16,7 @@ use serde_json::{Number, Value as Json};
 use std::alloc::Global;
 
 /// How many bytes an id of a subscription or a method may have.
-const MAX_ID: usize = 256;
+pub(crate) const MAX_ID: usize = 256;
 
 // ---- the forms
 

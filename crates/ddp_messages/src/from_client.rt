@@ -10,9 +10,10 @@ ghost use Rattle.ddp_messages.specs.Limits.{ClientKeepsLimits, ClientHasValues};
 
 use crate::fault::{FieldFault, MsgFault};
 use crate::parsing::{parsed, refusal};
+use crate::plain;
 use crate::reading_client::message;
 use crate::writing::{connect, heartbeat, known_if_any, method, sub, unsub};
-use ejson_codec::TextWriter;
+use ejson_codec::{PlainFault, TextWriter};
 use ejson_value::{Items, Mem, Names, Text, Value};
 use std::alloc::Global;
 
@@ -62,6 +63,17 @@ impl FromClient {
 
     // Reads a text, with the exact answer alone.
     fn answer(alloc: Global, text: &Text) -> Result<FromClient, MsgFault>
+        ensures { GivesMessage client_view result (client_answer text.now) }
+    {
+        match plain::from_client(alloc, text) {
+            Ok(message) => Ok(message),
+            Err(PlainFault::NotPlain) => Self::by_tree(alloc, text),
+            Err(PlainFault::Memory) => Err(MsgFault::Memory),
+        }
+    }
+
+    // Reads a text by its tree.
+    fn by_tree(alloc: Global, text: &Text) -> Result<FromClient, MsgFault>
         ensures { GivesMessage client_view result (client_answer text.now) }
     {
         let tree = parsed(alloc, text)?;

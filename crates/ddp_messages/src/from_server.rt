@@ -12,12 +12,13 @@ ghost use Rattle.ddp_messages.specs.Limits.{DataHasValues, ServerKeepsLimits, Se
 
 use crate::fault::{FieldFault, MsgFault};
 use crate::parsing::{parsed, refusal};
+use crate::plain;
 use crate::reading_server::message;
 use crate::writing::{
     added, changed, error, heartbeat, known_if_any, nosub, of_text, ready, removed, result_of,
     updated,
 };
-use ejson_codec::TextWriter;
+use ejson_codec::{PlainFault, TextWriter};
 use ejson_value::{DataMsg, Fault, Mem, Names, Text, Value};
 use std::alloc::Global;
 
@@ -81,6 +82,17 @@ impl FromServer {
 
     // Reads a text, with the exact answer alone.
     fn answer(alloc: Global, text: &Text) -> Result<FromServer, MsgFault>
+        ensures { GivesMessage server_view result (server_answer text.now) }
+    {
+        match plain::from_server(alloc, text) {
+            Ok(message) => Ok(message),
+            Err(PlainFault::NotPlain) => Self::by_tree(alloc, text),
+            Err(PlainFault::Memory) => Err(MsgFault::Memory),
+        }
+    }
+
+    // Reads a text by its tree.
+    fn by_tree(alloc: Global, text: &Text) -> Result<FromServer, MsgFault>
         ensures { GivesMessage server_view result (server_answer text.now) }
     {
         let tree = parsed(alloc, text)?;

@@ -9,6 +9,7 @@ mod from_server;
 mod laws;
 mod members;
 mod parsing;
+mod plain;
 mod reading_client;
 mod reading_server;
 mod wire;
