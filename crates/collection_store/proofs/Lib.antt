@@ -4,3 +4,4 @@ pub mod Named
 pub mod Passing
 pub mod Leading
 pub mod FirstFound
+pub mod Updating

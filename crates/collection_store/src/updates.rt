@@ -69,8 +69,9 @@ pub(crate) fn all_updated(
 {
     let mut changes = Changes::new(alloc);
     for one in found {
-        if let Some(change) = updated(alloc, modifier, one)? {
-            changes.push(change)?;
+        match updated(alloc, modifier, one)? {
+            Some(change) => changes.push(change)?,
+            None => {}
         }
     }
     Ok(changes)
