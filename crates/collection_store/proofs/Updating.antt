@@ -32,6 +32,6 @@ one_more_updated m found i one before after change is within makes put all =
     let more : drop i found ≡ get_or found i one ∷ drop (i + 1) found = rw (add-one, drop-cons found i one) refl in
     let rest = all_updated m (rows_in (drop (i + 1) found)) in
     let first : all_updated m (rows_in (drop i found)) ≡ with_both with_change (Ok change) rest =
-        ap (λ (ms : List Match). all_updated m (rows_in ms)) (more ∙ ap (λ (t : Match). t ∷ drop (i + 1) found) (sym is))
-        ∙ ap (λ (u : Outcome (Option Change)). with_both with_change u rest) makes in
+    ap (λ (ms : List Match). all_updated m (rows_in ms)) (more ∙ ap (λ (t : Match). t ∷ drop (i + 1) found) (sym is))
+    ∙ ap (λ (u : Outcome (Option Change)). with_both with_change u rest) makes in
     sym (turn before after change rest put) ∙ (ap (made (λ cs. before ++ cs)) (sym first) ∙ all)

@@ -117,10 +117,12 @@ begin 7 /tasks/update ["t3",{"$set":{"n":3}}] "S1-7" => begun
 step 7 => ended 15 done 1"#;
 
     // A line has 32 levels where it can be read back, its own list counted.
-    const FLAT: &str = r#"begin 9007199254740991 e [[[[[[[[[[[[[[[[[[[[[[[[[[[[[[[]]]]]]]]]]]]]]]]]]]]]]]]]]]]]]] {"n":[1,true]} => ended 1 done
+    const FLAT: &str =
+        r#"begin 9007199254740991 e [[[[[[[[[[[[[[[[[[[[[[[[[[[[[[[]]]]]]]]]]]]]]]]]]]]]]]]]]]]]]] {"n":[1,true]} => ended 1 done
 history => ["history",1] | ["begin","S1",9007199254740991,"e",[[[[[[[[[[[[[[[[[[[[[[[[[[[[[[[]]]]]]]]]]]]]]]]]]]]]]]]]]]]]]],{"n":[1,true]}]"#;
 
-    const DEEP: &str = r#"begin 0 e [[[[[[[[[[[[[[[[[[[[[[[[[[[[[[[[]]]]]]]]]]]]]]]]]]]]]]]]]]]]]]]] null => ended 1 done
+    const DEEP: &str =
+        r#"begin 0 e [[[[[[[[[[[[[[[[[[[[[[[[[[[[[[[[]]]]]]]]]]]]]]]]]]]]]]]]]]]]]]]] null => ended 1 done
 history => ["history",1] | ["begin","S1",0,"e",[[[[[[[[[[[[[[[[[[[[[[[[[[[[[[[[]]]]]]]]]]]]]]]]]]]]]]]]]]]]]]]],null]"#;
 
     fn value(alloc: Global, text: &str) -> Result<Value, Fail> {
