@@ -31,13 +31,13 @@ returns-then-number-eq0 c =
 
 pub returns-then-eq : goal.returns-then-eq
 returns-then-eq c =
-    let same = (bytes_eq-Decides c.as_str-3.result.now c.as_str-4.result.now).0 (sym c.if-eq.ensures) in
-    sym (number_found c.args.count c.in-Ok.number c.args.id.now (omega arith) (omega arith) (omega arith) (sym c.in_ok-id_of.ensures ∙ sym c.as_str-3.ensures ∙ same ∙ c.as_str-4.ensures))
+    let same = (bytes_eq-Decides c.as_str-2.result.now c.as_str-3.result.now).0 (sym c.if-eq.ensures) in
+    sym (number_found c.args.count c.in-Ok.number c.args.id.now (omega arith) (omega arith) (omega arith) (sym c.in_ok-id_of.ensures ∙ sym c.as_str-2.ensures ∙ same ∙ c.as_str-3.ensures))
 
 pub returns-else-eq : goal.returns-else-eq
 returns-else-eq c =
     unread c.args.count c.args.id.now c.as_str.result.now c.parse.result (omega arith) c.as_str.ensures c.parse.ensures.value.0
     (λ n e positive within written.
     let same = same_number c.parse.result c.in-Ok.number n c.in-Ok.is e in
-    let is = c.as_str-3.ensures ∙ c.in_ok-id_of.ensures ∙ ap decimal same ∙ written ∙ sym c.as_str-4.ensures in
-    true≢false (sym ((bytes_eq-Decides c.as_str-3.result.now c.as_str-4.result.now).1 is) ∙ sym c.if-eq.ensures))
+    let is = c.as_str-2.ensures ∙ c.in_ok-id_of.ensures ∙ ap decimal same ∙ written ∙ sym c.as_str-3.ensures in
+    true≢false (sym ((bytes_eq-Decides c.as_str-2.result.now c.as_str-3.result.now).1 is) ∙ sym c.if-eq.ensures))
