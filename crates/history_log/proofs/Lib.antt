@@ -1,2 +1,2 @@
 mod Turns
-mod Kept
+mod EntryLines

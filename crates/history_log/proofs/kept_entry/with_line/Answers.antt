@@ -1,4 +1,4 @@
-use Rattle.history_log.proofs.Kept.{begin_kept, admin_kept}
+use Rattle.history_log.proofs.EntryLines.{begin_kept, admin_kept}
 use Rattle.history_log.proofs.kept_entry.with_line.Goals as goal
 
 pub returns-in-Begin : goal.returns-in-Begin
