@@ -70,13 +70,13 @@ impl Row {
         }
     }
 
-    // A row equal to this one, with room for one more field.
-    pub(crate) fn copied(&self) -> Result<Row, Mem>
+    // A row equal to this one, with room for so many fields more.
+    pub(crate) fn copied(&self, more: usize) -> Result<Row, Mem>
         ensures { IfOk result (λ row. row ≡ self.now) }
     {
         self.known();
         Ok(Row {
-            members: copies(*self.members.allocator(), self.members.as_slice())?,
+            members: copies(*self.members.allocator(), self.members.as_slice(), more)?,
         })
     }
 
@@ -234,11 +234,11 @@ fn copy_of(member: &Member) -> Result<Member, Mem>
     })
 }
 
-// Copies of the members, with room for one more.
-fn copies(alloc: Global, members: &[Member]) -> Result<Vec<Member>, Mem>
+// Copies of the members, with room for so many more.
+fn copies(alloc: Global, members: &[Member], more: usize) -> Result<Vec<Member>, Mem>
     ensures { IfOk result (λ copies. entries (pairs copies.items) ≡ entries (pairs members.now)) }
 {
-    let mut copies = Vec::with_capacity(alloc, members.len().saturating_add(1))?;
+    let mut copies = Vec::with_capacity(alloc, members.len().saturating_add(more))?;
     for member in members {
         copies.push(copy_of(member)?)?;
     }

@@ -229,11 +229,23 @@ impl Drop for Doc {
     }
 }
 
-// Puts the value behind the others.
+// Makes room for one more value, where there is none for twice as many.
+fn make_room(items: &mut Vec<Value>) -> Result<(), Mem>
+    ensures { items.new.items ≡ items.old.items }
+{
+    let len = items.len();
+    if len == items.capacity() {
+        items.reserve_exact(len.max(1))?;
+    }
+    Ok(())
+}
+
+// Puts the value behind the others, with room for twice as many where there is none.
 fn put_behind(items: &mut Vec<Value>, value: Value) -> Result<(), Mem>
     ensures ok { OnOk result (views items.new.items ≡ views items.old.items ++ view value ∷ []) }
     ensures err { OnErr result (views items.new.items ≡ views items.old.items) }
 {
+    make_room(items)?;
     items.push(value)?;
     Ok(())
 }
@@ -256,11 +268,11 @@ fn swap_at(items: &mut Vec<Value>, place: usize, value: Value) -> Value
     mem::replace(&mut items[place], value)
 }
 
-// Copies of the values, with room for one more.
-fn copies(alloc: Global, items: &[Value]) -> Result<Vec<Value>, Mem>
+// Copies of the values, with room for so many more.
+fn copies(alloc: Global, items: &[Value], more: usize) -> Result<Vec<Value>, Mem>
     ensures { IfOk result (λ copies. views copies.items ≡ views items.now) }
 {
-    let mut copies = Vec::with_capacity(alloc, items.len().saturating_add(1))?;
+    let mut copies = Vec::with_capacity(alloc, items.len().saturating_add(more))?;
     for item in items {
         copies.push(copy(item)?)?;
     }
@@ -306,13 +318,13 @@ impl Items {
         }
     }
 
-    // Copies of its values, with room for one more.
-    fn copies(&self) -> Result<Vec<Value>, Mem>
+    // Copies of its values, with room for so many more.
+    fn copies(&self, more: usize) -> Result<Vec<Value>, Mem>
         ensures same { IfOk result (λ copies. views copies.items ≡ self.now) }
         ensures known { AreValues (vals_of self.now) }
     {
         self.known();
-        copies(self.alloc, self.as_slice())
+        copies(self.alloc, self.as_slice(), more)
     }
 
     // Puts these in place of its values.
@@ -336,7 +348,7 @@ impl Items {
                 return put_behind(own, value);
             }
         }
-        let mut items = self.copies()?;
+        let mut items = self.copies(1)?;
         put_behind(&mut items, value)?;
         self.hold(items)
     }
@@ -353,7 +365,7 @@ impl Items {
                 return Ok(take_at(own, place));
             }
         }
-        let mut items = self.copies()?;
+        let mut items = self.copies(0)?;
         let value = take_at(&mut items, place);
         self.hold(items)?;
         Ok(value)
@@ -372,7 +384,7 @@ impl Items {
                 return Ok(swap_at(own, place, value));
             }
         }
-        let mut items = self.copies()?;
+        let mut items = self.copies(0)?;
         let there = swap_at(&mut items, place, value);
         self.hold(items)?;
         Ok(there)
@@ -519,12 +531,12 @@ impl Members {
         }
     }
 
-    // Copies of the fields, of the same kind.
-    fn copies(&self) -> Result<Members, Mem>
+    // Copies of the fields, of the same kind. A row has room for so many more.
+    fn copies(&self, more: usize) -> Result<Members, Mem>
         ensures { IfOk result (λ copies. held_fields copies ≡ held_fields self.now) }
     {
         match self {
-            Members::Few(row) => Ok(Members::Few(row.copied()?)),
+            Members::Few(row) => Ok(Members::Few(row.copied(more)?)),
             Members::Many(table) => Ok(Members::Many(table.copied()?)),
         }
     }
@@ -568,13 +580,13 @@ impl Doc {
         }
     }
 
-    // Copies of its fields.
-    fn copies(&self) -> Result<Members, Mem>
+    // Copies of its fields, with room for so many more.
+    fn copies(&self, more: usize) -> Result<Members, Mem>
         ensures { IfOk result (λ copies. held_fields copies ≡ self.now) }
     {
         match &self.fields {
             None => Ok(Members::Few(Row::new(self.alloc))),
-            Some(fields) => fields.copies(),
+            Some(fields) => fields.copies(more),
         }
     }
 
@@ -600,7 +612,8 @@ impl Doc {
                 return put;
             }
         }
-        let mut fields = self.copies()?;
+        let more = if self.get(&name).is_some() { 0 } else { 1 };
+        let mut fields = self.copies(more)?;
         fields.put(name, value)?;
         self.hold(fields)
     }
@@ -618,7 +631,7 @@ impl Doc {
                 return Ok(there);
             }
         }
-        let mut fields = self.copies()?;
+        let mut fields = self.copies(0)?;
         let there = fields.remove(name);
         self.hold(fields)?;
         Ok(there)
