@@ -20,7 +20,7 @@ pub use reading::read;
 pub use text_writer::TextWriter;
 pub use texts::{parse, text};
 pub use token_writing::{put_document, put_items, put_value};
-pub use writing::{put_member, write, write_document};
+pub use writing::write;
 
 /// Texts, one for each line.
 pub type Lines = ListOf<Text>;

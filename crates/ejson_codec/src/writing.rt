@@ -3,7 +3,7 @@ ghost use Rattle.std.specs.Prelude.{◌≡◌, IfOk, OnOk, OnErr, List, ℕ};
 ghost use Rattle.serde_json.specs.Data.{Data, number, string, put};
 ghost use Rattle.serde_json.specs.Find.{of_integer};
 ghost use Rattle.serde_json.specs.View.{view as json_view, items_view, members_view};
-ghost use Rattle.value_model.specs.Val.{vals_of, fields_of, object as object_value};
+ghost use Rattle.value_model.specs.Val.{vals_of, fields_of};
 ghost use Rattle.ejson_value.specs.View.{view};
 ghost use Rattle.ejson_codec.specs.Reads.{Reads};
 ghost use Rattle.ejson_codec.specs.Trees.{IsTree, IsEscapedExactly};
@@ -28,13 +28,6 @@ pub fn write(alloc: Global, value: &Value) -> Result<Json, Mem>
     tree(alloc, value)
 }
 
-/// Writes a document as its tree.
-pub fn write_document(alloc: Global, doc: &Doc) -> Result<Json, Mem>
-    ensures { IfOk result (λ tree. json_view tree ≡ written (object_value (fields_of doc.now))) }
-{
-    escaped(alloc, members(alloc, doc)?)
-}
-
 // A whole number.
 fn whole(integer: &Whole) -> Json
     ensures { json_view result ≡ number (of_integer integer.now) }
@@ -42,8 +35,8 @@ fn whole(integer: &Whole) -> Json
     Json::Number(Number::from(integer.get()))
 }
 
-/// Puts the tree at the key.
-pub fn put_member(
+// Puts the tree at the key.
+fn put_member(
     alloc: Global,
     members: &mut Map<String, Json>,
     key: &str,
