@@ -16,7 +16,8 @@ use Rattle.ddp_messages.specs.ServerMessage.{ServerMessage}
 use Rattle.ddp_messages.specs.ServerMessage as server
 use Rattle.ddp_messages.specs.Limits.{ClientHasValues, DataHasValues, ServerHasValues}
 use Rattle.ddp_messages.specs.TextLaws.{Each, if_mapped}
-use Rattle.ddp_messages.specs.Written.{Table, with_member, present, text_items, unless_empty, texts_tree, document_tree, fault_written, client_table, client_written, data_table, data_members, server_table, server_written}
+use Rattle.ddp_messages.specs.Written.{Table, with_member, present, text_items, unless_empty, texts_tree, document_tree, fault_written}
+use Rattle.ddp_messages.specs.Written.{client_table, client_written, data_table, data_members, server_table, server_written}
 
 with_exact : (key : List ℕ) (o : Option Data) (ms : Members) → IfSome o HasExactNumbers → MembersHaveExactNumbers ms → MembersHaveExactNumbers (with_member key o ms)
 with_exact key None ms h rest = rest

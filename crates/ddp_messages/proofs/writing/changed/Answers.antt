@@ -7,5 +7,12 @@ use Rattle.ddp_messages.proofs.writing.changed.Goals as goal
 pub returns : goal.returns
 returns c =
     let fields = data_table (Changed c.args.key.now c.args.fields.now c.args.cleared.now) in
-    on_ok_weaker c.end_object.result (λ ended. table_written fields c.args.out.now c.begin_object.new.self c.end_object.new.self c.in_ok-begin_object.ensures.ok
-    (c.put_some_texts.new.out, c.in_ok-put_some_texts.ensures, (c.put_text.new.out, c.in_ok-put_text.ensures, (c.put_some_fields.new.out, c.in_ok-put_some_fields.ensures, (c.put_id.new.out, c.in_ok-put_id.ensures, (c.put_str.new.out, c.in_ok-put_str.ensures, ended)))))) c.end_object.ensures.ok
+    on_ok_weaker c.end_object.result (λ ended. table_written fields c.args.out.now c.begin_object.new.self c.end_object.new.self c.in_ok-begin_object.ensures.ok (
+      c.put_some_texts.new.out,
+      c.in_ok-put_some_texts.ensures,
+      (
+        c.put_text.new.out,
+        c.in_ok-put_text.ensures,
+        (c.put_some_fields.new.out, c.in_ok-put_some_fields.ensures, (c.put_id.new.out, c.in_ok-put_id.ensures, (c.put_str.new.out, c.in_ok-put_str.ensures, ended))),
+      ),
+    )) c.end_object.ensures.ok

@@ -9,5 +9,12 @@ use Rattle.ddp_messages.proofs.writing.result_of.Goals as goal
 pub returns : goal.returns
 returns c =
     let fields = server_table (server.finished c.args.id.now c.args.error.now (option_map view c.args.value.now)) in
-    on_ok_weaker c.end_object.result (λ ended. table_written fields c.args.out.now c.begin_object.new.self c.end_object.new.self c.in_ok-begin_object.ensures.ok
-    (c.put_optional_fault.new.out, c.in_ok-put_optional_fault.ensures, (c.put_text.new.out, c.in_ok-put_text.ensures, (c.put_str.new.out, c.in_ok-put_str.ensures, (c.put_optional_value.new.out, c.in_ok-put_optional_value.ensures, ended))))) c.end_object.ensures.ok
+    on_ok_weaker c.end_object.result (λ ended. table_written fields c.args.out.now c.begin_object.new.self c.end_object.new.self c.in_ok-begin_object.ensures.ok (
+      c.put_optional_fault.new.out,
+      c.in_ok-put_optional_fault.ensures,
+      (
+        c.put_text.new.out,
+        c.in_ok-put_text.ensures,
+        (c.put_str.new.out, c.in_ok-put_str.ensures, (c.put_optional_value.new.out, c.in_ok-put_optional_value.ensures, ended)),
+      ),
+    )) c.end_object.ensures.ok

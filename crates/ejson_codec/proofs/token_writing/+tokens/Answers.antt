@@ -9,7 +9,8 @@ pub put_fields-put_value-requires : goal.put_fields-put_value-requires
 put_fields-put_value-requires t c =
     let done = c.loop-name.invariant.0 in
     let all = c.loop-name.invariant.1 ∙ ap (λ rest. done ++ rest) c.in-Some.ensures.steps in
-    let less = field_depth c.into_iter-name-iterator.result done c.in-Some.name.now c.in-Some.value.now c.next.new.self c.args.doc.now all (ap entries c.into_iter-name-iterator.ensures.into_iter_gives ∙ c.iter-name-items.ensures.all) in
+    let fields = ap entries c.into_iter-name-iterator.ensures.into_iter_gives ∙ c.iter-name-items.ensures.all in
+    let less = field_depth c.into_iter-name-iterator.result done c.in-Some.name.now c.in-Some.value.now c.next.new.self c.args.doc.now all fields in
     (omega (arith, less, c.decreases), tt)
 
 pub put_fields-loop-name-preserved : goal.put_fields-loop-name-preserved
