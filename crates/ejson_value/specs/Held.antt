@@ -4,5 +4,5 @@ use Rattle.ejson_value.specs.declared.text.Held.{Held}
 use Rattle.ejson_value.specs.declared.text.Held.TheVariants as held
 
 abbrev pub held_bytes : Held → List ℕ
-held_bytes (held.Short s) = s.bytes
+held_bytes (held.Short s) = s
 held_bytes (held.Long s) = string_bytes s

@@ -7,7 +7,7 @@ ghost use Rattle.ejson_value.specs.View.{view};
 use crate::list::Copied;
 use crate::memory::Mem;
 use crate::text::Text;
-use crate::user::UserName;
+use crate::user::BoxedName;
 use crate::value::{Boxed, Doc, Items, Value};
 
 /// A value equal to this one.
@@ -29,7 +29,7 @@ pub fn copy(value: &Value) -> Result<Value, Mem>
 }
 
 #[cycle(copying)]
-fn copy_user(name: &UserName, value: &Boxed) -> Result<Value, Mem>
+fn copy_user(name: &BoxedName, value: &Boxed) -> Result<Value, Mem>
     ensures { IfOk result (λ v. view v ≡ user name.now value.now) }
 {
     let name = name.copy()?;

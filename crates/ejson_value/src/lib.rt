@@ -38,7 +38,7 @@ pub use order::{compare, kind, same, same_documents};
 pub use path::{Part, Path, PathFault};
 pub use sort::SortKey;
 pub use text::Text;
-pub use user::{MAX_USER_NAME, UserName};
+pub use user::{BoxedName, MAX_USER_NAME, UserName};
 pub use value::{Boxed, Doc, Fields, Items, Value};
 pub use whole::Whole;
 

@@ -126,7 +126,7 @@ pub fn size(value: &Value) -> u64
         Value::Bytes(bytes) => binary_size(bytes.as_slice()),
         Value::List(items) => items_size(items).saturating_add(1).max(2),
         Value::Object(doc) => document_size(doc),
-        Value::User { name, value } => user_size(name, value),
+        Value::User { name, value } => user_size(name.get(), value),
     }
 }
 

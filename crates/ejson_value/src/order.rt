@@ -57,7 +57,8 @@ pub fn compare(a: &Value, b: &Value) -> Ordering
             },
         ) => {
             name.get()
-                .cmp(other_name.get())
+                .get()
+                .cmp(other_name.get().get())
                 .then(compare(value.get(), other.get()))
         }
         _ => kind(a).cmp(&kind(b)),

@@ -1,5 +1,5 @@
 //! Texts.
-ghost use Rattle.std.specs.Prelude.{◌≡◌, ◌++◌, ◌==◌, ◌↔◌, ◌≤◌, [], length, slice_get, nat_eq, string_bytes, encode_utf8, refl, IsSome, IfSome, IfOk, OnOk, OnErr};
+ghost use Rattle.std.specs.Prelude.{◌≡◌, ◌+◌, ◌++◌, ◌==◌, ◌↔◌, ◌≤◌, [], length, take, slice_get, nat_eq, string_bytes, encode_utf8, refl, IsTrue, IsFalse, IsSome, IfSome, IfOk, OnOk, OnErr};
 ghost use Rattle.std.specs.Ordering.{nat_cmp, as_partial_cmp};
 ghost use Rattle.std.specs.Cmp.Lexicographic.{pointwise, slice_cmp};
 ghost use Rattle.std.specs.Cmp.{partial_order_from_own_ties};
@@ -9,14 +9,13 @@ ghost use Rattle.ejson_value.specs.Held.{held_bytes};
 
 use crate::list::Copied;
 use crate::memory::Mem;
-use arrayvec::ArrayString;
 use std::alloc::Global;
 use std::cmp::Ordering;
-use std::fmt;
 use std::marker::Model;
+use std::{fmt, str};
 
 // The most bytes that a text keeps inside itself; a longer one takes memory of the heap.
-const MAX_SHORT: usize = 24;
+const MAX_SHORT: usize = 30;
 
 /// A text of UTF-8. A contract sees it as its bytes, and texts go byte by byte.
 pub struct Text {
@@ -26,8 +25,15 @@ pub struct Text {
 
 #[derive(Drop)]
 enum Held {
-    Short(ArrayString<MAX_SHORT>),
+    Short(Short),
     Long(String),
+}
+
+// A text of at most MAX_SHORT bytes.
+#[derive(Drop)]
+struct Short {
+    len: u8,
+    bytes: [u8; MAX_SHORT],
 }
 
 impl Model for Text {
@@ -40,12 +46,78 @@ impl Model for Text {
     ghost view = { λ t. held_bytes t.inner };
 }
 
-// The text, where it has no more bytes than fit into a short one.
-fn short(text: &str) -> Option<ArrayString<MAX_SHORT>>
-    ensures fits { IsSome result ↔ (length text.now ≤ MAX_SHORT) }
-    ensures value { IfSome result (λ short. short.bytes ≡ text.now) }
+impl Model for Short {
+    ghost use Rattle.std.specs.Prelude.{◌≤◌, List, ℕ, take, IsUtf8};
+    ghost use Rattle.ejson_value.specs.declared.text.TheConstants.{MAX_SHORT};
+
+    ghost Value = { List ℕ };
+
+    ghost view = { λ s. take s.len s.bytes };
+
+    ghost invariant = { λ s. (s.len ≤ MAX_SHORT) × ∥ IsUtf8 (take s.len s.bytes) ∥₁ };
+}
+
+// Writes the source over the bytes from this place on.
+fn write_at(bytes: &mut [u8; MAX_SHORT], start: usize, source: &[u8])
+    requires { start + length source.now ≤ MAX_SHORT }
+    ensures { take (start + length source.now) bytes.new ≡ take start bytes.old ++ source.now }
 {
-    ArrayString::from(text).ok()
+    bytes[start..start + source.len()].copy_from_slice(source);
+}
+
+impl Short {
+    fn new() -> Short
+        ensures { result ≡ [] }
+    {
+        Short {
+            len: 0,
+            bytes: [0; MAX_SHORT],
+        }
+    }
+
+    // The text, if it is short.
+    fn of(text: &str) -> Option<Short>
+        ensures fits { IsSome result ↔ (length text.now ≤ MAX_SHORT) }
+        ensures value { IfSome result (λ short. short ≡ text.now) }
+    {
+        let mut short = Short::new();
+        if short.try_push(text) {
+            Some(short)
+        } else {
+            None
+        }
+    }
+
+    fn as_str(&self) -> &str
+        ensures { result.now ≡ self.now }
+    {
+        let len = self.len as usize;
+        unsafe { str::from_utf8_unchecked(&self.bytes[..len]) }
+    }
+
+    // Puts more behind the text, if it fits.
+    fn try_push(&mut self, more: &str) -> bool
+        ensures fits { IsTrue result ↔ (length self.old + length more.now ≤ MAX_SHORT) }
+        ensures pushed { IsTrue result → self.new ≡ self.old ++ more.now }
+        ensures kept { IsFalse result → self.new ≡ self.old }
+    {
+        let len = self.len as usize;
+        if more.len() > MAX_SHORT - len {
+            return false;
+        }
+        write_at(&mut self.bytes, len, more.as_bytes());
+        self.len = (len + more.len()) as u8;
+        true
+    }
+
+    fn copy(&self) -> Short
+        ensures { result ≡ self.now }
+    {
+        Short {
+            len: self.len,
+            bytes: self.bytes,
+        }
+    }
 }
 
 // Both texts, one behind the other.
@@ -62,7 +134,7 @@ impl Held {
     fn of(alloc: Global, text: &str) -> Result<Held, Mem>
         ensures { IfOk result (λ held. held_bytes held ≡ text.now) }
     {
-        match short(text) {
+        match Short::of(text) {
             Some(short) => Ok(Held::Short(short)),
             None => Ok(Held::Long(String::from_str(alloc, text)?)),
         }
@@ -83,7 +155,7 @@ impl Held {
     {
         match self {
             Held::Short(text) => {
-                if text.try_push_str(more).is_err() {
+                if !text.try_push(more) {
                     let both = joined(alloc, text.as_str(), more)?;
                     *self = Held::Long(both);
                 }
@@ -97,7 +169,7 @@ impl Held {
         ensures { IfOk result (λ held. held_bytes held ≡ held_bytes self.now) }
     {
         match self {
-            Held::Short(text) => Ok(Held::Short(*text)),
+            Held::Short(text) => Ok(Held::Short(text.copy())),
             Held::Long(text) => Ok(Held::Long(text.clone()?)),
         }
     }
@@ -110,7 +182,7 @@ impl Text {
     {
         Text {
             alloc,
-            inner: Held::Short(ArrayString::new()),
+            inner: Held::Short(Short::new()),
         }
     }
 
@@ -136,7 +208,7 @@ impl Text {
         ensures { result ≡ string_bytes inner }
     {
         let alloc = *inner.allocator();
-        let inner = match short(inner.as_str()) {
+        let inner = match Short::of(inner.as_str()) {
             Some(short) => Held::Short(short),
             None => Held::Long(inner),
         };

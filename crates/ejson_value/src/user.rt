@@ -5,6 +5,7 @@ ghost use Rattle.value_model.specs.Valid.{IsUserName};
 use crate::list::Copied;
 use crate::memory::Mem;
 use crate::text::Text;
+use std::alloc::Global;
 use std::marker::Model;
 
 /// The most bytes that the name of a user type has.
@@ -17,6 +18,12 @@ pub struct UserName {
     text: Text,
 }
 
+/// The name of a user type, on the heap. A contract sees it as that name.
+#[derive(Debug)]
+pub struct BoxedName {
+    inner: Box<UserName>,
+}
+
 impl Model for UserName {
     ghost use Rattle.std.specs.Prelude.{List, ℕ};
     ghost use Rattle.value_model.specs.Valid.{IsUserName};
@@ -26,6 +33,22 @@ impl Model for UserName {
     ghost view = { λ a. a.text };
 
     ghost invariant = { λ a. IsUserName a.text };
+}
+
+impl Model for BoxedName {
+    ghost use Rattle.std.specs.Prelude.{List, ℕ};
+
+    ghost Value = { List ℕ };
+
+    ghost view = { λ a. a.inner.value };
+}
+
+// It is dropped by a call, so that no walk of the borrow checker splits where a value is dropped.
+impl Drop for BoxedName {
+    fn drop(self) {
+        let BoxedName { inner } = self;
+        drop(inner);
+    }
 }
 
 impl UserName {
@@ -57,6 +80,31 @@ impl UserName {
         Ok(UserName {
             text: self.text.copy()?,
         })
+    }
+}
+
+impl BoxedName {
+    /// The name, put on the heap.
+    pub fn of(alloc: Global, name: UserName) -> Result<BoxedName, Mem>
+        ensures { IfOk result (λ boxed. boxed ≡ name) }
+    {
+        Ok(BoxedName {
+            inner: Box::new(alloc, name)?,
+        })
+    }
+
+    /// The name.
+    pub fn get(&self) -> &UserName
+        ensures { result.now ≡ self.now }
+    {
+        self.inner.as_ref()
+    }
+
+    /// A name on the heap equal to this one.
+    pub fn copy(&self) -> Result<BoxedName, Mem>
+        ensures { IfOk result (λ name. name ≡ self.now) }
+    {
+        BoxedName::of(*Box::allocator(&self.inner), self.get().copy()?)
     }
 }
 

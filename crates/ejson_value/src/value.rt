@@ -15,7 +15,7 @@ use crate::memory::Mem;
 use crate::row::{Member, Row};
 use crate::table::Table;
 use crate::text::Text;
-use crate::user::UserName;
+use crate::user::BoxedName;
 use crate::whole::Whole;
 use std::alloc::Global;
 use std::collections::btree_map;
@@ -38,7 +38,7 @@ pub enum Value {
     List(Items),
     Object(Doc),
     /// A value of a user type: the type's name, and the value that stands for it.
-    User { name: UserName, value: Boxed },
+    User { name: BoxedName, value: Boxed },
 }
 
 /// One value on the heap. A contract sees it as that value.
@@ -454,7 +454,7 @@ impl Value {
             Value::List(items) => items.known(),
             Value::Object(doc) => doc.known(),
             Value::User { name, value } => {
-                let _name = name.get();
+                let _name = name.get().get();
                 let _value = value.get();
             }
         }

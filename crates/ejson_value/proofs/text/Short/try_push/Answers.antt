@@ -1,0 +1,10 @@
+use Rattle.std.proofs.Common.{arith}
+use Rattle.std.proofs.lemmas.Str.{IsUtf8-had, IsUtf8-append}
+use Rattle.ejson_value.proofs.text.Short.try_push.Goals as goal
+
+pub invariant_of-self : goal.invariant_of-self
+invariant_of-self c =
+    let written = rw c.as_bytes.ensures.value at c.write_at.ensures in (
+      omega (arith, c.self.invariant.0, c.if-more-len.false),
+      ∣ rw written (IsUtf8-append _ _ (IsUtf8-had _ c.self.invariant.1) c.utf8.more) ∣₁,
+    )
