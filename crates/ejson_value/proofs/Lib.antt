@@ -4,3 +4,4 @@ pub mod Branching
 pub mod Ranges
 pub mod Places
 pub mod Moves
+pub mod Replacing

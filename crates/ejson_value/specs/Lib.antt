@@ -13,3 +13,4 @@ pub mod Results
 pub mod ResultLaws
 pub mod Code
 pub mod Places
+pub mod Fields

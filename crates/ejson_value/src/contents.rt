@@ -1,16 +1,23 @@
 //! Contents: documents by collection and id, and changes of them.
-ghost use Rattle.std.specs.Prelude.{◌≡◌, ◌==◌, ◌++◌, ◌∷◌, [], length, Some, None, IsSome, IfOk, OnOk, OnErr};
+ghost use Rattle.std.specs.Prelude.{◌≡◌, ◌==◌, ◌++◌, ◌∷◌, [], length, option_map, Some, None, IsSome, IfOk, OnOk, OnErr};
 ghost use Rattle.std.specs.Option.{option_copied};
 ghost use Rattle.std.specs.Map.{keys_of};
 ghost use Rattle.map_model.specs.Maps.{at, set, IsSorted};
+ghost use Rattle.value_model.specs.Doc.{get};
+ghost use Rattle.value_model.specs.Size.{size};
+ghost use Rattle.ejson_value.specs.View.{view};
+ghost use Rattle.ejson_value.specs.Measure.{capped};
 ghost use Rattle.ejson_value.specs.Key.{key_cmp};
+ghost use Rattle.ejson_value.specs.Fields.{replaced, field_at, with_field};
 ghost use Rattle.ejson_value.specs.Rows.{Rows, AreRows, rows_of};
 
+use crate::copying::copy;
 use crate::key::Key;
 use crate::list::Copied;
+use crate::measure::size;
 use crate::memory::Mem;
 use crate::text::Text;
-use crate::value::Doc;
+use crate::value::{Doc, Value};
 use std::alloc::Global;
 use std::collections::BTreeMap;
 use std::collections::btree_map::{Iter, Range};
@@ -60,6 +67,22 @@ fn key_behind(collection: &Text) -> Result<Key, Mem>
     })
 }
 
+// Puts a copy of the value in place of that of this field, if there is such a field. It answers how
+// many bytes the one that was there has.
+fn replace_in(doc: &mut Doc, name: &Text, value: &Value) -> Result<Option<u64>, Mem>
+    ensures there { IfOk result (λ there. there ≡ option_map (λ v. capped (size v)) (get doc.old name.now)) }
+    ensures ok { OnOk result (doc.new ≡ replaced doc.old name.now (view value.now)) }
+    ensures err { OnErr result (doc.new ≡ doc.old) }
+{
+    let there = match doc.get(name) {
+        None => return Ok(None),
+        Some(there) => size(there),
+    };
+    let name = name.copy()?;
+    doc.put(name, copy(value)?)?;
+    Ok(Some(there))
+}
+
 impl Contents {
     /// No documents.
     pub fn new(alloc: Global) -> Contents
@@ -91,13 +114,22 @@ impl Contents {
         self.docs.get(key)
     }
 
+    /// Puts the document at this key and hands out the one that was there.
+    pub fn insert(&mut self, key: Key, doc: Doc) -> Result<Option<Doc>, Mem>
+        ensures there { IfOk result (λ there. there ≡ at key_cmp self.old key) }
+        ensures ok { OnOk result (self.new ≡ set key_cmp self.old key (Some doc)) }
+        ensures err { OnErr result (self.new ≡ self.old) }
+    {
+        doc.known();
+        Ok(self.docs.insert(key, doc)?)
+    }
+
     /// Puts the document at this key, in place of one that is there.
     pub fn put(&mut self, key: Key, doc: Doc) -> Result<(), Mem>
         ensures ok { OnOk result (self.new ≡ set key_cmp self.old key (Some doc)) }
         ensures err { OnErr result (self.new ≡ self.old) }
     {
-        doc.known();
-        drop(self.docs.insert(key, doc)?);
+        drop(self.insert(key, doc)?);
         Ok(())
     }
 
@@ -109,6 +141,29 @@ impl Contents {
         doc.known();
         if let Some(place) = self.docs.get_mut(key) {
             *place = doc;
+        }
+    }
+
+    /// Puts a copy of the value in place of that of this field of the document at this key, and answers
+    /// how many bytes the one that was there has, 2^64 - 1 where it has more. Where there is no such
+    /// document or it has no such field it answers None, and nothing has changed.
+    pub fn replace_field(
+        &mut self,
+        key: &Key,
+        name: &Text,
+        value: &Value,
+    ) -> Result<Option<u64>, Mem>
+        ensures there { IfOk result (λ there. there ≡ option_map (λ v. capped (size v)) (field_at self.old key.now name.now)) }
+        ensures ok { OnOk result (self.new ≡ with_field self.old key.now name.now (view value.now)) }
+        ensures err { OnErr result (self.new ≡ self.old) }
+    {
+        match self.docs.get_mut(key) {
+            None => Ok(None),
+            Some(doc) => {
+                let there = replace_in(doc, name, value);
+                doc.known();
+                there
+            }
         }
     }
 

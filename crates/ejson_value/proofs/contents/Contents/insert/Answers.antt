@@ -1,6 +1,6 @@
 use Rattle.std.proofs.Common.{subst, sym}
 use Rattle.ejson_value.specs.Rows.{AreDocuments, AreDocuments-put}
-use Rattle.ejson_value.proofs.contents.Contents.put.Goals as goal
+use Rattle.ejson_value.proofs.contents.Contents.insert.Goals as goal
 
 pub invariant_of-self-2 : goal.invariant_of-self-2
 invariant_of-self-2 c = record {
