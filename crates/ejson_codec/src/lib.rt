@@ -15,10 +15,10 @@ mod writing;
 use ejson_value::{ListOf, Text};
 pub use fault::{EjsonFault, ParseFault, PlainFault, ReadFault};
 pub use laws::{one_tree, size_of_text};
-pub use plain::{parse_members, parse_plain};
-pub use reading::read;
+pub use plain::{next_value, parse_plain, parse_plain_in};
+pub use reading::{put_field, read};
 pub use text_writer::TextWriter;
-pub use texts::{parse, text};
+pub use texts::{parse, parse_in, text};
 pub use token_writing::{put_document, put_items, put_value};
 pub use writing::write;
 

@@ -7,7 +7,8 @@ ghost use Rattle.serde_json.specs.Read.{number_of, number_from};
 ghost use Rattle.value_model.specs.Val.{object as object_value, fields_of};
 ghost use Rattle.value_model.specs.Size.{is_special, names_of};
 ghost use Rattle.ejson_value.specs.View.{view};
-ghost use Rattle.ejson_codec.specs.Plain.{NumberRead, ValueRead, ItemsRead, MembersRead, IsValueText, IsObjectText};
+ghost use Rattle.ejson_codec.specs.Reading.{max_levels};
+ghost use Rattle.ejson_codec.specs.Plain.{NumberRead, ValueRead, ItemsRead, MembersRead, IsValueText};
 
 use crate::fault::PlainFault;
 use crate::reading::{MAX_LEVELS, put_field};
@@ -114,8 +115,16 @@ fn fields(alloc: Global, levels: u8, reader: &mut Reader<'_>) -> Result<Doc, Pla
     Ok(doc)
 }
 
-// The value that the whole text is.
-fn whole_value(alloc: Global, text: &str, scratch: &mut Scratch) -> Result<Value, PlainFault>
+/// The value that comes next, with all levels left.
+pub fn next_value(alloc: Global, reader: &mut Reader<'_>) -> Result<Value, PlainFault>
+    ensures read { IfOk result (λ v. ValueRead max_levels reader.old (view v) reader.new) }
+    ensures shorter { OnOk result (length reader.new < length reader.old) }
+{
+    value(alloc, MAX_LEVELS, reader)
+}
+
+/// What `parse_plain` reads, with this room for reading.
+pub fn parse_plain_in(alloc: Global, text: &str, scratch: &mut Scratch) -> Result<Value, PlainFault>
     ensures { IfOk result (λ v. IsValueText text.now (view v)) }
 {
     let Ok(mut reader) = Reader::new(text, scratch) else {
@@ -128,39 +137,10 @@ fn whole_value(alloc: Global, text: &str, scratch: &mut Scratch) -> Result<Value
     Ok(value)
 }
 
-// The fields of the object that the whole text is.
-fn whole_object(alloc: Global, text: &str, scratch: &mut Scratch) -> Result<Doc, PlainFault>
-    ensures { IfOk result (λ doc. IsObjectText text.now doc) }
-{
-    let Ok(mut reader) = Reader::new(text, scratch) else {
-        return Err(PlainFault::Memory);
-    };
-    let Some(token) = reader.next() else {
-        return Err(PlainFault::NotPlain);
-    };
-    let Token::BeginObject = token else {
-        return Err(PlainFault::NotPlain);
-    };
-    let doc = fields(alloc, MAX_LEVELS, &mut reader)?;
-    if reader.next().is_some() {
-        return Err(PlainFault::NotPlain);
-    }
-    Ok(doc)
-}
-
 /// Reads a text as a value without a tree. `NotPlain` says only that this can't be done.
 pub fn parse_plain(alloc: Global, text: &str) -> Result<Value, PlainFault>
     ensures { IfOk result (λ v. IsValueText text.now (view v)) }
 {
     let mut scratch = Scratch::new(alloc);
-    whole_value(alloc, text, &mut scratch)
-}
-
-/// Reads the members of the object that a text is, each as a value, without a tree. `NotPlain` says only that this can't
-/// be done.
-pub fn parse_members(alloc: Global, text: &str) -> Result<Doc, PlainFault>
-    ensures { IfOk result (λ doc. IsObjectText text.now doc) }
-{
-    let mut scratch = Scratch::new(alloc);
-    whole_object(alloc, text, &mut scratch)
+    parse_plain_in(alloc, text, &mut scratch)
 }

@@ -104,7 +104,7 @@ fn user_of(alloc: Global, name: UserName, value: Value) -> Result<Value, Mem>
 }
 
 /// Puts the value at the key.
-pub(crate) fn put_field(alloc: Global, doc: &mut Doc, key: &str, value: Value) -> Result<(), Mem>
+pub fn put_field(alloc: Global, doc: &mut Doc, key: &str, value: Value) -> Result<(), Mem>
     ensures { OnOk result (doc.new ≡ put doc.old key.now (view value)) }
 {
     match Text::from_str(alloc, key) {

@@ -12,11 +12,12 @@ ghost use Rattle.ejson_codec.specs.Trees.{HasRisingKeys};
 ghost use Rattle.ejson_codec.specs.Written.{written};
 
 use crate::fault::{ParseFault, PlainFault};
-use crate::plain::parse_plain;
+use crate::plain::parse_plain_in;
 use crate::reading::read;
 use crate::text_writer::TextWriter;
 use crate::token_writing::put_value;
 use ejson_value::{Mem, Text, Value};
+use json::Scratch;
 use serde_json::Value as Json;
 use std::alloc::Global;
 
@@ -25,7 +26,16 @@ pub fn parse(alloc: Global, text: &Text) -> Result<Value, ParseFault>
     ensures found { IfOk result (λ v. (d : Data) × (json.read text.now ≡ Some d) × Reads d (view v) × (depth (view v) ≤ max_levels)) }
     ensures exact { GivesParse view result (parsed text.now) }
 {
-    match parse_plain(alloc, text.as_str()) {
+    let mut scratch = Scratch::new(alloc);
+    parse_in(alloc, text.as_str(), &mut scratch)
+}
+
+/// What `parse` reads, with this room for reading.
+pub fn parse_in(alloc: Global, text: &str, scratch: &mut Scratch) -> Result<Value, ParseFault>
+    ensures found { IfOk result (λ v. (d : Data) × (json.read text.now ≡ Some d) × Reads d (view v) × (depth (view v) ≤ max_levels)) }
+    ensures exact { GivesParse view result (parsed text.now) }
+{
+    match parse_plain_in(alloc, text, scratch) {
         Ok(value) => Ok(value),
         Err(PlainFault::NotPlain) => parse_tree(alloc, text),
         Err(PlainFault::Memory) => Err(ParseFault::Memory),
@@ -33,11 +43,11 @@ pub fn parse(alloc: Global, text: &Text) -> Result<Value, ParseFault>
 }
 
 // Reads a text as a value by its tree.
-fn parse_tree(alloc: Global, text: &Text) -> Result<Value, ParseFault>
+fn parse_tree(alloc: Global, text: &str) -> Result<Value, ParseFault>
     ensures found { IfOk result (λ v. (d : Data) × (json.read text.now ≡ Some d) × Reads d (view v) × (depth (view v) ≤ max_levels)) }
     ensures exact { GivesParse view result (parsed text.now) }
 {
-    match Json::from_str(alloc, text.as_str()) {
+    match Json::from_str(alloc, text) {
         Ok(tree) => Ok(read(alloc, &tree)?),
         Err(error) if error.is_memory() => Err(ParseFault::Memory),
         Err(_) => Err(ParseFault::NotJson),

@@ -1,6 +1,6 @@
 use Rattle.std.proofs.Common.{◌≡◌, [], rules}
 use Rattle.ejson_codec.proofs.PlainTurns.{text_read}
-use Rattle.ejson_codec.proofs.plain.whole_value.Goals as goal
+use Rattle.ejson_codec.proofs.plain.parse_plain_in.Goals as goal
 
 pub returns : goal.returns
 returns c =
