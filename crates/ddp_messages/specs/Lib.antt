@@ -18,3 +18,4 @@ pub mod TextLaws
 pub mod RisingLaws
 pub mod ExactLaws
 pub mod Plain
+pub mod Places

@@ -15,6 +15,7 @@ use crate::reading_client::message;
 use crate::writing::{connect, heartbeat, known_if_any, method, sub, unsub};
 use ejson_codec::{PlainFault, TextWriter};
 use ejson_value::{Items, Mem, Names, Text, Value};
+use json::Scratch;
 use std::alloc::Global;
 
 /// A message from a client to a server.
@@ -58,14 +59,28 @@ impl FromClient {
         ensures only { (message : ClientMessage) → IsClientText text.now message → GivesMessage client_view result (Ok message) }
         ensures exact { GivesMessage client_view result (client_answer text.now) }
     {
-        Self::answer(alloc, text)
+        let mut scratch = Scratch::new(alloc);
+        Self::read_in(alloc, text, &mut scratch)
+    }
+
+    /// What `read` reads, with this room for reading.
+    pub fn read_in(
+        alloc: Global,
+        text: &Text,
+        scratch: &mut Scratch,
+    ) -> Result<FromClient, MsgFault>
+        ensures found { IfOk result (λ message. IsClientText text.now (client_view message)) }
+        ensures only { (message : ClientMessage) → IsClientText text.now message → GivesMessage client_view result (Ok message) }
+        ensures exact { GivesMessage client_view result (client_answer text.now) }
+    {
+        Self::answer(alloc, text, scratch)
     }
 
     // Reads a text, with the exact answer alone.
-    fn answer(alloc: Global, text: &Text) -> Result<FromClient, MsgFault>
+    fn answer(alloc: Global, text: &Text, scratch: &mut Scratch) -> Result<FromClient, MsgFault>
         ensures { GivesMessage client_view result (client_answer text.now) }
     {
-        match plain::from_client(alloc, text) {
+        match plain::from_client(alloc, text.as_str(), scratch) {
             Ok(message) => Ok(message),
             Err(PlainFault::NotPlain) => Self::by_tree(alloc, text),
             Err(PlainFault::Memory) => Err(MsgFault::Memory),

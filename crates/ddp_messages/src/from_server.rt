@@ -20,6 +20,7 @@ use crate::writing::{
 };
 use ejson_codec::{PlainFault, TextWriter};
 use ejson_value::{DataMsg, Fault, Mem, Names, Text, Value};
+use json::Scratch;
 use std::alloc::Global;
 
 /// A message from a server to a client.
@@ -77,14 +78,28 @@ impl FromServer {
         ensures only { (message : ServerMessage) → IsServerText text.now message → GivesMessage server_view result (Ok message) }
         ensures exact { GivesMessage server_view result (server_answer text.now) }
     {
-        Self::answer(alloc, text)
+        let mut scratch = Scratch::new(alloc);
+        Self::read_in(alloc, text, &mut scratch)
+    }
+
+    /// What `read` reads, with this room for reading.
+    pub fn read_in(
+        alloc: Global,
+        text: &Text,
+        scratch: &mut Scratch,
+    ) -> Result<FromServer, MsgFault>
+        ensures found { IfOk result (λ message. IsServerText text.now (server_view message)) }
+        ensures only { (message : ServerMessage) → IsServerText text.now message → GivesMessage server_view result (Ok message) }
+        ensures exact { GivesMessage server_view result (server_answer text.now) }
+    {
+        Self::answer(alloc, text, scratch)
     }
 
     // Reads a text, with the exact answer alone.
-    fn answer(alloc: Global, text: &Text) -> Result<FromServer, MsgFault>
+    fn answer(alloc: Global, text: &Text, scratch: &mut Scratch) -> Result<FromServer, MsgFault>
         ensures { GivesMessage server_view result (server_answer text.now) }
     {
-        match plain::from_server(alloc, text) {
+        match plain::from_server(alloc, text.as_str(), scratch) {
             Ok(message) => Ok(message),
             Err(PlainFault::NotPlain) => Self::by_tree(alloc, text),
             Err(PlainFault::Memory) => Err(MsgFault::Memory),

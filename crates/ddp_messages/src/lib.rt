@@ -12,6 +12,7 @@ mod parsing;
 mod plain;
 mod reading_client;
 mod reading_server;
+mod told;
 mod wire;
 mod writing;
 

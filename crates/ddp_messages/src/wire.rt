@@ -79,8 +79,8 @@ fn as_it_stands(text: &str) -> Option<&str>
     }
 }
 
-// The id that has this wire form.
-fn without_dash(wire: &str) -> Option<&str>
+/// The id that has this wire form.
+pub(crate) fn without_dash(wire: &str) -> Option<&str>
     ensures { option_map (λ s. s.now) result ≡ own_of wire.now }
 {
     match wire.strip_prefix('-') {

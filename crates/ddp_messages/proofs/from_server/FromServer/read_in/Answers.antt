@@ -1,7 +1,7 @@
 use Rattle.ddp_messages.specs.ServerMessage.{server_view}
 use Rattle.ddp_messages.specs.Answers.{IsServerText, server_answer}
 use Rattle.ddp_messages.specs.AnswerLaws.{server_answer_ok, server_answer_only, found_from, only_from}
-use Rattle.ddp_messages.proofs.from_server.FromServer.read.Goals as goal
+use Rattle.ddp_messages.proofs.from_server.FromServer.read_in.Goals as goal
 
 pub returns-clause-found : goal.returns-clause-found
 returns-clause-found c =

@@ -1,7 +1,7 @@
 use Rattle.ddp_messages.specs.ClientMessage.{client_view}
 use Rattle.ddp_messages.specs.Answers.{IsClientText, client_answer}
 use Rattle.ddp_messages.specs.AnswerLaws.{client_answer_ok, client_answer_only, found_from, only_from}
-use Rattle.ddp_messages.proofs.from_client.FromClient.read.Goals as goal
+use Rattle.ddp_messages.proofs.from_client.FromClient.read_in.Goals as goal
 
 pub returns-clause-found : goal.returns-clause-found
 returns-clause-found c =
