@@ -1,11 +1,10 @@
 -- Walks over what is saved of documents.
-use Rattle.std.proofs.Common.{◌≡◌, ◌≢◌, ℕ, arith, suc, ◌+◌, ◌<◌, get_or, drop, length, Bool, true, false, cond, not, IsTrue, ◌↔◌, ◌≤◌, ◌&&◌, ◌||◌, List, [], ◌∷◌, ◌++◌, Option, Some, None, is_some, IfSome, refl, sym, ap, ap₂, ◌∙◌, subst, true≢false, nat_cmp}
+use Rattle.std.proofs.Common.{◌≡◌, ◌≢◌, ℕ, arith, ◌+◌, ◌<◌, get_or, drop, length, Bool, true, false, cond, not, IsTrue, ◌↔◌, ◌≤◌, ◌&&◌, ◌||◌, List, [], ◌∷◌, ◌++◌, Option, Some, None, is_some, IfSome, refl, sym, ap, ap₂, ◌∙◌, subst, true≢false, nat_cmp}
 use Rattle.std.specs.Prelude.{option_and_then, Result, Ok, Err, OnOk, OnErr}
 use Rattle.std.specs.List.{list_any, list_all}
 use Rattle.std.specs.List.Sorted.{IsStrictlySortedBy}
 use Rattle.std.specs.Ordering.{eq_by_cmp}
 use Rattle.std.specs.BTreeSet.{BTreeSet, contains}
-use Rattle.std.proofs.Math.Seq.{drop-cons}
 use Rattle.std.proofs.lemmas.Cmp.{nat_cmp_total, eq_by_cmp_equiv}
 use Rattle.std.proofs.lemmas.Grind.{get_or_default_zero}
 use Rattle.std.proofs.lemmas.List.{drop_all}
@@ -20,7 +19,7 @@ use Rattle.ejson_value.specs.Key.{key_cmp, key_order}
 use Rattle.reconcile.specs.declared.save.Save.{Save}
 use Rattle.reconcile.specs.Originals.{Original, Originals, with_holders, holders_in, is_holder, saves_of, joined, saved_by, held_still, left_by, due_at, due, some_save, served}
 use Rattle.reconcile.specs.OriginalLaws.{joined_again, joined_held, joined_holders, left_held, left_holders, left_none, left_absent, left_then, among_with, among_without}
-use Rattle.reconcile.specs.Index.{Lists, is_listed, is_listed_by, IsWhole}
+use Rattle.reconcile.specs.Index.{Lists, is_key_among, is_listed, is_listed_by, IsWhole}
 use Rattle.reconcile.proofs.Listing.{next_of}
 
 -- ---- results
@@ -231,19 +230,16 @@ all_free test [] free = refl
 all_free test (k ∷ ks) free = ap₂ (λ a b. not a && b) (free k) (all_free test ks free)
 
 -- none of its listed keys is held by it
-pub free_all : (os : Originals) (lists : Lists) (n : ℕ) (b : Bool) (keys : BTreeSet Key) → IsWhole os lists → ((k : Key) → is_listed lists n k ≡ contains key_cmp keys k) → b ≡ list_all (λ k. not (is_holder os n k)) keys.keys → IsTrue b ↔ ((k : Key) → is_holder os n k ≡ false)
+pub free_all : (os : Originals) (lists : Lists) (n : ℕ) (b : Bool) (keys : List Key) → IsWhole os lists → ((k : Key) → is_listed lists n k ≡ is_key_among keys k) → b ≡ list_all (λ k. not (is_holder os n k)) keys → IsTrue b ↔ ((k : Key) → is_holder os n k ≡ false)
 free_all os lists n b keys w are is = (
-  (λ e k. elim (contains key_cmp keys k) as (λ c. contains key_cmp keys k ≡ c → is_holder os n k ≡ false) [
-    | true ↦ λ t. none_of (is_holder os n) keys.keys k (sym is ∙ e) t
+  (λ e k. elim (is_key_among keys k) as (λ c. is_key_among keys k ≡ c → is_holder os n k ≡ false) [
+    | true ↦ λ t. none_of (is_holder os n) keys k (sym is ∙ e) t
     | false ↦ λ t. free_unlisted os lists n w k (are k ∙ t)
   ] refl),
-  (λ free. is ∙ all_free (is_holder os n) keys.keys free),
+  (λ free. is ∙ all_free (is_holder os n) keys free),
 )
 
 -- ---- a walk over saves
-
-next_save : (items : List Save) (i : ℕ) (item : Save) → item ≡ get_or items i item → i < length items → drop i items ≡ item ∷ drop (i + 1) items
-next_save items i item is within = drop-cons items i item within ∙ ap (λ x. x ∷ drop (suc i) items) (sym is) ∙ (let e : suc i ≡ i + 1 = omega arith in ap (λ k. item ∷ drop k items) e)
 
 first_counts : (n : ℕ) (b : Bool) (doc : Option Entries) (rest : Option (Option Entries)) (old : Option Original) →
     saved_by n rest (saved_by n (cond b (Some doc) None) old) ≡ saved_by n (cond b (Some doc) rest) old
@@ -258,7 +254,7 @@ pub save_step : (n : ℕ) (items : List Save) (i : ℕ) (item : Save) (old new :
 save_step n items i item old new is within made k =
     ap (saved_by n (at key_cmp (saves_of (drop (i + 1) items)) k)) (made k)
     ∙ first_counts n (eq_by_cmp key_cmp k item.key) item.doc (at key_cmp (saves_of (drop (i + 1) items)) k) (at key_cmp old k)
-    ∙ ap (λ ss. saved_by n (at key_cmp (saves_of ss) k) (at key_cmp old k)) (sym (next_save items i item is within))
+    ∙ ap (λ ss. saved_by n (at key_cmp (saves_of ss) k) (at key_cmp old k)) (sym (next_of items i item is within))
 
 -- one more simulation lets all go
 pub forget_step : (items : List ℕ) (i item : ℕ) (old new : Originals) → item ≡ get_or items i item → i < length items → ((k : Key) → at key_cmp new k ≡ left_by (item ∷ []) (at key_cmp old k)) →
@@ -276,23 +272,31 @@ forget_end items i old new over held walk k = sym (left_none (at key_cmp new k) 
 
 -- ---- a walk over held keys
 
+-- nothing is left to be let go
+left_again : (n : ℕ) (old : Option Original) → left_by (n ∷ []) (left_by (n ∷ []) old) ≡ left_by (n ∷ []) old
+left_again n old = left_absent n (left_by (n ∷ []) old) (left_held (n ∷ []) old) (ap (λ hs. is_among hs n) (left_holders (n ∷ []) old) ∙ away (is_among (without_numbers (n ∷ []) (holders_in old)) n) (λ h. among_without (n ∷ []) (holders_in old) n h))
+  where
+    away : (b : Bool) → (b ≡ true → (is_among (holders_in old) n ≡ true) × (is_among (n ∷ []) n ≡ false)) → b ≡ false
+    away true h = absurd (true≢false (sym (ap (λ b. b || false) (eq_by_cmp-self number_order n)) ∙ (h refl).1))
+    away false h = refl
+
 -- one more key of those that a simulation lets go
-pub let_go_step : (n : ℕ) (key : Key) (keys keys' : BTreeSet Key) (old new : Originals) → keys.keys ≡ key ∷ keys'.keys → contains key_cmp keys' key ≡ false →
+pub let_go_step : (n : ℕ) (keys : List Key) (i : ℕ) (key : Key) (old new : Originals) → key ≡ get_or keys i key → i < length keys →
     ((k : Key) → at key_cmp new k ≡ cond (eq_by_cmp key_cmp k key) (left_by (n ∷ []) (at key_cmp old k)) (at key_cmp old k)) →
-    (k : Key) → cond (contains key_cmp keys' k) (left_by (n ∷ []) (at key_cmp new k)) (at key_cmp new k) ≡ cond (contains key_cmp keys k) (left_by (n ∷ []) (at key_cmp old k)) (at key_cmp old k)
-let_go_step n key keys keys' old new first gone made k =
-    ap (λ w. cond (contains key_cmp keys' k) (left_by (n ∷ []) w) w) (made k)
-    ∙ elim (eq_by_cmp key_cmp k key) as (λ b. eq_by_cmp key_cmp k key ≡ b →
-    cond (contains key_cmp keys' k) (left_by (n ∷ []) (cond b (left_by (n ∷ []) (at key_cmp old k)) (at key_cmp old k))) (cond b (left_by (n ∷ []) (at key_cmp old k)) (at key_cmp old k))
-    ≡ cond (b || contains key_cmp keys' k) (left_by (n ∷ []) (at key_cmp old k)) (at key_cmp old k)) [
-      | true ↦ λ t. ap (λ b. cond b (left_by (n ∷ []) (left_by (n ∷ []) (at key_cmp old k))) (left_by (n ∷ []) (at key_cmp old k))) (ap (contains key_cmp keys') (key_is key_order k key t) ∙ gone)
-      | false ↦ λ t. refl
-    ] refl
-    ∙ ap (λ ks. cond (list_any (eq_by_cmp key_cmp k) ks) (left_by (n ∷ []) (at key_cmp old k)) (at key_cmp old k)) (sym first)
+    (k : Key) → cond (is_key_among (drop (i + 1) keys) k) (left_by (n ∷ []) (at key_cmp new k)) (at key_cmp new k) ≡ cond (is_key_among (drop i keys) k) (left_by (n ∷ []) (at key_cmp old k)) (at key_cmp old k)
+let_go_step n keys i key old new is within made k =
+    let before = at key_cmp old k in
+    let left = left_by (n ∷ []) before in
+    ap (λ w. cond (is_key_among (drop (i + 1) keys) k) (left_by (n ∷ []) w) w) (made k)
+    ∙ elim (eq_by_cmp key_cmp k key) as (λ b. cond (is_key_among (drop (i + 1) keys) k) (left_by (n ∷ []) (cond b left before)) (cond b left before) ≡ cond (b || is_key_among (drop (i + 1) keys) k) left before) [
+      | true ↦ elim (is_key_among (drop (i + 1) keys) k) as (λ c. cond c (left_by (n ∷ []) left) left ≡ left) [ true ↦ left_again n before | false ↦ refl ]
+      | false ↦ refl
+    ]
+    ∙ ap (λ ks. cond (is_key_among ks k) left before) (sym (next_of keys i key is within))
 
 -- ---- what is due
 
-pub due_step : (f : Key → Option (Option Entries)) (k : Key) (rest : List Key) → some_save k (f k) ++ collect f rest ≡ collect f (k ∷ rest)
+due_step : (f : Key → Option (Option Entries)) (k : Key) (rest : List Key) → some_save k (f k) ++ collect f rest ≡ collect f (k ∷ rest)
 due_step f k rest = elim (f k) as (λ w. some_save k w ++ collect f rest ≡ keyed k w (collect f rest)) [ None ↦ refl | Some doc ↦ refl ]
 
 -- somebody else holds it, where the key isn't listed
@@ -327,19 +331,26 @@ not_due : (lists : Lists) (ns : List ℕ) (k : Key) (old : Option Original) → 
 not_due lists ns k None away listed held = refl
 not_due lists ns k (Some o) away listed held = ap (λ b. cond b (Some o.doc) None) (unlisted lists ns k o.holders away listed held)
 
+-- a walk over the listed keys
+pub due_next : (f : Key → Option (Option Entries)) (keys : List Key) (i : ℕ) (key : Key) → key ≡ get_or keys i key → i < length keys → some_save key (f key) ++ collect f (drop (i + 1) keys) ≡ collect f (drop i keys)
+due_next f keys i key is within = due_step f key (drop (i + 1) keys) ∙ ap (collect f) (sym (next_of keys i key is within))
+
 -- those of the listed keys that are due are all that are due
-pub all_due : (lists : Lists) (ns : List ℕ) (numbers : BTreeSet ℕ) (keys : BTreeSet Key) (originals : Originals) → IsStrictlySortedBy key_cmp keys.keys → IsSorted key_cmp originals →
+pub all_due : (lists : Lists) (ns : List ℕ) (numbers : BTreeSet ℕ) (keys : List Key) (originals : Originals) → IsStrictlySortedBy key_cmp keys → IsSorted key_cmp originals →
     ((k : Key) → IfSome (at key_cmp originals k) (λ (o : Original). o.holders ≢ [])) → ((k : Key) (n : ℕ) → is_holder originals n k ≡ true → is_listed lists n k ≡ true) →
-    ((n : ℕ) → contains nat_cmp numbers n ≡ is_among ns n) → ((k : Key) → contains key_cmp keys k ≡ is_listed_by lists ns k) →
-    collect (λ k. due_at (λ n. contains nat_cmp numbers n) (at key_cmp originals k)) keys.keys ≡ due ns originals
+    ((n : ℕ) → contains nat_cmp numbers n ≡ is_among ns n) → ((k : Key) → is_key_among keys k ≡ is_listed_by lists numbers.keys k) →
+    collect (λ k. due_at (λ n. contains nat_cmp numbers n) (at key_cmp originals k)) keys ≡ due ns originals
 all_due lists ns numbers keys originals rising sorted held listed same are =
     let f : Key → Option (Option Entries) = λ k. due_at (λ n. contains nat_cmp numbers n) (at key_cmp originals k) in
     let g : Key → Original → Option (Option Entries) = λ k original. due_at (is_among ns) (Some original) in
-    same_maps key_order (collect f keys.keys) (due ns originals) (sorted-collect key_order f keys.keys rising) (sorted-filter_map_entries key_cmp g originals sorted) (λ q.
-    at-collect key_order f keys.keys q
+    same_maps key_order (collect f keys) (due ns originals) (sorted-collect key_order f keys rising) (sorted-filter_map_entries key_cmp g originals sorted) (λ q.
+    at-collect key_order f keys q
     ∙ ap (λ b. cond b (f q) None) (are q)
-    ∙ elim (is_listed_by lists ns q) as (λ b. is_listed_by lists ns q ≡ b → cond b (f q) None ≡ option_and_then (g q) (at key_cmp originals q)) [
+    ∙ elim (is_listed_by lists numbers.keys q) as (λ b. is_listed_by lists numbers.keys q ≡ b → cond b (f q) None ≡ option_and_then (g q) (at key_cmp originals q)) [
       | true ↦ λ t. same_due (λ n. contains nat_cmp numbers n) ns same (at key_cmp originals q)
-      | false ↦ λ t. sym (not_due lists ns q (at key_cmp originals q) t (λ n h. listed q n h) (held q))
+      | false ↦ λ t.
+          sym (not_due lists numbers.keys q (at key_cmp originals q) t (λ n h. listed q n h) (held q))
+          ∙ sym (same_due (λ n. contains nat_cmp numbers n) numbers.keys (λ n. refl) (at key_cmp originals q))
+          ∙ same_due (λ n. contains nat_cmp numbers n) ns same (at key_cmp originals q)
     ] refl
     ∙ sym (at-filter_map_entries key_order g originals q sorted))

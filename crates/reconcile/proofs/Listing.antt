@@ -1,6 +1,6 @@
 -- Keys that are listed under simulations.
-use Rattle.std.proofs.Common.{◌≡◌, ℕ, arith, suc, ◌+◌, ◌<◌, get_or, drop, length, Bool, true, false, cond, ◌||◌, List, [], ◌∷◌, Option, Some, None, unwrap_or, refl, sym, ap, ◌∙◌, nat_cmp}
-use Rattle.std.specs.List.{list_any}
+use Rattle.std.proofs.Common.{◌≡◌, ℕ, arith, suc, ◌+◌, ◌<◌, get_or, drop, length, Bool, true, false, cond, ◌||◌, List, [], ◌∷◌, ◌++◌, Some, None, unwrap_or, refl, sym, ap, ◌∙◌, nat_cmp}
+use Rattle.std.specs.List.{dedup, dedup_from}
 use Rattle.std.specs.Ordering.{eq_by_cmp, is_eq}
 use Rattle.std.specs.BTreeSet.{BTreeSet, contains}
 use Rattle.std.proofs.Math.Seq.{drop-cons}
@@ -12,61 +12,60 @@ use Rattle.view_model.specs.Pending.{is_among}
 use Rattle.view_model.specs.PendingLaws.{number_order}
 use Rattle.ejson_value.specs.declared.key.Key.{Key}
 use Rattle.ejson_value.specs.Key.{key_cmp, key_order}
-use Rattle.reconcile.specs.Index.{Lists, lists_of, is_listed, is_listed_by}
-
-listed_in : Option (BTreeSet Key) → Key → Bool
-listed_in None k = false
-listed_in (Some keys) k = contains key_cmp keys k
-
-is_listed-of : (es : List (ℕ × BTreeSet Key)) (n : ℕ) (k : Key) → is_listed (lists_of es) n k ≡ listed_in (at nat_cmp es n) k
-unfolding listed_in
-is_listed-of [] n k = refl
-is_listed-of (e ∷ es) n k =
-    let rest = is_listed-of es n k in
-    elim (eq_by_cmp nat_cmp n e.0) as (λ b. list_any (eq_by_cmp key_cmp k) (unwrap_or (cond b (Some e.1.keys) (at nat_cmp (lists_of es) n)) []) ≡ listed_in (cond b (Some e.1) (at nat_cmp es n)) k) [ true ↦ refl | false ↦ rest ]
+use Rattle.reconcile.specs.Index.{Lists, is_key_among, is_listed, is_listed_by}
 
 -- new is old, with `keys` for the simulation
-module _ (old new : List (ℕ × BTreeSet Key)) (number : ℕ) (keys : BTreeSet Key) (change : (n : ℕ) → at nat_cmp new n ≡ cond (eq_by_cmp nat_cmp number n) (Some keys) (at nat_cmp old n)) where
-  listed_after : (n : ℕ) (k : Key) → is_listed (lists_of new) n k ≡ cond (eq_by_cmp nat_cmp number n) (contains key_cmp keys k) (is_listed (lists_of old) n k)
-  unfolding listed_in
+module _ (old new : Lists) (number : ℕ) (keys : List Key) (change : (n : ℕ) → at nat_cmp new n ≡ cond (eq_by_cmp nat_cmp number n) (Some keys) (at nat_cmp old n)) where
+  listed_after : (n : ℕ) (k : Key) → is_listed new n k ≡ cond (eq_by_cmp nat_cmp number n) (is_key_among keys k) (is_listed old n k)
   listed_after n k =
-      is_listed-of new n k ∙ ap (λ x. listed_in x k) (change n)
-      ∙ elim (eq_by_cmp nat_cmp number n) as (λ b. listed_in (cond b (Some keys) (at nat_cmp old n)) k ≡ cond b (contains key_cmp keys k) (is_listed (lists_of old) n k)) [ true ↦ refl | false ↦ sym (is_listed-of old n k) ]
+      ap (λ x. is_key_among (unwrap_or x []) k) (change n)
+      ∙ elim (eq_by_cmp nat_cmp number n) as (λ b. is_key_among (unwrap_or (cond b (Some keys) (at nat_cmp old n)) []) k ≡ cond b (is_key_among keys k) (is_listed old n k)) [ true ↦ refl | false ↦ refl ]
 
-  pub listed_here : (k : Key) → contains key_cmp keys k ≡ true → is_listed (lists_of new) number k ≡ true
-  listed_here k h = listed_after number k ∙ ap (λ b. cond b (contains key_cmp keys k) (is_listed (lists_of old) number k)) (eq_by_cmp-self number_order number) ∙ h
+  pub listed_here : (k : Key) → is_key_among keys k ≡ true → is_listed new number k ≡ true
+  listed_here k h = listed_after number k ∙ ap (λ b. cond b (is_key_among keys k) (is_listed old number k)) (eq_by_cmp-self number_order number) ∙ h
 
   -- what was listed stays where the simulation's keys stay
-  pub listed_stays : ((k : Key) → is_listed (lists_of old) number k ≡ true → contains key_cmp keys k ≡ true) → (n : ℕ) (k : Key) → is_listed (lists_of old) n k ≡ true → is_listed (lists_of new) n k ≡ true
-  listed_stays stays n k was = listed_after n k ∙ elim (eq_by_cmp nat_cmp number n) as (λ b. eq_by_cmp nat_cmp number n ≡ b → cond b (contains key_cmp keys k) (is_listed (lists_of old) n k) ≡ true) [
-    | true ↦ λ t. stays k (ap (λ r. is_listed (lists_of old) r k) (key_is number_order number n t) ∙ was)
+  pub listed_stays : ((k : Key) → is_listed old number k ≡ true → is_key_among keys k ≡ true) → (n : ℕ) (k : Key) → is_listed old n k ≡ true → is_listed new n k ≡ true
+  listed_stays stays n k was = listed_after n k ∙ elim (eq_by_cmp nat_cmp number n) as (λ b. eq_by_cmp nat_cmp number n ≡ b → cond b (is_key_among keys k) (is_listed old n k) ≡ true) [
+    | true ↦ λ t. stays k (ap (λ r. is_listed old r k) (key_is number_order number n t) ∙ was)
     | false ↦ λ _. was
   ] refl
 
 -- a simulation with no keys
-pub nothing_listed : (es : List (ℕ × BTreeSet Key)) (number : ℕ) → at nat_cmp es number ≡ None → (k : Key) → is_listed (lists_of es) number k ≡ false
-unfolding listed_in
-nothing_listed es number none k = is_listed-of es number k ∙ ap (λ x. listed_in x k) none
+pub nothing_listed : (lists : Lists) (number : ℕ) → at nat_cmp lists number ≡ None → (k : Key) → is_listed lists number k ≡ false
+nothing_listed lists number none k = ap (λ x. is_key_among (unwrap_or x []) k) none
 
 -- the keys that are found for a simulation
-pub found_listed : (es : List (ℕ × BTreeSet Key)) (number : ℕ) (keys : BTreeSet Key) → Some keys ≡ at nat_cmp es number → (k : Key) → is_listed (lists_of es) number k ≡ contains key_cmp keys k
-unfolding listed_in
-found_listed es number keys found k = is_listed-of es number k ∙ ap (λ x. listed_in x k) (sym found)
-
-pub stays_added : (b was : Bool) → was ≡ true → cond b true was ≡ true
-stays_added true was h = refl
-stays_added false was h = h
+pub found_listed : (lists : Lists) (number : ℕ) (keys : List Key) → Some keys ≡ at nat_cmp lists number → (k : Key) → is_listed lists number k ≡ is_key_among keys k
+found_listed lists number keys found k = ap (λ x. is_key_among (unwrap_or x []) k) (sym found)
 
 -- new is old without the simulation's keys
-pub others_listed : (old new : List (ℕ × BTreeSet Key)) (number : ℕ) → ((n : ℕ) → at nat_cmp new n ≡ cond (eq_by_cmp nat_cmp number n) None (at nat_cmp old n))
-    → (n : ℕ) (k : Key) → eq_by_cmp nat_cmp number n ≡ false → is_listed (lists_of new) n k ≡ is_listed (lists_of old) n k
-others_listed old new number change n k other =
-    is_listed-of new n k ∙ ap (λ x. listed_in x k) (change n ∙ ap (λ b. cond b None (at nat_cmp old n)) other) ∙ sym (is_listed-of old n k)
+pub others_listed : (old new : Lists) (number : ℕ) → ((n : ℕ) → at nat_cmp new n ≡ cond (eq_by_cmp nat_cmp number n) None (at nat_cmp old n))
+    → (n : ℕ) (k : Key) → eq_by_cmp nat_cmp number n ≡ false → is_listed new n k ≡ is_listed old n k
+others_listed old new number change n k other = ap (λ x. is_key_among (unwrap_or x []) k) (change n ∙ ap (λ b. cond b None (at nat_cmp old n)) other)
 
--- ---- walks that put keys or numbers into a set
+-- ---- a key behind others
 
-pub key_either_way : (key k : Key) → is_eq (key_cmp key k) ≡ eq_by_cmp key_cmp k key
-key_either_way key k = (eq_by_cmp_equiv key_order.total).symm key k
+swapped : (a b c : Bool) → (a || (b || c)) ≡ (b || (a || c))
+swapped true true c = refl
+swapped true false c = refl
+swapped false b c = refl
+
+pub among_pushed : (keys : List Key) (key k : Key) → is_key_among (keys ++ key ∷ []) k ≡ (eq_by_cmp key_cmp k key || is_key_among keys k)
+among_pushed [] key k = refl
+among_pushed (x ∷ keys) key k = ap (λ b. eq_by_cmp key_cmp k x || b) (among_pushed keys key k) ∙ swapped (eq_by_cmp key_cmp k x) (eq_by_cmp key_cmp k key) (is_key_among keys k)
+
+either_true : (a b : Bool) → b ≡ true → (a || b) ≡ true
+either_true true b h = refl
+either_true false b h = h
+
+pub pushed_here : (keys : List Key) (key : Key) → is_key_among (keys ++ key ∷ []) key ≡ true
+pushed_here keys key = among_pushed keys key key ∙ ap (λ b. b || is_key_among keys key) (eq_by_cmp-self key_order key)
+
+pub pushed_stays : (keys : List Key) (key k : Key) → is_key_among keys k ≡ true → is_key_among (keys ++ key ∷ []) k ≡ true
+pushed_stays keys key k h = among_pushed keys key k ∙ either_true (eq_by_cmp key_cmp k key) (is_key_among keys k) h
+
+-- ---- walks that put keys or numbers among others
 
 pub number_either_way : (m n : ℕ) → is_eq (nat_cmp m n) ≡ eq_by_cmp nat_cmp n m
 number_either_way m n = (eq_by_cmp_equiv nat_cmp_total).symm m n
@@ -76,15 +75,7 @@ shuffled true true a = refl
 shuffled true false a = refl
 shuffled false r a = refl
 
--- one more key of the walk is put
-pub key_put : (it rest : List Key) (key key' : Key) (all all' : BTreeSet Key) → it ≡ key ∷ rest → key' ≡ key → ((q : Key) → contains key_cmp all' q ≡ cond (is_eq (key_cmp key' q)) true (contains key_cmp all q))
-    → (k : Key) → (list_any (eq_by_cmp key_cmp k) rest || contains key_cmp all' k) ≡ (list_any (eq_by_cmp key_cmp k) it || contains key_cmp all k)
-key_put it rest key key' all all' steps same updates k =
-    ap (λ b. list_any (eq_by_cmp key_cmp k) rest || b) (updates k ∙ ap (λ b. cond b true (contains key_cmp all k)) (ap (λ q. is_eq (key_cmp q k)) same ∙ key_either_way key k))
-    ∙ shuffled (eq_by_cmp key_cmp k key) (list_any (eq_by_cmp key_cmp k) rest) (contains key_cmp all k)
-    ∙ ap (λ ks. list_any (eq_by_cmp key_cmp k) ks || contains key_cmp all k) (sym steps)
-
-pub next_of : (items : List ℕ) (i item : ℕ) → item ≡ get_or items i item → i < length items → drop i items ≡ item ∷ drop (i + 1) items
+pub next_of : {X : Type 0} (items : List X) (i : ℕ) (item : X) → item ≡ get_or items i item → i < length items → drop i items ≡ item ∷ drop (i + 1) items
 next_of items i item is within = drop-cons items i item within ∙ ap (λ x. x ∷ drop (suc i) items) (sym is) ∙ (let e : suc i ≡ i + 1 = omega arith in ap (λ k. item ∷ drop k items) e)
 
 -- one more number of the walk is put
@@ -100,19 +91,45 @@ shuffled_or true true a = refl
 shuffled_or true false a = refl
 shuffled_or false r a = refl
 
+-- one more key of the walk is put
+pub key_pushed : (items : List Key) (i : ℕ) (item key : Key) (all all' : List Key) → item ≡ get_or items i item → i < length items → key ≡ item → all' ≡ all ++ key ∷ []
+    → (k : Key) → (is_key_among (drop (i + 1) items) k || is_key_among all' k) ≡ (is_key_among (drop i items) k || is_key_among all k)
+key_pushed items i item key all all' is within same made k =
+    ap (λ b. is_key_among (drop (i + 1) items) k || b) (ap (λ ks. is_key_among ks k) (made ∙ ap (λ q. all ++ q ∷ []) same) ∙ among_pushed all item k)
+    ∙ shuffled_or (eq_by_cmp key_cmp k item) (is_key_among (drop (i + 1) items) k) (is_key_among all k)
+    ∙ ap (λ ks. is_key_among ks k || is_key_among all k) (sym (next_of items i item is within))
+
 -- the keys of one more simulation are put
-pub listed_put : (lists : Lists) (items : List ℕ) (i item : ℕ) (all all' : BTreeSet Key) → item ≡ get_or items i item → i < length items → ((q : Key) → contains key_cmp all' q ≡ (is_listed lists item q || contains key_cmp all q))
-    → (k : Key) → (is_listed_by lists (drop (i + 1) items) k || contains key_cmp all' k) ≡ (is_listed_by lists (drop i items) k || contains key_cmp all k)
-listed_put lists items i item all all' is within updates k =
-    ap (λ b. is_listed_by lists (drop (i + 1) items) k || b) (updates k)
-    ∙ shuffled_or (is_listed lists item k) (is_listed_by lists (drop (i + 1) items) k) (contains key_cmp all k)
-    ∙ ap (λ ns. is_listed_by lists ns k || contains key_cmp all k) (sym (next_of items i item is within))
+pub listed_put : (lists : Lists) (numbers rest : List ℕ) (number : ℕ) (all all' : List Key) → numbers ≡ number ∷ rest → ((q : Key) → is_key_among all' q ≡ (is_listed lists number q || is_key_among all q))
+    → (k : Key) → (is_listed_by lists rest k || is_key_among all' k) ≡ (is_listed_by lists numbers k || is_key_among all k)
+listed_put lists numbers rest number all all' steps updates k =
+    ap (λ b. is_listed_by lists rest k || b) (updates k)
+    ∙ shuffled_or (is_listed lists number k) (is_listed_by lists rest k) (is_key_among all k)
+    ∙ ap (λ ns. is_listed_by lists ns k || is_key_among all k) (sym steps)
 
 -- the same for a number that is read
 pub number_next : (items : List ℕ) (i : ℕ) (all all' : BTreeSet ℕ) → i < length items → ((q : ℕ) → contains nat_cmp all' q ≡ cond (is_eq (nat_cmp (get_or items i 0) q)) true (contains nat_cmp all q))
     → (n : ℕ) → (is_among (drop (i + 1) items) n || contains nat_cmp all' n) ≡ (is_among (drop i items) n || contains nat_cmp all n)
 number_next items i all all' within updates n = number_put items i (get_or items i 0) all all' (sym (get_or_default_zero items i (get_or items i 0) within)) within updates n
 
-pub listed_next : (lists : Lists) (items : List ℕ) (i : ℕ) (all all' : BTreeSet Key) → i < length items → ((q : Key) → contains key_cmp all' q ≡ (is_listed lists (get_or items i 0) q || contains key_cmp all q))
-    → (k : Key) → (is_listed_by lists (drop (i + 1) items) k || contains key_cmp all' k) ≡ (is_listed_by lists (drop i items) k || contains key_cmp all k)
-listed_next lists items i all all' within updates k = listed_put lists items i (get_or items i 0) all all' (sym (get_or_default_zero items i (get_or items i 0) within)) within updates k
+-- ---- each key once
+
+once_more : (b c : Bool) → (b || c) ≡ (b || (b || c))
+once_more true c = refl
+once_more false c = refl
+
+-- what `dedup` leaves has the same keys, where equal ones tie
+module _ (same : Key → Key → Bool) (ties : (a b : Key) → same a b ≡ eq_by_cmp key_cmp a b) (k : Key) where
+  among_dedup_from : (first : Key) (keys : List Key) → is_key_among (dedup_from same first keys) k ≡ is_key_among (first ∷ keys) k
+  among_dedup_from first [] = refl
+  among_dedup_from first (key ∷ keys) =
+      let here = among_dedup_from first keys in
+      let next = among_dedup_from key keys in
+      elim (same key first) as (λ b. same key first ≡ b → is_key_among (cond b (dedup_from same first keys) (first ∷ dedup_from same key keys)) k ≡ is_key_among (first ∷ key ∷ keys) k) [
+        | true ↦ λ t. here ∙ once_more (eq_by_cmp key_cmp k first) (is_key_among keys k) ∙ ap (λ q. eq_by_cmp key_cmp k first || (eq_by_cmp key_cmp k q || is_key_among keys k)) (sym (key_is key_order key first (sym (ties key first) ∙ t)))
+        | false ↦ λ t. ap (λ b. eq_by_cmp key_cmp k first || b) next
+      ] refl
+
+  pub among_dedup : (keys : List Key) → is_key_among (dedup same keys) k ≡ is_key_among keys k
+  among_dedup [] = refl
+  among_dedup (key ∷ keys) = among_dedup_from key keys

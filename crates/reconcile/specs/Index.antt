@@ -1,8 +1,7 @@
 -- The keys that are listed under each simulation.
-use Rattle.std.specs.Prelude.{◌≡◌, ◌≢◌, ℕ, Bool, true, List, [], map, unwrap_or, IfSome}
+use Rattle.std.specs.Prelude.{◌≡◌, ◌≢◌, ℕ, Bool, true, List, [], unwrap_or, IfSome}
 use Rattle.std.specs.List.{list_any}
 use Rattle.std.specs.Ordering.{nat_cmp, eq_by_cmp}
-use Rattle.std.specs.BTreeSet.{BTreeSet}
 use Rattle.map_model.specs.Maps.{at, IsSorted}
 use Rattle.ejson_value.specs.declared.key.Key.{Key}
 use Rattle.ejson_value.specs.Key.{key_cmp}
@@ -11,12 +10,12 @@ use Rattle.reconcile.specs.Originals.{Original, Originals, is_holder}
 abbrev pub Lists : Type 0
 Lists = List (ℕ × List Key)
 
-abbrev pub lists_of : List (ℕ × BTreeSet Key) → Lists
-lists_of entries = map (λ e. (e.0, e.1.keys)) entries
+abbrev pub is_key_among : List Key → Key → Bool
+is_key_among keys k = list_any (eq_by_cmp key_cmp k) keys
 
 -- whether the key is listed under the simulation
 abbrev pub is_listed : Lists → ℕ → Key → Bool
-is_listed lists n k = list_any (eq_by_cmp key_cmp k) (unwrap_or (at nat_cmp lists n) [])
+is_listed lists n k = is_key_among (unwrap_or (at nat_cmp lists n) []) k
 
 -- or under one of several
 abbrev pub is_listed_by : Lists → List ℕ → Key → Bool

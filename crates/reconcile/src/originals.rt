@@ -9,14 +9,14 @@ ghost use Rattle.ejson_value.specs.declared.key.Key.{Key};
 ghost use Rattle.ejson_value.specs.Key.{key_cmp};
 ghost use Rattle.ejson_value.specs.Messages.{said};
 ghost use Rattle.reconcile.specs.Originals.{joined, left_by, saves_of, due, due_at, some_save, IsSaved, IsForgotten, IsServed, ServedFrom, is_holder, AreOriginals};
-ghost use Rattle.reconcile.specs.Index.{lists_of, is_listed};
+ghost use Rattle.reconcile.specs.Index.{is_key_among, is_listed};
 ghost use Rattle.reconcile.specs.Taking.{IsFittingIf};
 
 use crate::fault::{ServeFault, Served};
 use crate::index::{Index, list, listed};
 use crate::original::Kept;
 use crate::save::{Save, Saves};
-use ejson_value::{DataMsg, Key, Mem};
+use ejson_value::{DataMsg, Key, Keys, Mem};
 use std::alloc::Global;
 use std::collections::{BTreeMap, BTreeSet};
 use std::marker::Model;
@@ -35,7 +35,7 @@ pub struct Originals {
 
 impl Model for Originals {
     ghost use Rattle.reconcile.specs.Originals.{Originals, originals_code};
-    ghost use Rattle.reconcile.specs.Index.{lists_of, IsWhole};
+    ghost use Rattle.reconcile.specs.Index.{IsWhole};
 
     ghost Value = { Originals };
 
@@ -43,7 +43,7 @@ impl Model for Originals {
 
     ghost view = { λ a. a.saved.entries };
 
-    ghost invariant = { λ a. IsWhole a.saved.entries (lists_of a.index.entries) };
+    ghost invariant = { λ a. IsWhole a.saved.entries a.index.entries };
 }
 
 /// The key of the message's document.
@@ -102,27 +102,26 @@ fn let_go(saved: &mut Saved, number: u32, key: &Key)
 }
 
 // The simulation holds none of these documents any more.
-fn let_all_go(saved: &mut Saved, number: u32, keys: BTreeSet<Key>)
+fn let_all_go(saved: &mut Saved, number: u32, keys: &Keys)
     ensures { (k : Key) → at key_cmp saved.new.entries k ≡
-        (if contains key_cmp keys k then left_by (number ∷ []) (at key_cmp saved.old.entries k) else at key_cmp saved.old.entries k) }
+        (if is_key_among keys.now k then left_by (number ∷ []) (at key_cmp saved.old.entries k) else at key_cmp saved.old.entries k) }
 {
-    let mut keys = keys;
-    while let Some(key) = keys.pop_first() {
-        let_go(saved, number, &key);
+    for key in keys.as_slice() {
+        let_go(saved, number, key);
     }
 }
 
 // The simulation holds nothing any more.
 fn forget_in(saved: &mut Saved, index: &mut Index, number: u32)
     requires held { (k : Key) → IfSome (at key_cmp saved.old.entries k) (λ original. original.holders ≢ []) }
-    requires listed { (k : Key) → is_holder saved.old.entries number k ≡ true → is_listed (lists_of index.old.entries) number k ≡ true }
+    requires listed { (k : Key) → is_holder saved.old.entries number k ≡ true → is_listed index.old.entries number k ≡ true }
     ensures gone { IsForgotten (number ∷ []) saved.old.entries saved.new.entries }
     ensures others { (n : ℕ) (k : Key) → eq_by_cmp nat_cmp number n ≡ false →
-        is_listed (lists_of index.new.entries) n k ≡ is_listed (lists_of index.old.entries) n k }
+        is_listed index.new.entries n k ≡ is_listed index.old.entries n k }
 {
     match index.remove(&number) {
         None => {}
-        Some(keys) => let_all_go(saved, number, keys),
+        Some(keys) => let_all_go(saved, number, &keys),
     }
 }
 
@@ -184,10 +183,12 @@ fn is_held_by(saved: &Saved, number: u32, key: &Key) -> bool
 }
 
 // Whether the simulation holds none of these documents.
-fn holds_none(saved: &Saved, number: u32, keys: &BTreeSet<Key>) -> bool
-    ensures { result ≡ list_all (λ k. not (is_holder saved.now.entries number k)) keys.now.keys }
+fn holds_none(saved: &Saved, number: u32, keys: &Keys) -> bool
+    ensures { result ≡ list_all (λ k. not (is_holder saved.now.entries number k)) keys.now }
 {
-    keys.iter().all(|key| !is_held_by(saved, number, key))
+    keys.as_slice()
+        .iter()
+        .all(|key| !is_held_by(saved, number, key))
 }
 
 impl Originals {
@@ -275,9 +276,9 @@ impl Originals {
         ensures { IfOk result (λ saves. saves_of saves ≡ due methods.now self.now) }
     {
         let numbers = set_of(self.alloc, methods)?;
-        let keys = listed(&self.index, self.alloc, methods)?;
+        let keys = listed(&self.index, self.alloc, &numbers)?;
         let mut saves = Saves::new(self.alloc);
-        for key in keys.iter() {
+        for key in keys.as_slice() {
             push_due(&mut saves, &self.saved, &numbers, key)?;
         }
         Ok(saves)

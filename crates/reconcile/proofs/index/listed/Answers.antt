@@ -1,9 +1,12 @@
 use Rattle.std.proofs.Common.{◌∙◌}
-use Rattle.reconcile.specs.Index.{lists_of}
-use Rattle.reconcile.proofs.Listing.{listed_next}
+use Rattle.reconcile.proofs.Listing.{listed_put}
 use Rattle.reconcile.proofs.index.listed.Goals as goal
 
 pub loop-number-preserved : goal.loop-number-preserved
-loop-number-preserved c = λ k.
-    listed_next (lists_of c.args.index.now.entries) c.args.numbers.now c.loop-number.number-index c.loop-number.all c.put_listed.new.all c.loop-number-test.true c.in_ok-put_listed.ensures k
-    ∙ c.loop-number.invariant k
+loop-number-preserved c = record {
+  can_next = tt;
+  is_finite = tt;
+  left = λ k.
+      listed_put c.args.index.now.entries c.loop-number.number-iterator c.next.new.self c.in-Some.number.now c.loop-number.all.items c.push_listed.new.all.items c.in-Some.ensures.steps c.in_ok-push_listed.ensures k
+      ∙ c.loop-number.invariant.left k;
+}

@@ -1,7 +1,5 @@
 use Rattle.std.proofs.Common.{false, refl, sym}
-use Rattle.std.specs.BTreeSet.{contains}
-use Rattle.ejson_value.specs.Key.{key_cmp}
-use Rattle.reconcile.specs.Index.{lists_of}
+use Rattle.reconcile.specs.Index.{is_key_among}
 use Rattle.reconcile.proofs.Listing.{nothing_listed, found_listed, others_listed}
 use Rattle.reconcile.proofs.Holding.{all_forgotten}
 use Rattle.reconcile.proofs.originals.forget_in.Goals as goal
@@ -9,11 +7,11 @@ use Rattle.reconcile.proofs.originals.forget_in.Goals as goal
 pub returns-in-None-clause-gone : goal.returns-in-None-clause-gone
 returns-in-None-clause-gone c =
     let old = c.args.saved.now.entries in
-    all_forgotten old old (lists_of c.args.index.now.entries) c.args.number (λ k. false) c.requires.held c.requires.listed (λ k. nothing_listed c.args.index.now.entries c.args.number (sym c.in-None.ensures.value) k) (λ k. refl)
+    all_forgotten old old c.args.index.now.entries c.args.number (λ k. false) c.requires.held c.requires.listed (λ k. nothing_listed c.args.index.now.entries c.args.number (sym c.in-None.ensures.value) k) (λ k. refl)
 
 pub returns-in-Some-clause-gone : goal.returns-in-Some-clause-gone
 returns-in-Some-clause-gone c =
-    all_forgotten c.args.saved.now.entries c.let_all_go.new.saved.entries (lists_of c.args.index.now.entries) c.args.number (λ k. contains key_cmp c.in-Some.keys k) c.requires.held c.requires.listed
+    all_forgotten c.args.saved.now.entries c.let_all_go.new.saved.entries c.args.index.now.entries c.args.number (λ k. is_key_among c.in-Some.keys k) c.requires.held c.requires.listed
     (λ k. found_listed c.args.index.now.entries c.args.number c.in-Some.keys c.in-Some.ensures.value k) c.let_all_go.ensures
 
 pub returns-in-Some-clause-others : goal.returns-in-Some-clause-others

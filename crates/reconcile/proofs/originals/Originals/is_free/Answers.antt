@@ -1,7 +1,6 @@
 use Rattle.std.proofs.Common.{◌≡◌, ◌↔◌, IsTrue, false, refl, sym, subst}
 use Rattle.ejson_value.specs.declared.key.Key.{Key}
 use Rattle.reconcile.specs.Originals.{is_holder}
-use Rattle.reconcile.specs.Index.{lists_of}
 use Rattle.reconcile.proofs.Listing.{nothing_listed, found_listed}
 use Rattle.reconcile.proofs.Holding.{free_unlisted, free_all}
 use Rattle.reconcile.proofs.originals.Originals.is_free.Goals as goal
@@ -9,12 +8,12 @@ use Rattle.reconcile.proofs.originals.Originals.is_free.Goals as goal
 pub returns-in-None : goal.returns-in-None
 returns-in-None c = (
   (λ e k. subst (λ os. is_holder os c.args.method k ≡ false) c.self.view_is
-      (free_unlisted c.self.inside.saved.entries (lists_of c.self.inside.index.entries) c.args.method c.self.invariant k (nothing_listed c.self.inside.index.entries c.args.method (sym c.in-None.ensures.value) k))),
+      (free_unlisted c.self.inside.saved.entries c.self.inside.index.entries c.args.method c.self.invariant k (nothing_listed c.self.inside.index.entries c.args.method (sym c.in-None.ensures.value) k))),
   (λ free. refl),
 )
 
 pub returns-in-Some : goal.returns-in-Some
 returns-in-Some c =
     subst (λ os. IsTrue c.holds_none.result ↔ ((k : Key) → is_holder os c.args.method k ≡ false)) c.self.view_is
-    (free_all c.self.inside.saved.entries (lists_of c.self.inside.index.entries) c.args.method c.holds_none.result c.in-Some.keys.now c.self.invariant
+    (free_all c.self.inside.saved.entries c.self.inside.index.entries c.args.method c.holds_none.result c.in-Some.keys.now c.self.invariant
     (λ k. found_listed c.self.inside.index.entries c.args.method c.in-Some.keys.now c.in-Some.ensures.value k) c.holds_none.ensures)
