@@ -27,9 +27,9 @@ use Rattle.program_run.specs.Planned.{stepped_as}
 use Rattle.stub_simulation.specs.declared.draft.Draft.{Draft}
 use Rattle.stub_simulation.specs.declared.fitting.Totals.{Totals}
 use Rattle.stub_simulation.specs.Simulating.{keys_put, each_once, changed_keys, change_at}
-use Rattle.stub_simulation.specs.Drafts.{shown, shown_by, IsWithin, IsWindow, old_count, new_count, is_taken, new_ids, AreTotals, IsTaken, IsFollowedIf, IsFollowed, IsLeftBy, GoesOn, IsDraft}
+use Rattle.stub_simulation.specs.Drafts.{shown, shown_by, IsWithin, IsWindow, old_count, new_count, is_taken, new_ids, AreTotals, IsTaken, IsFollowedIf, IsFollowed, IsLeftBy, IsDraft}
 use Rattle.stub_simulation.proofs.Overlay.{sorted_shown, at_shown, none_shown, changed_shown, changed_within, Within}
-use Rattle.stub_simulation.proofs.Windows.{Alike, Refused, Becomes, Totalled, totalled, step_becomes, step_made}
+use Rattle.stub_simulation.proofs.Windows.{Alike, Becomes, totalled, step_becomes, step_made}
 use Rattle.stub_simulation.proofs.Stepping.{keys_put-append, append-nil, over_stays, nothing_left, some_mapped}
 
 -- a run that has a step left has come to nothing
@@ -76,7 +76,7 @@ module _ (names : List (List ℕ)) (view : Rows) (params : List Val) (steps : Li
   win_is = sym (ap (λ l. stepped_by (client_setting names) W (run_of steps run) l) first) ∙ does
 
   sorted_rows : IsSorted key_cmp so_far.rows
-  sorted_rows = subst (IsSorted key_cmp) (sym w.left.rows) (sorted_shown view old.traces.changed.keys old.left sorted)
+  sorted_rows = subst (IsSorted key_cmp) (sym w.left.rows) (sorted_shown view old.traces.changed old.left sorted)
 
   is_window : IsWindow r.params r.made so_far.rows s W
   is_window =
@@ -109,9 +109,9 @@ module _ (names : List (List ℕ)) (view : Rows) (params : List Val) (steps : Li
         record {
           left = record {
             rows = alike.left ∙ ap₂ (λ (rows : Rows) (ds : List Change). after rows ds) w.left.rows same_changes
-                ∙ sym (ap₂ (λ (keys : List Key) (rows : Rows). shown view keys rows) taken.keys taken.left ∙ changed_shown view old.traces.changed.keys old.left cs sorted sorted_left);
+                ∙ sym (ap₂ (λ (keys : List Key) (rows : Rows). shown view keys rows) taken.keys taken.left ∙ changed_shown view old.traces.changed old.left cs sorted sorted_left);
             within = subst (λ (keys : List Key). Within keys new.left) (sym taken.keys)
-                (subst (λ (rows : Rows). Within (keys_put old.traces.changed.keys (changed_keys cs)) rows) (sym taken.left) (changed_within old.traces.changed.keys old.left cs sorted_left w.left.within));
+                (subst (λ (rows : Rows). Within (keys_put old.traces.changed (changed_keys cs)) rows) (sym taken.left) (changed_within old.traces.changed old.left cs sorted_left w.left.within));
             changed = taken.keys ∙ ap (λ ks. keys_put ks (changed_keys cs)) w.left.changed ∙ sym (keys_put-append [] (changed_keys so_far.changes) (changed_keys cs))
                 ∙ ap each_once (sym (map-append (λ (c : Change). c.key) so_far.changes cs)) ∙ ap (λ ds. each_once (changed_keys (so_far.changes ++ ds))) (sym made_changes);
             touched = taken.touched ∙ ap (λ ks. keys_put ks effect.touched) w.left.touched ∙ sym (keys_put-append [] so_far.touched effect.touched)
@@ -155,7 +155,7 @@ followed_within view s effect old new sorted w f = by (is_taken (shown_by view o
     by : (b : Bool) → IsFollowedIf b s effect f.totals old new → IsWithin new
     by true taken =
         subst (λ (keys : List Key). Within keys new.left) (sym taken.keys)
-        (subst (λ (rows : Rows). Within (keys_put old.traces.changed.keys (changed_keys effect.changes)) rows) (sym taken.left) (changed_within old.traces.changed.keys old.left effect.changes sorted w))
+        (subst (λ (rows : Rows). Within (keys_put old.traces.changed (changed_keys effect.changes)) rows) (sym taken.left) (changed_within old.traces.changed old.left effect.changes sorted w))
     by false same = subst IsWithin (sym same) w
 
 -- ---- the whole stub
@@ -169,7 +169,7 @@ begun_params params seed [] = refl
 begun_params params seed (s ∷ steps) = refl
 
 pub first_draft : (view : Rows) (params : List Val) (seed : Val) (steps : List ProgramStep) (run : Progress) (draft : Draft) → run_of steps run ≡ begun params seed steps
-    → draft.traces.changed.keys ≡ [] → draft.traces.touched.keys ≡ [] → draft.left ≡ [] → draft.made ≡ [] → draft.is_over ≡ false → draft.totals.documents ≡ length view → draft.totals.bytes ≡ bytes_of view
+    → draft.traces.changed ≡ [] → draft.traces.touched ≡ [] → draft.left ≡ [] → draft.made ≡ [] → draft.is_over ≡ false → draft.totals.documents ≡ length view → draft.totals.bytes ≡ bytes_of view
     → IsDraft view params steps (unchanged view (begun params seed steps)) run draft
 first_draft view params seed steps run draft is changed touched left made over documents bytes = record {
   left = record {
@@ -199,8 +199,8 @@ same_changes_at view rows left (k ∷ ks) same =
     later true e = refl
     later false e = e
 
-pub left_changes : (view : Rows) (stepped : Stepped) (draft : Draft) → IsSorted key_cmp view → IsLeftBy view stepped draft → map (change_at view draft.left) draft.traces.changed.keys ≡ map (change_at view stepped.rows) (each_once (changed_keys stepped.changes))
+pub left_changes : (view : Rows) (stepped : Stepped) (draft : Draft) → IsSorted key_cmp view → IsLeftBy view stepped draft → map (change_at view draft.left) draft.traces.changed ≡ map (change_at view stepped.rows) (each_once (changed_keys stepped.changes))
 left_changes view stepped draft sorted w =
-    same_changes_at view stepped.rows draft.left draft.traces.changed.keys (λ q e.
-    ap (λ (rows : Rows). at key_cmp rows q) w.rows ∙ at_shown view draft.traces.changed.keys draft.left q sorted w.within ∙ ap (λ b. cond b (at key_cmp draft.left q) (at key_cmp view q)) e)
+    same_changes_at view stepped.rows draft.left draft.traces.changed (λ q e.
+    ap (λ (rows : Rows). at key_cmp rows q) w.rows ∙ at_shown view draft.traces.changed draft.left q sorted w.within ∙ ap (λ b. cond b (at key_cmp draft.left q) (at key_cmp view q)) e)
     ∙ ap (map (change_at view stepped.rows)) w.changed

@@ -1,3 +1,4 @@
+mod KeyRows
 pub mod Overlay
 pub mod Windows
 pub mod Following

@@ -4,15 +4,14 @@ use Rattle.std.specs.Option.{option_or}
 use Rattle.std.specs.List.{list_any, IsDistinct}
 use Rattle.std.specs.List.Sorted.{IsStrictlySortedBy}
 use Rattle.std.specs.Map.{keys_of}
-use Rattle.std.specs.declared.cmp.Ordering.TheVariants.{Less, Equal, Greater}
-use Rattle.std.specs.Ordering.{eq_by_cmp, match_ordering}
+use Rattle.std.specs.Ordering.{eq_by_cmp}
 use Rattle.std.specs.BTreeMap.{insert_entry}
 use Rattle.std.specs.BTreeSet.{insert_key}
 use Rattle.std.proofs.Common.{◌≡◌, Bool, true, false, true≢false, cond, List, [], ◌∷◌, refl, sym, ap, ◌∙◌, subst}
 use Rattle.std.proofs.lemmas.List.Elements.{All-nil, All-cons}
 use Rattle.std.proofs.lemmas.Map.Keys.{IsDistinct-from_sorted}
 use Rattle.map_model.specs.Maps.{at, IsSorted}
-use Rattle.map_model.specs.MapLaws.{same_maps, is_some-at, at-put, sorted-put, key_is, eq_by_cmp-self}
+use Rattle.map_model.specs.MapLaws.{same_maps, is_some-at, at-put, key_is, eq_by_cmp-self}
 use Rattle.map_model.specs.Changes.{changed, last_at}
 use Rattle.map_model.specs.ChangeLaws.{at-changed, sorted-changed}
 use Rattle.ejson_value.specs.declared.key.Key.{Key}
@@ -27,33 +26,7 @@ use Rattle.program_model.specs.Steps.{Stepped, unchanged}
 use Rattle.program_model.specs.Kept.{LeadsOn}
 use Rattle.stub_simulation.specs.declared.simulation.Simulated.{Simulated}
 use Rattle.stub_simulation.specs.Simulating.{keys_put, each_once, changed_keys, change_at, IsSimulated}
-
--- ---- keys as maps to nothing
-
-bare : List Key → List (Key × Unit {0})
-bare [] = []
-bare (k ∷ ks) = (k, tt) ∷ bare ks
-
-bare_keys : (ks : List Key) → keys_of (bare ks) ≡ ks
-unfolding bare
-bare_keys [] = refl
-bare_keys (k ∷ ks) = ap (λ rest. k ∷ rest) (bare_keys ks)
-
-bare_put : (ks : List Key) (k : Key) → insert_entry key_cmp (bare ks) k tt ≡ bare (insert_key key_cmp ks k)
-unfolding bare
-bare_put [] k = refl
-bare_put (x ∷ xs) k =
-    let rest = bare_put xs k in
-    elim (key_cmp k x) as (λ o. match_ordering o ((k, tt) ∷ (x, tt) ∷ bare xs) ((x, tt) ∷ bare xs) ((x, tt) ∷ insert_entry key_cmp (bare xs) k tt) ≡ bare (match_ordering o (k ∷ x ∷ xs) (x ∷ xs) (x ∷ insert_key key_cmp xs k))) [
-      | Less ↦ refl
-      | Equal ↦ refl
-      | Greater ↦ ap (λ r. (x, tt) ∷ r) rest
-    ]
-
-sorted_put : (ks : List Key) (k : Key) → IsStrictlySortedBy key_cmp ks → IsStrictlySortedBy key_cmp (insert_key key_cmp ks k)
-sorted_put ks k s =
-    subst (IsStrictlySortedBy key_cmp) (ap keys_of (bare_put ks k) ∙ bare_keys (insert_key key_cmp ks k))
-    (sorted-put key_order (bare ks) k tt (subst (IsStrictlySortedBy key_cmp) (sym (bare_keys ks)) s))
+use Rattle.stub_simulation.proofs.KeyRows.{bare, bare_keys, bare_put, sorted_put}
 
 pub sorted_all : (keys ks : List Key) → IsStrictlySortedBy key_cmp keys → IsStrictlySortedBy key_cmp (keys_put keys ks)
 sorted_all keys [] s = s

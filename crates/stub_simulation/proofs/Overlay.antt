@@ -1,15 +1,15 @@
 -- A view with what is left at changed keys.
-use Rattle.std.specs.Prelude.{filter, map, Option, Some, None, is_some, sum_by, not, ◌&&◌, ◌||◌}
+use Rattle.std.specs.Prelude.{filter, Option, Some, None, not, ◌&&◌, ◌||◌}
 use Rattle.std.specs.List.{list_any}
 use Rattle.std.specs.Option.{option_or}
 use Rattle.std.specs.Map.{keys_of}
 use Rattle.std.specs.Ordering.{eq_by_cmp}
 use Rattle.std.specs.BTreeMap.{insert_entry}
 use Rattle.std.specs.BTreeSet.{insert_key}
-use Rattle.std.proofs.Common.{◌≡◌, ℕ, Bool, true, false, cond, List, [], ◌∷◌, refl, sym, ap, ap₂, ◌∙◌, subst}
+use Rattle.std.proofs.Common.{◌≡◌, ℕ, Bool, true, false, cond, List, [], ◌∷◌, refl, sym, ap, ap₂, ◌∙◌}
 use Rattle.std.proofs.lemmas.Map.Entries.{option_filter}
 use Rattle.std.proofs.lemmas.Map.Keys.{sorted_tail}
-use Rattle.map_model.specs.Maps.{at, set, union, IsSorted}
+use Rattle.map_model.specs.Maps.{at, set, IsSorted}
 use Rattle.map_model.specs.MapLaws.{same_maps, at-union, sorted-union, at-filter, sorted-filter, at-set, sorted-set, at-put, sorted-put, at-tail, sorted-nil}
 use Rattle.map_model.specs.Changes.{changed}
 use Rattle.value_model.specs.Val.{Entries}

@@ -3,19 +3,17 @@ use Rattle.std.specs.Prelude.{drop, Option, Some, None, is_some, option_map}
 use Rattle.std.proofs.Common.{◌≡◌, true, ℕ, zero, suc, ◌+◌, ◌<◌, ◌≤◌, arith, length, List, [], ◌∷◌, ◌++◌, refl, sym, ap, ap₂, ◌∙◌}
 use Rattle.std.proofs.Math.Seq.{drop-cons}
 use Rattle.program_steps.specs.declared.step.ProgramStep.TheVariants.{Unblock}
-use Rattle.std.proofs.lemmas.List.{map-append}
 use Rattle.std.specs.BTreeSet.{insert_key}
 use Rattle.ejson_value.specs.declared.key.Key.{Key}
-use Rattle.ejson_value.specs.declared.change.Change.{Change}
 use Rattle.ejson_value.specs.Key.{key_cmp}
 use Rattle.program_steps.specs.declared.step.ProgramStep.{ProgramStep}
 use Rattle.program_steps.specs.Runs.{Outcome}
 use Rattle.value_model.specs.Val.{Val}
 use Rattle.ejson_value.specs.Rows.{Rows}
 use Rattle.program_model.specs.Run.{Run, begun}
-use Rattle.program_model.specs.Steps.{Setting, Stepped, stepped, stepped_by, further, all_stepped, unchanged, whole_run, client_setting, stub_room}
+use Rattle.program_model.specs.Steps.{Setting, Stepped, stepped_by, further, all_stepped, unchanged, whole_run}
 use Rattle.program_run.specs.Progress.{Progress, run_of, left_of}
-use Rattle.stub_simulation.specs.Simulating.{keys_put, each_once, changed_keys}
+use Rattle.stub_simulation.specs.Simulating.{keys_put}
 
 pub keys_put-append : (keys xs ys : List Key) → keys_put keys (xs ++ ys) ≡ keys_put (keys_put keys xs) ys
 keys_put-append keys [] ys = refl

@@ -1,8 +1,6 @@
 -- A step that was made over the documents that it looks at does the same over all of them, or is refused there.
-use Rattle.std.specs.Prelude.{filter, map, sum_by, is_some, is_none, not, ◌&&◌, ◌||◌, nat_lt, Option, Some, None, Ok, Err, option_and_then, if◌then◌else◌}
-use Rattle.std.specs.List.{list_any}
-use Rattle.std.specs.Ordering.{eq_by_cmp}
-use Rattle.std.proofs.Common.{◌≡◌, ◌≢◌, ℕ, ◌+◌, ◌≤◌, ◌<◌, Bool, true, false, true≢false, cond, List, [], ◌∷◌, ◌++◌, length, refl, sym, ap, ap₂, ◌∙◌, subst, arith}
+use Rattle.std.specs.Prelude.{filter, map, sum_by, is_some, is_none, not, ◌&&◌, ◌||◌, nat_lt, Option, Some, None, Ok, Err, if◌then◌else◌}
+use Rattle.std.proofs.Common.{◌≡◌, ℕ, ◌+◌, ◌≤◌, Bool, true, false, true≢false, cond, List, [], ◌∷◌, ◌++◌, length, refl, sym, ap, ap₂, ◌∙◌, subst, arith}
 use Rattle.std.proofs.lemmas.Bool.{ltb-false, le-ltb, or_parts}
 use Rattle.std.proofs.lemmas.List.Sums.{sum_by-cons}
 use Rattle.map_model.specs.Maps.{at, IsSorted}
@@ -22,16 +20,15 @@ use Rattle.ejson_value.specs.Results.{made, and_then}
 use Rattle.selector_match.specs.Query.{Query}
 use Rattle.selector_match.specs.Holds.{holds}
 use Rattle.modifier_apply.specs.Change.{Modification}
-use Rattle.collection_store.specs.declared.fault.OpFault.{OpFault}
 use Rattle.collection_store.specs.declared.fault.OpFault.TheVariants as fault
 use Rattle.collection_store.specs.declared.operation.Op.TheVariants as operation
 use Rattle.collection_store.specs.Outcome.{Outcome}
 use Rattle.collection_store.specs.Limits.{document, bytes_of, size_if, old_bytes, new_bytes, max_documents, max_bytes, max_document_size, max_document_depth, is_too_large, is_full}
-use Rattle.collection_store.specs.Applied.{Row, Plan, Applied, is_listed, after, done, matching, chosen, insertion, insert_plan, all_updated, update_plan, plan_for, remove_plan, applied}
+use Rattle.collection_store.specs.Applied.{Row, Plan, Applied, is_listed, after, done, matching, chosen, insertion, all_updated, update_plan, plan_for, remove_plan, applied}
 use Rattle.collection_store.specs.Answered.{AreFor}
-use Rattle.collection_store.proofs.Sums.{one_if, changed_sum, length-sum, bytes-after, length-after, not_full}
+use Rattle.collection_store.proofs.Sums.{one_if, changed_sum, length-sum, bytes-after, not_full}
 use Rattle.stub_simulation.proofs.Stepping.{append-nil}
-use Rattle.collection_store.proofs.Picked.{Picked, AreFor-from_picked, AreFor-insertion, of_chosen_matching, picked_updates, length-updates, length-insertion}
+use Rattle.collection_store.proofs.Picked.{Picked, AreFor-from_picked, AreFor-insertion, of_chosen_matching, picked_updates, length-updates}
 use Rattle.program_steps.specs.declared.step.ProgramStep.{ProgramStep}
 use Rattle.program_steps.specs.declared.step.ProgramStep.TheVariants as step
 use Rattle.program_steps.specs.declared.rules.Action.{Action}
@@ -39,7 +36,7 @@ use Rattle.program_steps.specs.Runs.{done as run_done}
 use Rattle.program_model.specs.Faults.{bad_parameters, not_allowed, fault_of}
 use Rattle.program_model.specs.Guarded.{judged_document, no_rules, id_of, on_document}
 use Rattle.program_model.specs.Run.{Run, New, gone_on, if_over, ended, inserted, new_in, selector_in, modifier_in, filled_in}
-use Rattle.program_model.specs.Steps.{Setting, Stepped, Writing, unchanged, refused, written, by_answer, if_made, if_found, by_verdict, writing_in, by_rules, done_step, client_setting, stub_room}
+use Rattle.program_model.specs.Steps.{Stepped, Writing, unchanged, refused, by_answer, if_made, if_found, by_verdict, writing_in, by_rules, done_step, client_setting, stub_room}
 use Rattle.stub_simulation.specs.Drafts.{IsFoundBy, IsWindow, old_count, new_count, is_past, is_new, is_taken, new_ids}
 
 -- ---- what becomes of the step

@@ -31,10 +31,10 @@ abbrev pub shown : Rows → List Key → Rows → Rows
 shown view keys left = union key_cmp left (filter (λ row. not (list_any (eq_by_cmp key_cmp row.0) keys)) view)
 
 abbrev pub is_changed : Draft → Key → Bool
-is_changed draft key = list_any (eq_by_cmp key_cmp key) draft.traces.changed.keys
+is_changed draft key = list_any (eq_by_cmp key_cmp key) draft.traces.changed
 
 abbrev pub shown_by : Rows → Draft → Rows
-shown_by view draft = shown view draft.traces.changed.keys draft.left
+shown_by view draft = shown view draft.traces.changed draft.left
 
 -- nothing is left but at the keys that were changed
 abbrev pub IsWithin : Draft → Type 0
@@ -100,8 +100,8 @@ new_ids _ touched = []
 
 -- the draft has taken what the step did
 pub record IsTaken (s : ProgramStep) (effect : Effect) (after : Totals) (old new : Draft) : Type 0 where
-  pub keys : new.traces.changed.keys ≡ keys_put old.traces.changed.keys (changed_keys effect.changes)
-  pub touched : new.traces.touched.keys ≡ keys_put old.traces.touched.keys effect.touched
+  pub keys : new.traces.changed ≡ keys_put old.traces.changed (changed_keys effect.changes)
+  pub touched : new.traces.touched ≡ keys_put old.traces.touched effect.touched
   pub left : new.left ≡ changed key_cmp old.left (changes_of effect.changes)
   pub totals : new.totals ≡ after
   pub made : new.made ≡ old.made ++ new_ids s effect.touched
@@ -123,8 +123,8 @@ pub record IsFollowed (view : Rows) (s : ProgramStep) (effect : Effect) (old new
 pub record IsLeftBy (view : Rows) (stepped : Stepped) (draft : Draft) : Type 0 where
   pub rows : stepped.rows ≡ shown_by view draft
   pub within : IsWithin draft
-  pub changed : draft.traces.changed.keys ≡ each_once (changed_keys stepped.changes)
-  pub touched : draft.traces.touched.keys ≡ each_once stepped.touched
+  pub changed : draft.traces.changed ≡ each_once (changed_keys stepped.changes)
+  pub touched : draft.traces.touched ≡ each_once stepped.touched
 
 -- where the stub goes on the run is as far as its own
 pub record GoesOn (params : List Val) (steps : List ProgramStep) (stepped : Stepped) (progress : Progress) (draft : Draft) : Type 0 where

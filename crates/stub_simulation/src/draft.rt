@@ -82,8 +82,8 @@ fn put_made(made: &mut Names, step: &ProgramStep, touched: &Keys) -> Result<(), 
 impl Draft {
     /// Nothing was made yet over a view that has this much.
     pub(crate) fn new(alloc: Global, totals: Totals) -> Draft
-        ensures changed { result.traces.changed.keys ≡ [] }
-        ensures touched { result.traces.touched.keys ≡ [] }
+        ensures changed { result.traces.changed ≡ [] }
+        ensures touched { result.traces.touched ≡ [] }
         ensures left { result.left ≡ [] }
         ensures totals { result.totals ≡ totals }
         ensures made { result.made ≡ [] }
@@ -125,8 +125,8 @@ impl Draft {
         effect: &Effect,
         totals: Totals,
     ) -> Result<(), Mem>
-        ensures changed { OnOk result (self.new.traces.changed.keys ≡ keys_put self.old.traces.changed.keys (changed_keys effect.now.changes)) }
-        ensures touched { OnOk result (self.new.traces.touched.keys ≡ keys_put self.old.traces.touched.keys effect.now.touched) }
+        ensures changed { OnOk result (self.new.traces.changed ≡ keys_put self.old.traces.changed (changed_keys effect.now.changes)) }
+        ensures touched { OnOk result (self.new.traces.touched ≡ keys_put self.old.traces.touched effect.now.touched) }
         ensures left { OnOk result (self.new.left ≡ changed key_cmp self.old.left (changes_of effect.now.changes)) }
         ensures totals { OnOk result (self.new.totals ≡ totals) }
         ensures made { OnOk result (self.new.made ≡ self.old.made ++ new_ids step.now effect.now.touched) }

@@ -8,6 +8,7 @@
 mod draft;
 mod finding;
 mod fitting;
+mod key_set;
 mod simulation;
 mod steps;
 mod traces;

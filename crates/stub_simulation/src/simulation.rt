@@ -21,7 +21,6 @@ use ejson_value::{Change, Changes, Contents, Doc, Items, Key, Keys, Mem, Text, V
 use program_run::Run;
 use program_steps::ProgramSteps;
 use std::alloc::Global;
-use std::collections::BTreeSet;
 
 /// What a simulation does: the documents that differ from the view, each once and by key, and the
 /// keys of those that the stub inserted, changed, matched or removed, each once and rising.
@@ -73,29 +72,14 @@ fn change_at(view: &Contents, left: &Contents, key: &Key) -> Result<Change, Mem>
     Ok(Change { key, before, after })
 }
 
-fn changes_at(
-    alloc: Global,
-    view: &Contents,
-    left: &Contents,
-    keys: &BTreeSet<Key>,
-) -> Result<Changes, Mem>
-    ensures { IfOk result (λ changes. changes ≡ map (change_at view.now left.now) keys.now.keys) }
+fn changes_at(alloc: Global, view: &Contents, left: &Contents, keys: &[Key]) -> Result<Changes, Mem>
+    ensures { IfOk result (λ changes. changes ≡ map (change_at view.now left.now) keys.now) }
 {
     let mut changes = Changes::new(alloc);
-    for key in keys.iter() {
+    for key in keys {
         changes.push(change_at(view, left, key)?)?;
     }
     Ok(changes)
-}
-
-fn listed(alloc: Global, keys: &BTreeSet<Key>) -> Result<Keys, Mem>
-    ensures { IfOk result (λ list. list ≡ keys.now.keys) }
-{
-    let mut list = Keys::new(alloc);
-    for key in keys.iter() {
-        list.push(key.copy()?)?;
-    }
-    Ok(list)
 }
 
 // What led from the view to the documents that are left.
@@ -105,13 +89,14 @@ fn differences(
     left: &Contents,
     traces: &Traces,
 ) -> Result<Simulated, Mem>
-    ensures changes { IfOk result (λ s. s.changes ≡ map (change_at view.now left.now) traces.now.changed.keys) }
-    ensures touched { IfOk result (λ s. s.touched ≡ traces.now.touched.keys) }
+    ensures changes { IfOk result (λ s. s.changes ≡ map (change_at view.now left.now) traces.now.changed) }
+    ensures touched { IfOk result (λ s. s.touched ≡ traces.now.touched) }
 {
-    let changes = changes_at(alloc, view, left, &traces.changed)?;
+    let changed = traces.changed.listed(alloc)?;
+    let changes = changes_at(alloc, view, left, changed.as_slice())?;
     Ok(Simulated {
         changes,
-        touched: listed(alloc, &traces.touched)?,
+        touched: traces.touched.listed(alloc)?,
     })
 }
 

@@ -11,5 +11,5 @@ returns-in-Some c =
     let draft = c.args.draft.now in
     let view = c.args.view.now in
     subst (λ (rows : Rows). IfOk c.found_named.result (λ found. found ≡ rows))
-    (sym (named_matching c.args.collection.now c.in-Some.id.now c.args.selector.now c.in-Some.ensures.only (shown_by view draft) (sorted_shown view draft.traces.changed.keys draft.left c.known.ensures.by_key)))
+    (sym (named_matching c.args.collection.now c.in-Some.id.now c.args.selector.now c.in-Some.ensures.only (shown_by view draft) (sorted_shown view draft.traces.changed draft.left c.known.ensures.by_key)))
     c.found_named.ensures

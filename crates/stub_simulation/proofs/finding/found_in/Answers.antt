@@ -16,4 +16,4 @@ returns c =
     let fresh : Rows = filter (λ (row : Row). not (is_changed draft row.0) && holds selector row.0.id row.1) (rows_of collection view) in
     c.in_ok-put_left.ensures
     ∙ ap (λ (rows : Rows). all_put rows (matching collection selector draft.left)) (c.in_ok-put_fresh.ensures ∙ ap (λ (rows : Rows). all_put rows fresh) c.new-found.ensures)
-    ∙ found_shown view draft.traces.changed.keys draft.left collection selector c.known.ensures.by_key c.known-2.ensures.by_key c.requires
+    ∙ found_shown view draft.traces.changed draft.left collection selector c.known.ensures.by_key c.known-2.ensures.by_key c.requires

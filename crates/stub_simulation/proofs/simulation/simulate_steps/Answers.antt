@@ -1,5 +1,4 @@
-use Rattle.std.specs.Prelude.{map}
-use Rattle.std.proofs.Common.{ap, ◌∙◌}
+use Rattle.std.proofs.Common.{◌∙◌}
 use Rattle.ejson_value.specs.View.{view}
 use Rattle.program_model.specs.Run.{begun}
 use Rattle.program_model.specs.Steps.{whole_run, client_setting}

@@ -1,5 +1,5 @@
 use Rattle.std.specs.Prelude.{None}
-use Rattle.std.proofs.Common.{◌≡◌, ap, subst}
+use Rattle.std.proofs.Common.{◌≡◌, subst}
 use Rattle.collection_store.specs.State.{StoreState}
 use Rattle.program_model.specs.Steps.{stepped, stub_room}
 use Rattle.program_run.specs.Progress.{run_of}

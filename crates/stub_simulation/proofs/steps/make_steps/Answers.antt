@@ -1,5 +1,5 @@
 use Rattle.std.specs.Prelude.{drop}
-use Rattle.std.proofs.Common.{◌≡◌, refl, sym, subst, ◌∙◌}
+use Rattle.std.proofs.Common.{refl, sym, subst, ◌∙◌}
 use Rattle.program_model.specs.Steps.{Stepped, client_setting, further}
 use Rattle.stub_simulation.specs.Drafts.{IsDraft}
 use Rattle.stub_simulation.proofs.Stepping.{next_made, none_more, all_over}

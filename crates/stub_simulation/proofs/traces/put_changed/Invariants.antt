@@ -3,4 +3,4 @@ use Rattle.stub_simulation.specs.Simulating.{keys_put, changed_keys}
 use Rattle.stub_simulation.proofs.traces.put_changed.Given as goal
 
 abbrev pub invariant-loop-change : goal.invariant-loop-change
-invariant-loop-change l = keys_put l.keys.keys (changed_keys (drop l.change-index l.changes)) ≡ keys_put l.initial.keys.keys (changed_keys l.changes)
+invariant-loop-change l = keys_put l.keys (changed_keys (drop l.change-index l.changes)) ≡ keys_put l.initial.keys (changed_keys l.changes)

@@ -1,5 +1,5 @@
 use Rattle.std.specs.Prelude.{not}
-use Rattle.std.proofs.Common.{◌≡◌, Bool, true, false, cond, ap, sym, refl, ◌∙◌}
+use Rattle.std.proofs.Common.{◌≡◌, Bool, true, false, cond, ap, sym, ◌∙◌}
 use Rattle.map_model.specs.Maps.{at}
 use Rattle.ejson_value.specs.Key.{key_cmp}
 use Rattle.stub_simulation.specs.Drafts.{is_changed}
@@ -16,7 +16,7 @@ returns-then-is_fresh c =
     let view = c.args.view.now in
     let key = c.args.key.now in
     c.get.ensures
-    ∙ sym (at_shown view draft.traces.changed.keys draft.left key c.known.ensures.by_key c.requires
+    ∙ sym (at_shown view draft.traces.changed draft.left key c.known.ensures.by_key c.requires
     ∙ ap (λ b. cond b (at key_cmp draft.left key) (at key_cmp view key)) (not_is (is_changed draft key) true (sym c.is_fresh.ensures ∙ c.if-is_fresh.true)))
 
 pub returns-else-is_fresh : goal.returns-else-is_fresh
@@ -25,5 +25,5 @@ returns-else-is_fresh c =
     let view = c.args.view.now in
     let key = c.args.key.now in
     c.get-else-is_fresh.ensures
-    ∙ sym (at_shown view draft.traces.changed.keys draft.left key c.known.ensures.by_key c.requires
+    ∙ sym (at_shown view draft.traces.changed draft.left key c.known.ensures.by_key c.requires
     ∙ ap (λ b. cond b (at key_cmp draft.left key) (at key_cmp view key)) (not_is (is_changed draft key) false (sym c.is_fresh.ensures ∙ c.if-is_fresh.false)))

@@ -1,5 +1,5 @@
 use Rattle.std.proofs.Common.{◌≡◌, ◌++◌}
-use Rattle.stub_simulation.proofs.simulation.listed.Given as goal
+use Rattle.stub_simulation.proofs.key_set.listed_tree.Given as goal
 
 abbrev pub invariant-loop-key : goal.invariant-loop-key
 invariant-loop-key l = record {
