@@ -1,5 +1,6 @@
 -- Two maps side by side have at each key what each has there.
 use Rattle.std.proofs.Common.{◌≡◌, ℕ, true, false, cond, List, [], ◌∷◌, map, Option, Some, None, option_and_then, unwrap_or, refl, sym, ap, subst, ◌∙◌}
+use Rattle.std.specs.Cmp.{tied_itself}
 use Rattle.std.specs.Ordering.{eq_by_cmp, is_eq, match_ordering, ordering_reverse}
 use Rattle.std.specs.List.{AllByRecursion}
 use Rattle.std.specs.List.Sorted.{IsStrictlySortedBy}
@@ -138,3 +139,9 @@ claims_beside sub fields doc made s t is f =
     at-filter_map_entries name_order (field_after sub) (side_by_side text_cmp fields doc) f (sorted-side_by_side name_order fields doc s t)
     ∙ ap (option_and_then (field_after sub f)) (at-side_by_side name_order fields doc f s t))
     ∙ changed_joined sub f (at text_cmp fields f) (at text_cmp doc f)
+
+-- the next entry of both maps, at one key
+pub both_next : {K X Y : Type 0} {R : K → K → Ordering} (o : IsKeyOrder R) (j k : K) (x : X) (y : Y) (a : List (K × X)) (b : List (K × Y)) → j ≡ k → side_by_side R ((j, x) ∷ a) ((k, y) ∷ b) ≡ (k, (Some x, Some y)) ∷ side_by_side R a b
+both_next {R = R} o j k x y a b e =
+    ap (λ r. match_ordering r ((j, (Some x, None)) ∷ side_by_side R a ((k, y) ∷ b)) ((j, (Some x, Some y)) ∷ side_by_side R a b) ((k, (None, Some y)) ∷ entry_beside R j x (side_by_side R a) b)) (ap (R j) (sym e) ∙ tied_itself o.total j)
+    ∙ ap (λ q. (q, (Some x, Some y)) ∷ side_by_side R a b) e

@@ -1,5 +1,5 @@
 //! What is new in a document, and what is gone.
-ghost use Rattle.std.specs.Prelude.{◌≡◌, ◌++◌, [], option_map, IfOk, OnOk};
+ghost use Rattle.std.specs.Prelude.{◌≡◌, ◌++◌, [], option_map, IsSome, IfSome, IfOk, OnOk};
 ghost use Rattle.std.specs.Map.{keys_of};
 ghost use Rattle.map_model.specs.Maps.{keyed};
 ghost use Rattle.map_model.specs.Differences.{is_there, new_fields, cleared};
@@ -60,8 +60,32 @@ pub(crate) fn push_lost(
     }
 }
 
-/// The fields that are new or have another value, and the names of those that are gone.
-pub(crate) fn difference(alloc: Global, before: &Doc, after: &Doc) -> Result<(Doc, Names), Mem>
+// The fields that have another value, where both documents have fields of the same names.
+fn changed_values(alloc: Global, before: &Doc, after: &Doc) -> Result<Option<Doc>, Mem>
+    ensures fields { IfOk result (λ made. IfSome made (λ fields. fields ≡ new_fields text_cmp same_value before.now after.now)) }
+    ensures names { IfOk result (λ made. IsSome made → cleared text_cmp same_value before.now after.now ≡ []) }
+{
+    let mut fields = Doc::new(alloc);
+    let mut olds = before.iter();
+    let mut news = after.iter();
+    while let Some((name, value)) = news.next() {
+        let Some((old_name, old)) = olds.next() else {
+            return Ok(None);
+        };
+        if *old_name != *name {
+            return Ok(None);
+        }
+        put_new(&mut fields, name, Some(old), Some(value))?;
+    }
+    match olds.next() {
+        None => Ok(Some(fields)),
+        Some(_) => Ok(None),
+    }
+}
+
+// The fields that are new or have another value, and the names of those that are gone, whatever
+// names the documents have.
+fn difference_by_name(alloc: Global, before: &Doc, after: &Doc) -> Result<(Doc, Names), Mem>
     ensures fields { IfOk result (λ d. d.0 ≡ new_fields text_cmp same_value before.now after.now) }
     ensures names { IfOk result (λ d. d.1 ≡ cleared text_cmp same_value before.now after.now) }
 {
@@ -73,4 +97,15 @@ pub(crate) fn difference(alloc: Global, before: &Doc, after: &Doc) -> Result<(Do
         push_lost(&mut names, pair.name, pair.before, pair.after)?;
     }
     Ok((fields, names))
+}
+
+/// The fields that are new or have another value, and the names of those that are gone.
+pub(crate) fn difference(alloc: Global, before: &Doc, after: &Doc) -> Result<(Doc, Names), Mem>
+    ensures fields { IfOk result (λ d. d.0 ≡ new_fields text_cmp same_value before.now after.now) }
+    ensures names { IfOk result (λ d. d.1 ≡ cleared text_cmp same_value before.now after.now) }
+{
+    match changed_values(alloc, before, after)? {
+        Some(fields) => Ok((fields, Names::new(alloc))),
+        None => difference_by_name(alloc, before, after),
+    }
 }

@@ -11,7 +11,7 @@ use Rattle.kept_document.specs.Sides.{Both, side_by_side, pairs_left}
 use Rattle.kept_document.proofs.Beside.{sorted-side_by_side}
 use Rattle.kept_document.proofs.Telling.{new_of_both, lost_of_both}
 use Rattle.kept_document.proofs.Walks.{walk_put_some, walk_on, walk_end, walk_keys}
-use Rattle.kept_document.proofs.differences.difference.Goals as goal
+use Rattle.kept_document.proofs.differences.difference_by_name.Goals as goal
 
 pub loop-pair-preserved : goal.loop-pair-preserved
 loop-pair-preserved c =

@@ -5,7 +5,7 @@ use Rattle.value_model.specs.Order.{text_cmp}
 use Rattle.map_model.specs.Maps.{filter_map_entries}
 use Rattle.kept_document.specs.Held.{new_of, lost_of}
 use Rattle.kept_document.specs.Sides.{Both, side_by_side, pairs_left}
-use Rattle.kept_document.proofs.differences.difference.Given as goal
+use Rattle.kept_document.proofs.differences.difference_by_name.Given as goal
 
 abbrev pub invariant-loop-pair : goal.invariant-loop-pair
 invariant-loop-pair l = record {
