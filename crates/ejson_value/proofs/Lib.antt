@@ -5,3 +5,4 @@ pub mod Ranges
 pub mod Places
 pub mod Moves
 pub mod Replacing
+pub mod Sizes

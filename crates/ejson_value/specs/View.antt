@@ -7,10 +7,10 @@ use Rattle.ejson_value.specs.declared.value.Value.{Value}
 use Rattle.ejson_value.specs.declared.value.Value.TheVariants as shape
 use Rattle.std.specs.Slice.Iter.{iter_rest}
 use Rattle.ejson_value.specs.declared.row.Member.{Member}
-use Rattle.ejson_value.specs.declared.value.Members.{Members}
-use Rattle.ejson_value.specs.declared.value.Members.TheVariants as members
-use Rattle.ejson_value.specs.declared.value.Walk.{Walk}
-use Rattle.ejson_value.specs.declared.value.Walk.TheVariants as walk
+use Rattle.ejson_value.specs.declared.members.Members.{Members}
+use Rattle.ejson_value.specs.declared.members.Members.TheVariants as members
+use Rattle.ejson_value.specs.declared.members.Walk.{Walk}
+use Rattle.ejson_value.specs.declared.members.Walk.TheVariants as walk
 
 abbrev pub view : Value → Val
 view shape.Null = null
@@ -32,9 +32,9 @@ held_fields (members.Few es) = es
 held_fields (members.Many es) = es
 
 -- the fields of a document, which may have no memory
-abbrev pub doc_fields : {Z : Type 0} → Option (Arc Members Z) → Entries
+abbrev pub doc_fields : {Z : Type 0} → Option (Arc Entries Z) → Entries
 doc_fields None = []
-doc_fields (Some fields) = held_fields (arc_value fields)
+doc_fields (Some fields) = arc_value fields
 
 -- the values of a list, which may have no memory
 abbrev pub held_items : {Y Z : Type 0} → Option (Arc (Vec Value Y) Z) → List Value

@@ -10,6 +10,7 @@ mod fault;
 mod key;
 mod list;
 mod measure;
+mod members;
 mod memory;
 mod message;
 mod order;
@@ -32,6 +33,7 @@ pub use fault::Fault;
 pub use key::Key;
 pub use list::{Copied, ListOf, copy_option};
 pub use measure::{depth, document_depth, document_size, size, text_size};
+pub use members::Fields;
 pub use memory::Mem;
 pub use message::DataMsg;
 pub use order::{compare, kind, same, same_documents};
@@ -39,7 +41,7 @@ pub use path::{Part, Path, PathFault};
 pub use sort::SortKey;
 pub use text::Text;
 pub use user::{BoxedName, MAX_USER_NAME, UserName};
-pub use value::{Boxed, Doc, Fields, Items, Value};
+pub use value::{Boxed, Doc, Items, Value};
 pub use whole::Whole;
 
 /// Names, as of fields or of collections.

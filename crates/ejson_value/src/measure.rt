@@ -85,6 +85,9 @@ impl Doc {
     pub fn has_special_names(&self) -> bool
         ensures { result ≡ is_special (names_of (fields_of self.now)) }
     {
+        if self.len() > 2 {
+            return false;
+        }
         let mut fields = self.iter();
         let Some((first, _)) = fields.next() else {
             return false;
@@ -92,9 +95,6 @@ impl Doc {
         let Some((second, _)) = fields.next() else {
             return is_special_name(first.as_str());
         };
-        if fields.next().is_some() {
-            return false;
-        }
         is_special_pair(first.as_str(), second.as_str())
     }
 }
@@ -150,31 +150,29 @@ fn items_size(items: &Items) -> u64
     total
 }
 
-/// How many bytes the document's EJSON text has, 2^64 - 1 where it has more.
-#[cycle(measuring)]
+// How many bytes a field has whose value has so many: with its colon and a comma, 2^64 - 1 where it has more.
+pub(crate) fn with_name(name: &Text, bytes: u64) -> u64
+    ensures { result ≡ capped (2 + text_size name.now + bytes) }
+{
+    text_size(name).saturating_add(2).saturating_add(bytes)
+}
+
+pub(crate) fn field_size(name: &Text, value: &Value) -> u64
+    ensures { result ≡ capped (2 + text_size name.now + size (view value.now)) }
+{
+    with_name(name, size(value))
+}
+
+/// How many bytes the document's EJSON text has, 2^64 - 1 where it has more. It looks at no value.
 pub fn document_size(doc: &Doc) -> u64
     ensures { result ≡ capped (size (object (fields_of doc.now))) }
 {
-    let inside = fields_size(doc).saturating_add(1).max(2);
+    let inside = doc.bytes().saturating_add(1).max(2);
     if doc.has_special_names() {
         inside.saturating_add(12)
     } else {
         inside
     }
-}
-
-#[cycle(measuring)]
-fn fields_size(doc: &Doc) -> u64
-    ensures { result ≡ capped (fields_size (fields_of doc.now)) }
-{
-    let mut total = 0u64;
-    for (name, value) in doc.iter() {
-        total = total
-            .saturating_add(2)
-            .saturating_add(text_size(name))
-            .saturating_add(size(value));
-    }
-    total
 }
 
 /// How deep lists, objects and values of user types stand in the value, 2^64 - 1 where it is more: one more than what

@@ -1,5 +1,6 @@
 //! The fields of a document in a row by rising name. An edit moves those behind its place, so a row has few.
 ghost use Rattle.std.specs.Prelude.{◌≡◌, ◌+◌, ◌++◌, ◌≤◌, ◌<◌, ◌∷◌, [], length, Some, option_map, vec_len, vec_capacity, IfOk, IfErr, OnOk, OnErr, IsTrue};
+ghost use Rattle.std.specs.List.{remove as remove_item};
 ghost use Rattle.std.specs.List.Sorted.{IsStrictlySortedBy, IsSearchInRange};
 ghost use Rattle.map_model.specs.Orders.{IsAbove};
 ghost use Rattle.ejson_value.specs.Places.{name_at, IsGapFor};
@@ -53,7 +54,7 @@ impl Model for Row {
 
     ghost invariant = { λ a. IsDocument (entries (pairs a.members.items)) };
 
-    ghost size = { λ es. 2 * fields_depth (fields_of es) + 1 };
+    ghost size = { λ es. 3 * fields_depth (fields_of es) + 1 };
 
     ghost use Rattle.ejson_value.specs.Falls.{most_le-row};
 
@@ -78,6 +79,18 @@ impl Row {
         Ok(Row {
             members: copies(*self.members.allocator(), self.members.as_slice(), more)?,
         })
+    }
+
+    // A row equal to this one but for the field of this name, with room for just its fields.
+    pub(crate) fn without(&self, name: &Text) -> Result<Row, Mem>
+        ensures { IfOk result (λ row. row ≡ remove self.now name.now) }
+    {
+        match self.place(name) {
+            Ok(place) => Ok(Row {
+                members: copies_beside(*self.members.allocator(), self.members.as_slice(), place)?,
+            }),
+            Err(_) => self.copied(0),
+        }
     }
 
     // How many fields it has.
@@ -131,8 +144,9 @@ impl Row {
         Ok(())
     }
 
-    // Puts the value as the field of this name, in place of one that is there.
-    pub(crate) fn put(&mut self, name: Text, value: Value) -> Result<(), Mem>
+    // Puts the value as the field of this name, and hands out the one that was there.
+    pub(crate) fn put(&mut self, name: Text, value: Value) -> Result<Option<Value>, Mem>
+        ensures value { IfOk result (λ there. option_map view there ≡ get self.old name) }
         ensures ok { OnOk result (self.new ≡ put self.old name (view value)) }
         ensures err { OnErr result (self.new ≡ self.old) }
     {
@@ -141,28 +155,32 @@ impl Row {
     }
 
     // Puts the field where its name stands, or at the gap for it.
-    fn put_at(&mut self, place: Result<usize, usize>, member: Member) -> Result<(), Mem>
+    fn put_at(&mut self, place: Result<usize, usize>, member: Member) -> Result<Option<Value>, Mem>
         requires found { IfOk place (λ place. name_at self.old place ≡ Some member.name) }
         requires gap { IfErr place (IsGapFor self.old member.name) }
+        ensures value { IfOk result (λ there. option_map view there ≡ get self.old member.name) }
         ensures ok { OnOk result (self.new ≡ put self.old member.name (view member.value)) }
         ensures err { OnErr result (self.new ≡ self.old) }
     {
         match place {
-            Ok(place) => {
-                self.write_at(place, member);
-                Ok(())
+            Ok(place) => Ok(Some(self.write_at(place, member))),
+            Err(place) => {
+                self.insert_at(place, member)?;
+                Ok(None)
             }
-            Err(place) => self.insert_at(place, member),
         }
     }
 
-    // Puts the field in place of that of the same name, which stands at this place.
-    fn write_at(&mut self, place: usize, member: Member)
+    // Puts the field in place of that of the same name, which stands at this place, and hands out its value.
+    fn write_at(&mut self, place: usize, member: Member) -> Value
         requires { name_at self.old place ≡ Some member.name }
-        ensures { self.new ≡ put self.old member.name (view member.value) }
+        ensures value { Some (view result) ≡ get self.old member.name }
+        ensures put { self.new ≡ put self.old member.name (view member.value) }
     {
         member.value.known();
-        drop(mem::replace(&mut self.members[place], member));
+        let Member { name, value } = mem::replace(&mut self.members[place], member);
+        drop(name);
+        value
     }
 
     // Puts a new field at the gap for it.
@@ -234,14 +252,33 @@ fn copy_of(member: &Member) -> Result<Member, Mem>
     })
 }
 
+// Puts copies of the members behind the others.
+fn put_copies(copies: &mut Vec<Member>, members: &[Member]) -> Result<(), Mem>
+    ensures { OnOk result (entries (pairs copies.new.items) ≡ entries (pairs copies.old.items) ++ entries (pairs members.now)) }
+{
+    for member in members {
+        copies.push(copy_of(member)?)?;
+    }
+    Ok(())
+}
+
 // Copies of the members, with room for so many more.
 fn copies(alloc: Global, members: &[Member], more: usize) -> Result<Vec<Member>, Mem>
     ensures { IfOk result (λ copies. entries (pairs copies.items) ≡ entries (pairs members.now)) }
 {
     let mut copies = Vec::with_capacity(alloc, members.len().saturating_add(more))?;
-    for member in members {
-        copies.push(copy_of(member)?)?;
-    }
+    put_copies(&mut copies, members)?;
+    Ok(copies)
+}
+
+// Copies of the members but for the one at this place.
+fn copies_beside(alloc: Global, members: &[Member], place: usize) -> Result<Vec<Member>, Mem>
+    requires { place < length members.now }
+    ensures { IfOk result (λ copies. entries (pairs copies.items) ≡ entries (pairs (remove_item members.now place))) }
+{
+    let mut copies = Vec::with_capacity(alloc, members.len() - 1)?;
+    put_copies(&mut copies, &members[..place])?;
+    put_copies(&mut copies, &members[place + 1..])?;
     Ok(copies)
 }
 

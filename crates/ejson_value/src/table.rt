@@ -42,7 +42,7 @@ impl Model for Table {
 
     ghost invariant = { λ a. IsDocument (entries a.fields.entries) };
 
-    ghost size = { λ es. 2 * fields_depth (fields_of es) + 1 };
+    ghost size = { λ es. 3 * fields_depth (fields_of es) + 1 };
 
     ghost use Rattle.ejson_value.specs.Falls.{most_le-table};
 
@@ -75,7 +75,8 @@ impl Table {
         ensures { OnOk result (self.new ≡ put self.old name.now (view value.now)) }
     {
         let name = name.copy()?;
-        self.put(name, copy(value)?)
+        drop(self.put(name, copy(value)?)?);
+        Ok(())
     }
 
     // A table equal to this one.
@@ -86,6 +87,15 @@ impl Table {
         for (name, value) in self.iter() {
             copies.put_copy(name, value)?;
         }
+        Ok(copies)
+    }
+
+    // A table equal to this one but for the field of this name.
+    pub(crate) fn without(&self, name: &Text) -> Result<Table, Mem>
+        ensures { IfOk result (λ table. table ≡ remove self.now name.now) }
+    {
+        let mut copies = self.copied()?;
+        drop(copies.remove(name));
         Ok(copies)
     }
 
@@ -103,14 +113,14 @@ impl Table {
         self.fields.get(name)
     }
 
-    // Puts the value as the field of this name, in place of one that is there.
-    pub(crate) fn put(&mut self, name: Text, value: Value) -> Result<(), Mem>
+    // Puts the value as the field of this name, and hands out the one that was there.
+    pub(crate) fn put(&mut self, name: Text, value: Value) -> Result<Option<Value>, Mem>
+        ensures value { IfOk result (λ there. option_map view there ≡ get self.old name) }
         ensures ok { OnOk result (self.new ≡ put self.old name (view value)) }
         ensures err { OnErr result (self.new ≡ self.old) }
     {
         value.known();
-        drop(self.fields.insert(name, value)?);
-        Ok(())
+        Ok(self.fields.insert(name, value)?)
     }
 
     // Takes the field of this name out.

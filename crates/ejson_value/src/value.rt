@@ -7,22 +7,21 @@ ghost use Rattle.value_model.specs.Val.{vals_of, fields_of};
 ghost use Rattle.value_model.specs.Valid.{IsValue, AreValues, IsDocument};
 ghost use Rattle.value_model.specs.Order.{text_cmp};
 ghost use Rattle.value_model.specs.Doc.{get, put, remove};
-ghost use Rattle.ejson_value.specs.View.{view, views, entries, held_fields};
+ghost use Rattle.value_model.specs.Size.{fields_size};
+ghost use Rattle.ejson_value.specs.View.{view, views, entries};
+ghost use Rattle.ejson_value.specs.Measure.{capped};
 
 use crate::bytes::Bytes;
 use crate::copying::copy;
+use crate::members::{Fields, Measured};
 use crate::memory::Mem;
-use crate::row::{Member, Row};
-use crate::table::Table;
 use crate::text::Text;
 use crate::user::BoxedName;
 use crate::whole::Whole;
 use std::alloc::Global;
-use std::collections::btree_map;
-use std::iter::Iterator;
 use std::marker::Model;
+use std::mem;
 use std::sync::Arc;
-use std::{mem, slice};
 
 /// A value of EJSON (the appendix on EJSON of Meteor's DDP.md). A contract sees it by `view`.
 #[derive(Debug, Drop)]
@@ -65,31 +64,7 @@ pub struct Items {
 pub struct Doc {
     alloc: Global,
     // None where there was never one.
-    fields: Option<Arc<Members>>,
-}
-
-// The most fields that stand in a row.
-const MAX_ROW: usize = 64;
-
-// The fields of a document: a row while they are few, for good a table once there were more.
-#[derive(Debug, Drop)]
-#[cycle(value)]
-enum Members {
-    Few(Row),
-    Many(Table),
-}
-
-/// The fields of a document by rising name, one after another. A contract sees those that are left.
-#[derive(Drop)]
-pub struct Fields<'a> {
-    walk: Walk<'a>,
-}
-
-#[derive(Drop)]
-enum Walk<'a> {
-    None,
-    Few(slice::Iter<'a, Member>),
-    Many(btree_map::Iter<'a, Text, Value>),
+    fields: Option<Arc<Measured>>,
 }
 
 impl Model for Boxed {
@@ -110,7 +85,7 @@ impl Model for Boxed {
 
     ghost invariant = { λ a. IsValue (seen_as a.inner.value) };
 
-    ghost size = { λ v. 2 * depth v + 1 };
+    ghost size = { λ v. 3 * depth v + 1 };
 
     ghost use Rattle.ejson_value.specs.Falls.{deep_le};
 
@@ -136,7 +111,7 @@ impl Model for Items {
 
     ghost invariant = { λ a. AreValues (vals_of (views (held_items a.items))) };
 
-    ghost size = { λ vs. 2 * vals_depth (vals_of vs) + 1 };
+    ghost size = { λ vs. 3 * vals_depth (vals_of vs) + 1 };
 
     ghost use Rattle.ejson_value.specs.Falls.{items_le};
 
@@ -161,46 +136,11 @@ impl Model for Doc {
 
     ghost invariant = { λ a. IsDocument (doc_fields a.fields) };
 
-    ghost size = { λ es. 2 * fields_depth (fields_of es) + 2 };
+    ghost size = { λ es. 3 * fields_depth (fields_of es) + 3 };
 
     ghost use Rattle.ejson_value.specs.Falls.{doc_le};
 
     ghost size_decreases = { λ a h. doc_le a };
-}
-
-impl<'a> Model for Fields<'a> {
-    ghost use Rattle.ejson_value.specs.Code.{Pairs, pairs_code};
-
-    ghost Value = { Pairs };
-
-    ghost coded = { pairs_code };
-
-    ghost use Rattle.ejson_value.specs.View.{left};
-
-    ghost view = { λ a. left a.walk };
-}
-
-impl<'a> Iterator for Fields<'a> {
-    type Item = (&'a Text, &'a Value);
-
-    ghost use Rattle.std.specs.Prelude.{length};
-    ghost use Rattle.std.specs.Iterator.{at_most};
-    ghost use Rattle.std.specs.Map.Iter.{TakesFirst, deref_pair};
-
-    ghost next_gives = { TakesFirst deref_pair };
-
-    ghost remaining = { λ s. at_most (length s) };
-
-    fn next(&mut self) -> Option<(&'a Text, &'a Value)> {
-        match &mut self.walk {
-            Walk::None => None,
-            Walk::Few(members) => {
-                let member = members.next()?;
-                Some((&member.name, &member.value))
-            }
-            Walk::Many(fields) => fields.next(),
-        }
-    }
 }
 
 // These are dropped by a call, so that no walk of the borrow checker splits where a value is dropped.
@@ -461,87 +401,6 @@ impl Value {
     }
 }
 
-impl Members {
-    fn len(&self) -> usize
-        ensures { result ≡ length (held_fields self.now) }
-    {
-        match self {
-            Members::Few(row) => row.len(),
-            Members::Many(table) => table.len(),
-        }
-    }
-
-    fn get(&self, name: &Text) -> Option<&Value>
-        ensures { option_map (λ v. view v.now) result ≡ get (held_fields self.now) name.now }
-    {
-        match self {
-            Members::Few(row) => row.get(name),
-            Members::Many(table) => table.get(name),
-        }
-    }
-
-    // Whether the fields stand in a row that is full and lacks this one.
-    fn has_full_row(&self, name: &Text) -> bool {
-        match self {
-            Members::Few(row) => row.len() >= MAX_ROW && row.place(name).is_err(),
-            Members::Many(_) => false,
-        }
-    }
-
-    // Moves the fields from a row into a table.
-    fn make_table(&mut self) -> Result<(), Mem>
-        ensures { held_fields self.new ≡ held_fields self.old }
-    {
-        if let Members::Few(row) = self {
-            let table = Table::of(row)?;
-            *self = Members::Many(table);
-        }
-        Ok(())
-    }
-
-    fn put(&mut self, name: Text, value: Value) -> Result<(), Mem>
-        ensures ok { OnOk result (held_fields self.new ≡ put (held_fields self.old) name (view value)) }
-        ensures err { OnErr result (held_fields self.new ≡ held_fields self.old) }
-    {
-        if self.has_full_row(&name) {
-            self.make_table()?;
-        }
-        match self {
-            Members::Few(row) => row.put(name, value),
-            Members::Many(table) => table.put(name, value),
-        }
-    }
-
-    fn remove(&mut self, name: &Text) -> Option<Value>
-        ensures value { option_map view result ≡ get (held_fields self.old) name.now }
-        ensures removed { held_fields self.new ≡ remove (held_fields self.old) name.now }
-    {
-        match self {
-            Members::Few(row) => row.remove(name),
-            Members::Many(table) => table.remove(name),
-        }
-    }
-
-    fn known(&self)
-        ensures { IsDocument (held_fields self.now) }
-    {
-        match self {
-            Members::Few(row) => row.known(),
-            Members::Many(table) => table.known(),
-        }
-    }
-
-    // Copies of the fields, of the same kind. A row has room for so many more.
-    fn copies(&self, more: usize) -> Result<Members, Mem>
-        ensures { IfOk result (λ copies. held_fields copies ≡ held_fields self.now) }
-    {
-        match self {
-            Members::Few(row) => Ok(Members::Few(row.copied(more)?)),
-            Members::Many(table) => Ok(Members::Many(table.copied()?)),
-        }
-    }
-}
-
 impl Doc {
     /// A document with no fields.
     pub fn new(alloc: Global) -> Doc
@@ -551,6 +410,17 @@ impl Doc {
             alloc,
             fields: None,
         }
+    }
+
+    // A document of these fields.
+    fn of(alloc: Global, fields: Measured) -> Result<Doc, Mem>
+        ensures { IfOk result (λ doc. doc ≡ fields) }
+    {
+        fields.known();
+        Ok(Doc {
+            alloc,
+            fields: Some(Arc::new(alloc, fields)?),
+        })
     }
 
     /// How many fields it has.
@@ -580,19 +450,29 @@ impl Doc {
         }
     }
 
-    // Copies of its fields, with room for so many more.
-    fn copies(&self, more: usize) -> Result<Members, Mem>
-        ensures { IfOk result (λ copies. held_fields copies ≡ self.now) }
+    // How many bytes its fields have as EJSON, each with its colon and a comma, 2^64 - 1 where they have more.
+    pub(crate) fn bytes(&self) -> u64
+        ensures { result ≡ capped (fields_size (fields_of self.now)) }
     {
         match &self.fields {
-            None => Ok(Members::Few(Row::new(self.alloc))),
+            None => 0,
+            Some(fields) => fields.bytes(),
+        }
+    }
+
+    // Copies of its fields, with room for so many more.
+    fn copies(&self, more: usize) -> Result<Measured, Mem>
+        ensures { IfOk result (λ copies. copies ≡ self.now) }
+    {
+        match &self.fields {
+            None => Ok(Measured::new(self.alloc)),
             Some(fields) => fields.copies(more),
         }
     }
 
     // Puts these in place of its fields.
-    fn hold(&mut self, fields: Members) -> Result<(), Mem>
-        ensures ok { OnOk result (self.new ≡ held_fields fields) }
+    fn hold(&mut self, fields: Measured) -> Result<(), Mem>
+        ensures ok { OnOk result (self.new ≡ fields) }
         ensures err { OnErr result (self.new ≡ self.old) }
     {
         fields.known();
@@ -637,6 +517,19 @@ impl Doc {
         Ok(there)
     }
 
+    /// A copy of this document without the field of this name, in just the room that it needs.
+    pub fn without(&self, name: &Text) -> Result<Doc, Mem>
+        ensures { IfOk result (λ doc. doc ≡ remove self.now name.now) }
+    {
+        match &self.fields {
+            None => Ok(Doc::new(self.alloc)),
+            Some(fields) => match fields.get(name) {
+                None => self.copy(),
+                Some(value) => Doc::of(self.alloc, fields.without(name, value)?),
+            },
+        }
+    }
+
     /// A document equal to this one. It copies no field.
     pub fn copy(&self) -> Result<Doc, Mem>
         ensures { IfOk result (λ doc. doc ≡ self.now) }
@@ -655,14 +548,9 @@ impl Doc {
         ensures all { entries result ≡ self.now }
         ensures ordered { IsStrictlySortedBy text_cmp (keys_of result) }
     {
-        Fields {
-            walk: match &self.fields {
-                None => Walk::None,
-                Some(fields) => match fields.as_ref() {
-                    Members::Few(row) => Walk::Few(row.iter()),
-                    Members::Many(table) => Walk::Many(table.iter()),
-                },
-            },
+        match &self.fields {
+            None => Fields::none(),
+            Some(fields) => fields.iter(),
         }
     }
 

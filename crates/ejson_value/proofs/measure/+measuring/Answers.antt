@@ -1,40 +1,10 @@
-use Rattle.std.proofs.Common.{◌∷◌, [], ◌++◌, ap, sym, ◌∙◌, arith}
-use Rattle.std.proofs.lemmas.List.{append_assoc, drop_all}
-use Rattle.value_model.specs.Val.{vals_of, fields_of}
-use Rattle.value_model.specs.Size.{vals_size, fields_size}
-use Rattle.ejson_value.specs.View.{views, entries}
-use Rattle.ejson_value.proofs.Walks.{item_depth, field_depth}
+use Rattle.std.proofs.Common.{ap, arith}
+use Rattle.std.proofs.lemmas.List.{drop_all}
+use Rattle.value_model.specs.Val.{vals_of}
+use Rattle.value_model.specs.Size.{vals_size}
+use Rattle.ejson_value.specs.View.{views}
+use Rattle.ejson_value.proofs.Walks.{item_depth}
 use Rattle.ejson_value.proofs.measure.+measuring.Goals as goal
-
-pub fields_size-size-requires : goal.fields_size-size-requires
-fields_size-size-requires t c =
-    let done = c.loop-name.invariant.2.0 in
-    let all = c.loop-name.invariant.2.1 ∙ ap (λ rest. done ++ rest) c.in-Some.ensures.steps in
-    let less = field_depth c.into_iter-name-iterator.result done c.in-Some.name.now c.in-Some.value.now c.next.new.self c.args.doc.now all (ap entries c.into_iter-name-iterator.ensures.into_iter_gives ∙ c.iter-name-items.ensures.all) in
-    (omega (arith, less, c.decreases), tt)
-
-pub fields_size-loop-name-preserved : goal.fields_size-loop-name-preserved
-fields_size-loop-name-preserved t c =
-    let done = c.loop-name.invariant.2.0 in
-    let name = c.in-Some.name.now in
-    let value = c.in-Some.value.now in
-    let all = c.loop-name.invariant.2.1 ∙ ap (λ rest. done ++ rest) c.in-Some.ensures.steps in (
-      tt,
-      tt,
-      (done ++ (name, value) ∷ [], all ∙ sym (append_assoc done ((name, value) ∷ []) c.next.new.self)),
-      omega (arith, c.loop-name.invariant.3, ap (λ es. fields_size (fields_of (entries es))) c.in-Some.ensures.steps, c.saturating_add.ensures),
-      omega (arith, c.loop-name.invariant.4, c.saturating_add.ensures),
-    )
-
-pub fields_size-returns : goal.fields_size-returns
-fields_size-returns t c =
-    omega (
-      arith,
-      c.loop-name.invariant.3,
-      c.loop-name.invariant.4,
-      ap (λ es. fields_size (fields_of (entries es))) c.in-None.ensures.steps.0,
-      ap (λ es. fields_size (fields_of es)) (ap entries c.into_iter-name-iterator.ensures.into_iter_gives ∙ c.iter-name-items.ensures.all),
-    )
 
 pub items_size-size-requires : goal.items_size-size-requires
 items_size-size-requires t c =

@@ -1,6 +1,0 @@
-use Rattle.std.proofs.Common.{◌≡◌, take}
-use Rattle.ejson_value.specs.View.{entries, pairs}
-use Rattle.ejson_value.proofs.row.copies.Given as goal
-
-abbrev pub invariant-loop-member : goal.invariant-loop-member
-invariant-loop-member l = entries (pairs l.copies.items) ≡ entries (pairs (take l.member-index l.members))

@@ -1,0 +1,352 @@
+//! The fields of a document, in a row or a table, with how many bytes they have.
+ghost use Rattle.std.specs.Prelude.{◌≡◌, ◌+◌, ◌-◌, ◌≤◌, ◌<◌, ◌^◌, [], length, Some, option_map, IfOk, OnOk, OnErr};
+ghost use Rattle.std.specs.List.Sorted.{IsStrictlySortedBy};
+ghost use Rattle.std.specs.Map.{keys_of};
+ghost use Rattle.value_model.specs.Val.{fields_of};
+ghost use Rattle.value_model.specs.Valid.{IsDocument};
+ghost use Rattle.value_model.specs.Order.{text_cmp};
+ghost use Rattle.value_model.specs.Doc.{get, put, remove};
+ghost use Rattle.value_model.specs.Size.{fields_size};
+ghost use Rattle.ejson_value.specs.View.{view, entries, held_fields};
+ghost use Rattle.ejson_value.specs.Measure.{capped};
+
+use crate::measure::{field_size, size, with_name};
+use crate::memory::Mem;
+use crate::row::{Member, Row};
+use crate::table::Table;
+use crate::text::Text;
+use crate::value::Value;
+use std::alloc::Global;
+use std::collections::btree_map;
+use std::iter::Iterator;
+use std::marker::Model;
+use std::slice;
+
+// The most fields that stand in a row.
+const MAX_ROW: usize = 64;
+
+// The fields of a document: a row while they are few, for good a table once there were more.
+#[derive(Debug, Drop)]
+#[cycle(value)]
+pub(crate) enum Members {
+    Few(Row),
+    Many(Table),
+}
+
+// The fields of a document and how many bytes they have as EJSON, each with its colon and a comma, 2^64 - 1 where they
+// have more. A contract sees the fields.
+#[derive(Debug, Drop)]
+#[cycle(value)]
+pub(crate) struct Measured {
+    members: Members,
+    bytes: u64,
+}
+
+/// The fields of a document by rising name, one after another. A contract sees those that are left.
+#[derive(Drop)]
+pub struct Fields<'a> {
+    walk: Walk<'a>,
+}
+
+#[derive(Drop)]
+enum Walk<'a> {
+    None,
+    Few(slice::Iter<'a, Member>),
+    Many(btree_map::Iter<'a, Text, Value>),
+}
+
+impl Model for Measured {
+    ghost use Rattle.std.specs.Prelude.{◌≡◌, ◌+◌, ◌*◌};
+    ghost use Rattle.std.proofs.Common.{arith};
+    ghost use Rattle.value_model.specs.Val.{Entries, fields_of};
+    ghost use Rattle.value_model.specs.Coding.{entries_code};
+
+    ghost Value = { Entries };
+
+    ghost coded = { entries_code };
+
+    ghost use Rattle.value_model.specs.Depth.{fields_depth};
+    ghost use Rattle.value_model.specs.Size.{fields_size};
+    ghost use Rattle.ejson_value.specs.Measure.{capped};
+    ghost use Rattle.ejson_value.specs.View.{held_fields};
+
+    ghost view = { λ a. held_fields a.members };
+
+    ghost invariant = { λ a. a.bytes ≡ capped (fields_size (fields_of (held_fields a.members))) };
+
+    ghost size = { λ es. 3 * fields_depth (fields_of es) + 2 };
+
+    ghost use Rattle.ejson_value.specs.Falls.{members_le};
+
+    ghost size_decreases = { λ a h. Prim.omega (arith, members_le a.members) };
+}
+
+impl<'a> Model for Fields<'a> {
+    ghost use Rattle.ejson_value.specs.Code.{Pairs, pairs_code};
+
+    ghost Value = { Pairs };
+
+    ghost coded = { pairs_code };
+
+    ghost use Rattle.ejson_value.specs.View.{left};
+
+    ghost view = { λ a. left a.walk };
+}
+
+impl<'a> Iterator for Fields<'a> {
+    type Item = (&'a Text, &'a Value);
+
+    ghost use Rattle.std.specs.Prelude.{length};
+    ghost use Rattle.std.specs.Iterator.{at_most};
+    ghost use Rattle.std.specs.Map.Iter.{TakesFirst, deref_pair};
+
+    ghost next_gives = { TakesFirst deref_pair };
+
+    ghost remaining = { λ s. at_most (length s) };
+
+    fn next(&mut self) -> Option<(&'a Text, &'a Value)> {
+        match &mut self.walk {
+            Walk::None => None,
+            Walk::Few(members) => {
+                let member = members.next()?;
+                Some((&member.name, &member.value))
+            }
+            Walk::Many(fields) => fields.next(),
+        }
+    }
+}
+
+impl<'a> Fields<'a> {
+    // No fields.
+    pub(crate) fn none() -> Fields<'a>
+        ensures { result ≡ [] }
+    {
+        Fields { walk: Walk::None }
+    }
+}
+
+impl Members {
+    fn len(&self) -> usize
+        ensures { result ≡ length (held_fields self.now) }
+    {
+        match self {
+            Members::Few(row) => row.len(),
+            Members::Many(table) => table.len(),
+        }
+    }
+
+    fn get(&self, name: &Text) -> Option<&Value>
+        ensures { option_map (λ v. view v.now) result ≡ get (held_fields self.now) name.now }
+    {
+        match self {
+            Members::Few(row) => row.get(name),
+            Members::Many(table) => table.get(name),
+        }
+    }
+
+    fn iter(&self) -> Fields<'_>
+        ensures all { entries result ≡ held_fields self.now }
+        ensures ordered { IsStrictlySortedBy text_cmp (keys_of result) }
+    {
+        Fields {
+            walk: match self {
+                Members::Few(row) => Walk::Few(row.iter()),
+                Members::Many(table) => Walk::Many(table.iter()),
+            },
+        }
+    }
+
+    // Whether the fields stand in a row that is full and lacks this one.
+    fn has_full_row(&self, name: &Text) -> bool {
+        match self {
+            Members::Few(row) => row.len() >= MAX_ROW && row.place(name).is_err(),
+            Members::Many(_) => false,
+        }
+    }
+
+    // Moves the fields from a row into a table.
+    fn make_table(&mut self) -> Result<(), Mem>
+        ensures { held_fields self.new ≡ held_fields self.old }
+    {
+        if let Members::Few(row) = self {
+            let table = Table::of(row)?;
+            *self = Members::Many(table);
+        }
+        Ok(())
+    }
+
+    // Puts the value as the field of this name, and hands out the one that was there.
+    fn put(&mut self, name: Text, value: Value) -> Result<Option<Value>, Mem>
+        ensures value { IfOk result (λ there. option_map view there ≡ get (held_fields self.old) name) }
+        ensures ok { OnOk result (held_fields self.new ≡ put (held_fields self.old) name (view value)) }
+        ensures err { OnErr result (held_fields self.new ≡ held_fields self.old) }
+    {
+        if self.has_full_row(&name) {
+            self.make_table()?;
+        }
+        match self {
+            Members::Few(row) => row.put(name, value),
+            Members::Many(table) => table.put(name, value),
+        }
+    }
+
+    fn remove(&mut self, name: &Text) -> Option<Value>
+        ensures value { option_map view result ≡ get (held_fields self.old) name.now }
+        ensures removed { held_fields self.new ≡ remove (held_fields self.old) name.now }
+    {
+        match self {
+            Members::Few(row) => row.remove(name),
+            Members::Many(table) => table.remove(name),
+        }
+    }
+
+    fn known(&self)
+        ensures { IsDocument (held_fields self.now) }
+    {
+        match self {
+            Members::Few(row) => row.known(),
+            Members::Many(table) => table.known(),
+        }
+    }
+
+    // Copies of the fields, of the same kind. A row has room for so many more.
+    fn copies(&self, more: usize) -> Result<Members, Mem>
+        ensures { IfOk result (λ copies. held_fields copies ≡ held_fields self.now) }
+    {
+        match self {
+            Members::Few(row) => Ok(Members::Few(row.copied(more)?)),
+            Members::Many(table) => Ok(Members::Many(table.copied()?)),
+        }
+    }
+
+    // Copies of the fields but for that of this name. A row has room for just these.
+    fn without(&self, name: &Text) -> Result<Members, Mem>
+        ensures { IfOk result (λ copies. held_fields copies ≡ remove (held_fields self.now) name.now) }
+    {
+        match self {
+            Members::Few(row) => Ok(Members::Few(row.without(name)?)),
+            Members::Many(table) => Ok(Members::Many(table.without(name)?)),
+        }
+    }
+
+    // How many bytes the fields have, counted one by one.
+    fn counted(&self) -> u64
+        ensures { result ≡ capped (fields_size (fields_of (held_fields self.now))) }
+    {
+        let mut total = 0u64;
+        for (name, value) in self.iter() {
+            total = total.saturating_add(field_size(name, value));
+        }
+        total
+    }
+}
+
+// How many bytes the fields have, which had so many before some went and others came. Where those were too many to be
+// told, the fields are counted anew.
+fn bytes_after(fields: &Members, before: u64, gone: u64, come: u64) -> u64
+    requires within { before < 2 ^ 64 - 1 → gone ≤ before }
+    requires known { before < 2 ^ 64 - 1 → capped (fields_size (fields_of (held_fields fields.now))) ≡ capped (before - gone + come) }
+    ensures { result ≡ capped (fields_size (fields_of (held_fields fields.now))) }
+{
+    if before == u64::MAX {
+        fields.counted()
+    } else {
+        (before - gone).saturating_add(come)
+    }
+}
+
+impl Measured {
+    // No fields.
+    pub(crate) fn new(alloc: Global) -> Measured
+        ensures { result ≡ [] }
+    {
+        Measured {
+            members: Members::Few(Row::new(alloc)),
+            bytes: 0,
+        }
+    }
+
+    pub(crate) fn len(&self) -> usize
+        ensures { result ≡ length self.now }
+    {
+        self.members.len()
+    }
+
+    pub(crate) fn get(&self, name: &Text) -> Option<&Value>
+        ensures { option_map (λ v. view v.now) result ≡ get self.now name.now }
+    {
+        self.members.get(name)
+    }
+
+    pub(crate) fn iter(&self) -> Fields<'_>
+        ensures all { entries result ≡ self.now }
+        ensures ordered { IsStrictlySortedBy text_cmp (keys_of result) }
+    {
+        self.members.iter()
+    }
+
+    pub(crate) fn bytes(&self) -> u64
+        ensures { result ≡ capped (fields_size (fields_of self.now)) }
+    {
+        self.bytes
+    }
+
+    pub(crate) fn put(&mut self, name: Text, value: Value) -> Result<(), Mem>
+        ensures ok { OnOk result (self.new ≡ put self.old name (view value)) }
+        ensures err { OnErr result (self.new ≡ self.old) }
+    {
+        self.members.known();
+        let come = size(&value);
+        let added = with_name(&name, come);
+        let there = self.members.put(name, value)?;
+        match there {
+            None => {
+                self.bytes = self.bytes.saturating_add(added);
+                Ok(())
+            }
+            Some(there) => {
+                self.bytes = bytes_after(&self.members, self.bytes, size(&there), come);
+                Ok(())
+            }
+        }
+    }
+
+    pub(crate) fn remove(&mut self, name: &Text) -> Option<Value>
+        ensures value { option_map view result ≡ get self.old name.now }
+        ensures removed { self.new ≡ remove self.old name.now }
+    {
+        match self.members.remove(name) {
+            None => None,
+            Some(value) => {
+                self.bytes = bytes_after(&self.members, self.bytes, field_size(name, &value), 0);
+                Some(value)
+            }
+        }
+    }
+
+    pub(crate) fn known(&self)
+        ensures { IsDocument self.now }
+    {
+        self.members.known()
+    }
+
+    // Copies of the fields. A row has room for so many more.
+    pub(crate) fn copies(&self, more: usize) -> Result<Measured, Mem>
+        ensures { IfOk result (λ copies. copies ≡ self.now) }
+    {
+        Ok(Measured {
+            members: self.members.copies(more)?,
+            bytes: self.bytes,
+        })
+    }
+
+    // Copies of the fields but for this one. A row has room for just these.
+    pub(crate) fn without(&self, name: &Text, value: &Value) -> Result<Measured, Mem>
+        requires { get self.now name.now ≡ Some (view value.now) }
+        ensures { IfOk result (λ copies. copies ≡ remove self.now name.now) }
+    {
+        let members = self.members.without(name)?;
+        let bytes = bytes_after(&members, self.bytes, field_size(name, value), 0);
+        Ok(Measured { members, bytes })
+    }
+}
