@@ -133,13 +133,13 @@ impl Row {
             .binary_search_by(|member| member.name.cmp(name))
     }
 
-    // Makes room for one more field, where there is none for twice as many.
+    // Makes room for one more field, where there is none for twice as many, and for two at least.
     fn make_room(&mut self) -> Result<(), Mem>
         ensures { self.new ≡ self.old }
     {
         let len = self.members.len();
         if len == self.members.capacity() {
-            self.members.reserve_exact(len.max(1))?;
+            self.members.reserve_exact(len.max(2))?;
         }
         Ok(())
     }
