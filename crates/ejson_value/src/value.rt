@@ -169,13 +169,13 @@ impl Drop for Doc {
     }
 }
 
-// Makes room for one more value, where there is none for twice as many.
+// Makes room for one more value, where there is none for twice as many, and for two at least.
 fn make_room(items: &mut Vec<Value>) -> Result<(), Mem>
     ensures { items.new.items ≡ items.old.items }
 {
     let len = items.len();
     if len == items.capacity() {
-        items.reserve_exact(len.max(1))?;
+        items.reserve_exact(len.max(2))?;
     }
     Ok(())
 }
@@ -288,7 +288,7 @@ impl Items {
                 return put_behind(own, value);
             }
         }
-        let mut items = self.copies(1)?;
+        let mut items = self.copies(if self.is_empty() { 2 } else { 1 })?;
         put_behind(&mut items, value)?;
         self.hold(items)
     }
