@@ -13,7 +13,7 @@ ghost use Rattle.serde_json.specs.Data.{null, object as json_object};
 use crate::base64_text::decoded;
 use crate::fault::{EjsonFault, ReadFault};
 use crate::shape::{Shape, of_members};
-use ejson_value::{Boxed, Doc, Items, Mem, Text, UserName, Value, Whole};
+use ejson_value::{Boxed, BoxedName, Doc, Items, Mem, Text, UserName, Value, Whole};
 use serde_json::{Map, Number, Value as Json};
 use std::alloc::Global;
 
@@ -97,10 +97,9 @@ fn user_name(alloc: Global, tree: &Json) -> Result<UserName, ReadFault>
 fn user_of(alloc: Global, name: UserName, value: Value) -> Result<Value, Mem>
     ensures { IfOk result (λ v. view v ≡ user_value name (view value)) }
 {
-    Ok(Value::User {
-        name,
-        value: Boxed::of(alloc, value)?,
-    })
+    let value = Boxed::of(alloc, value)?;
+    let name = BoxedName::of(alloc, name)?;
+    Ok(Value::User { name, value })
 }
 
 /// Puts the value at the key.

@@ -11,7 +11,7 @@ ghost use Rattle.ejson_codec.specs.Written.{alone, written, items_written, membe
 
 use crate::base64_text::encoded;
 use crate::text_writer::TextWriter;
-use ejson_value::{Bytes, Doc, Items, Mem, UserName, Value, Whole};
+use ejson_value::{BoxedName, Bytes, Doc, Items, Mem, Value, Whole};
 use std::alloc::Global;
 
 // Puts a whole number.
@@ -43,12 +43,12 @@ fn put_bytes(alloc: Global, out: &mut TextWriter, bytes: &Bytes) -> Result<(), M
 }
 
 // Puts the object of a value of this user type, up to what stands for the value.
-fn begin_user(out: &mut TextWriter, name: &UserName) -> Result<(), Mem>
+fn begin_user(out: &mut TextWriter, name: &BoxedName) -> Result<(), Mem>
     ensures { OnOk result (out.new ≡ out.old ++ begin_object ∷ key (codes "$type") ∷ string name.now ∷ key (codes "$value") ∷ []) }
 {
     out.begin_object()?;
     out.key("$type")?;
-    out.string(name.get().as_str())?;
+    out.string(name.get().get().as_str())?;
     out.key("$value")
 }
 

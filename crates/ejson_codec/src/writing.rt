@@ -13,7 +13,7 @@ ghost use Rattle.ejson_codec.specs.Shape.{keys_of_members};
 
 use crate::base64_text::encoded;
 use crate::shape::{Shape, of_members};
-use ejson_value::{Doc, Items, Mem, Text, UserName, Value, Whole};
+use ejson_value::{BoxedName, Doc, Items, Mem, Text, Value, Whole};
 use serde_json::{Map, Number, Value as Json};
 use std::alloc::Global;
 
@@ -66,12 +66,12 @@ fn text(alloc: Global, text: &Text) -> Result<Json, Mem>
 }
 
 // A value of the user type of this name, over the tree of what stands for it.
-fn user(alloc: Global, name: &UserName, tree: Json) -> Result<Json, Mem>
+fn user(alloc: Global, name: &BoxedName, tree: Json) -> Result<Json, Mem>
     ensures { IfOk result (λ object. json_view object ≡ user_object name.now (json_view tree)) }
 {
     let mut members = Map::new(alloc);
     put_member(alloc, &mut members, "$value", tree)?;
-    put_member(alloc, &mut members, "$type", text(alloc, name.get())?)?;
+    put_member(alloc, &mut members, "$type", text(alloc, name.get().get())?)?;
     Ok(Json::Object(members))
 }
 

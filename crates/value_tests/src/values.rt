@@ -1,6 +1,7 @@
 //! Values of every kind: their order, size, depth and copies.
 use ejson_value::{
-    Boxed, Bytes, Doc, Items, Mem, Text, UserName, Value, Whole, compare, copy, depth, same, size,
+    Boxed, BoxedName, Bytes, Doc, Items, Mem, Text, UserName, Value, Whole, compare, copy, depth,
+    same, size,
 };
 use std::alloc::Global;
 use std::test::Fail;
@@ -52,7 +53,7 @@ fn user(alloc: Global, name: &str, value: Value) -> Result<Value, Mem> {
     match UserName::of(text(alloc, name)?) {
         Err(text) => Ok(Value::Text(text)),
         Ok(name) => Ok(Value::User {
-            name,
+            name: BoxedName::of(alloc, name)?,
             value: Boxed::of(alloc, value)?,
         }),
     }
