@@ -1,16 +1,14 @@
 -- What a cursor without a limit tells is what it publishes otherwise afterwards.
-use Rattle.std.proofs.Common.{◌≡◌, ℕ, Bool, true, false, cond, List, [], ◌∷◌, Option, None, Some, refl, ap, sym, subst, ◌∙◌}
+use Rattle.std.proofs.Common.{◌≡◌, ℕ, true, false, cond, List, [], ◌∷◌, Option, None, Some, refl, ap, sym, subst, ◌∙◌}
 use Rattle.std.specs.Prelude.{option_and_then, ◌&&◌, if◌then◌else◌}
-use Rattle.std.specs.Ordering.{is_eq, eq_by_cmp}
+use Rattle.std.specs.Ordering.{eq_by_cmp}
 use Rattle.std.proofs.lemmas.Option.{none-some, same_Some}
 use Rattle.std.proofs.lemmas.Slice.Eq.{bytes_eq-Decides}
-use Rattle.map_model.specs.Maps.{at, set, IsSorted, filter_map_entries}
-use Rattle.map_model.specs.MapLaws.{at-put, sorted-set, sorted-put, key_is, at-filter_map_entries, sorted-filter_map_entries}
+use Rattle.map_model.specs.Maps.{at, set, IsSorted}
+use Rattle.map_model.specs.MapLaws.{at-put, sorted-set, key_is, at-filter_map_entries, sorted-filter_map_entries}
 use Rattle.map_model.specs.Changes as model
-use Rattle.value_model.specs.Val.{object, Entries, fields_of, entries_of}
-use Rattle.value_model.specs.Size.{is_name}
-use Rattle.value_model.specs.Order.{text_cmp, compare}
-use Rattle.ejson_value.specs.declared.key.Key.{Key}
+use Rattle.value_model.specs.Val.{Entries, fields_of, entries_of}
+use Rattle.value_model.specs.Order.{text_cmp}
 use Rattle.ejson_value.specs.declared.change.Change.{Change}
 use Rattle.ejson_value.specs.Key.{key_cmp, key_of, key_order, name_order}
 use Rattle.ejson_value.specs.Rows.{Rows}
@@ -23,7 +21,7 @@ use Rattle.publication.specs.Projected.{projected}
 use Rattle.publication.specs.Published.{matching, rank, is_within, published_of}
 use Rattle.live_observer.specs.declared.plain.Net.{Net}
 use Rattle.live_observer.specs.Observing.{is_own}
-use Rattle.live_observer.specs.Noting.{seen, plain_of, plain, NetMap, before_first, net_of, noted, all_noted, is_same, net_told, all_told}
+use Rattle.live_observer.specs.Noting.{seen, plain, NetMap, before_first, net_of, noted, all_noted, is_same, net_told, all_told}
 use Rattle.live_observer.proofs.News.{own_at, other_at}
 
 -- what is noted of an id, by what was published and what is
@@ -79,6 +77,17 @@ module _ (cursor : Cursor) where
   all_are_nets rows now nets [] s fit are = are
   all_are_nets rows now nets (change ∷ changes) s fit are =
       all_are_nets rows (set key_cmp now change.key change.after) (noted cursor nets change) changes (sorted-set key_order now change.key change.after s) fit.1 (one_net rows now nets change s fit.0 are)
+
+  sorted_noted : (nets : NetMap) (change : Change) → IsSorted text_cmp nets → IsSorted text_cmp (noted cursor nets change)
+  sorted_noted nets change s =
+      elim (is_own cursor change) as (λ b. IsSorted text_cmp (if b then set text_cmp nets change.key.id (Some (net_of cursor (at text_cmp nets change.key.id) change)) else nets)) [
+        | true ↦ sorted-set name_order nets change.key.id (Some (net_of cursor (at text_cmp nets change.key.id) change)) s
+        | false ↦ s
+      ]
+
+  pub sorted_all_noted : (nets : NetMap) (changes : List Change) → IsSorted text_cmp nets → IsSorted text_cmp (all_noted cursor nets changes)
+  sorted_all_noted nets [] s = s
+  sorted_all_noted nets (change ∷ changes) s = sorted_all_noted (noted cursor nets change) changes (sorted_noted nets change s)
 
   plain_if : (rows : Rows) (id : List ℕ) → cursor.limit ≡ None → (o : Option Entries) → option_and_then (published_of cursor rows id) o ≡ plain cursor id o
   plain_if rows id e None = refl

@@ -73,7 +73,7 @@ impl Plan {
     fn of(alloc: Global, told: Vec<ToldBy>) -> Result<Plan, Mem>
         ensures { IfOk result (λ plan. plan ≡ plan_of told.items) }
     {
-        let mut moves = Vec::new(alloc);
+        let mut moves = Vec::with_capacity(alloc, told.len())?;
         for one in told {
             moves.push(one.into_moves())?;
         }
@@ -146,9 +146,10 @@ impl Observer {
         ensures grows { steps.old ≤ steps.new }
         ensures ticks { steps.new ≤ steps.old + length self.now * (2 * length changes.now) }
     {
-        let mut told = Vec::new(self.alloc);
+        let mut told = Vec::with_capacity(self.alloc, self.watched.len())?;
         for one in &self.watched {
-            told.push(one.told(self.alloc, changes, steps)?)?;
+            let tells = one.told(self.alloc, changes, steps)?;
+            told.push(tells)?;
         }
         Ok(told)
     }

@@ -1,5 +1,5 @@
 //! What a cursor without a limit tells of changes.
-ghost use Rattle.std.specs.Prelude.{◌≡◌, ◌+◌, ◌*◌, ◌≤◌, ◌++◌, [], length, map, Some, IfOk, OnOk, option_map};
+ghost use Rattle.std.specs.Prelude.{◌≡◌, ◌+◌, ◌*◌, ◌≤◌, ◌++◌, [], length, map, None, Some, IfOk, OnOk, option_map};
 ghost use Rattle.map_model.specs.Maps.{at, set, keyed, IsSorted};
 ghost use Rattle.value_model.specs.Order.{text_cmp};
 ghost use Rattle.live_observer.specs.Noting.{before_first, net_of, noted, all_noted, net_told, all_told};
@@ -116,8 +116,45 @@ fn listed(alloc: Global, nets: Nets) -> Result<ShownList, Mem>
     Ok(told)
 }
 
-/// What the cursor, which has no limit, tells of the changes, by id.
-pub(crate) fn told_plain<L: Ledger>(
+// What the cursor tells of one change in its collection.
+fn told_own<L: Ledger>(
+    alloc: Global,
+    cursor: &Cursor,
+    change: &Change,
+    steps: &mut Steps<L>,
+) -> Result<ShownList, Mem>
+    ensures told { IfOk result (λ told. map (λ one. (one.id, one.doc)) told ≡
+        keyed change.now.key.id (net_told change.now.key.id (net_of cursor.now None change.now)) []) }
+    ensures grows { steps.old ≤ steps.new }
+    ensures ticks { steps.new ≤ steps.old + 2 }
+{
+    let id = &change.key.id;
+    let before = plain(alloc, cursor, id, &change.before, steps)?;
+    let after = plain(alloc, cursor, id, &change.after, steps)?;
+    let mut told = ListOf::new(alloc);
+    tell(&mut told, id.copy()?, Net { before, after })?;
+    Ok(told)
+}
+
+// What the cursor tells of one change.
+fn told_once<L: Ledger>(
+    alloc: Global,
+    cursor: &Cursor,
+    change: &Change,
+    steps: &mut Steps<L>,
+) -> Result<ShownList, Mem>
+    ensures told { IfOk result (λ told. map (λ one. (one.id, one.doc)) told ≡ all_told (noted cursor.now [] change.now)) }
+    ensures grows { steps.old ≤ steps.new }
+    ensures ticks { steps.new ≤ steps.old + 2 }
+{
+    if cursor.collection != change.key.collection {
+        return Ok(ListOf::new(alloc));
+    }
+    told_own(alloc, cursor, change, steps)
+}
+
+// What the cursor tells of the changes, of which several may be at one id.
+fn told_by_id<L: Ledger>(
     alloc: Global,
     cursor: &Cursor,
     changes: &[Change],
@@ -131,4 +168,22 @@ pub(crate) fn told_plain<L: Ledger>(
     let mut nets = BTreeMap::new(alloc);
     note_all(alloc, &mut nets, cursor, changes, steps)?;
     listed(alloc, nets)
+}
+
+/// What the cursor, which has no limit, tells of the changes, by id.
+pub(crate) fn told_plain<L: Ledger>(
+    alloc: Global,
+    cursor: &Cursor,
+    changes: &[Change],
+    steps: &mut Steps<L>,
+) -> Result<ShownList, Mem>
+    ensures told { IfOk result (λ told. map (λ one. (one.id, one.doc)) told ≡ all_told (all_noted cursor.now [] changes.now)) }
+    ensures ordered { IfOk result (λ told. IsSorted text_cmp (all_noted cursor.now [] changes.now)) }
+    ensures grows { steps.old ≤ steps.new }
+    ensures ticks { steps.new ≤ steps.old + 2 * length changes.now }
+{
+    match changes {
+        [change] => told_once(alloc, cursor, change, steps),
+        _ => told_by_id(alloc, cursor, changes, steps),
+    }
 }

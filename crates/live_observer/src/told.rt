@@ -1,5 +1,5 @@
 //! What the cursors tell, and the answer that is made of it.
-ghost use Rattle.std.specs.Prelude.{◌≡◌, [], map, Some, None, IfOk, OnOk};
+ghost use Rattle.std.specs.Prelude.{◌≡◌, [], map, Some, None, IfOk, IfSome, OnOk};
 ghost use Rattle.map_model.specs.Maps.{set};
 ghost use Rattle.ejson_value.specs.Key.{key_cmp, key_of};
 ghost use Rattle.live_observer.specs.Answering.{put_told, put_all, publish_of};
@@ -116,11 +116,43 @@ fn listed(alloc: Global, answer: Answer) -> Result<Publishes, Mem>
     Ok(list)
 }
 
-/// The answer, by published name and id.
-pub(crate) fn answer(alloc: Global, told: &[ToldBy]) -> Result<Publishes, Mem>
+// The one document that is told of, with its published name, where there is one alone.
+fn only(told: &[ToldBy]) -> Option<(&Text, &Shown)>
+    ensures { IfSome result (λ one. put_all [] told.now ≡ set key_cmp [] (key_of one.0.now one.1.now.id) (Some one.1.now.doc)) }
+{
+    let [one] = told else { return None };
+    let [shown] = one.shown().as_slice() else {
+        return None;
+    };
+    Some((&one.name, shown))
+}
+
+// The answer that tells of one document.
+fn answer_of_one(alloc: Global, name: &Text, one: &Shown) -> Result<Publishes, Mem>
+    ensures { IfOk result (λ list. list ≡ map publish_of (set key_cmp [] (key_of name.now one.now.id) (Some one.now.doc))) }
+{
+    let key = Key::of(name, &one.id)?;
+    let new = copy_option(&one.doc)?;
+    let mut list = Publishes::new(alloc);
+    list.push(Publish { key, new })?;
+    Ok(list)
+}
+
+// The answer, by published name and id.
+fn answer_by_key(alloc: Global, told: &[ToldBy]) -> Result<Publishes, Mem>
     ensures { IfOk result (λ list. list ≡ map publish_of (put_all [] told.now)) }
 {
     let mut answer = BTreeMap::new(alloc);
     put_all(&mut answer, told)?;
     listed(alloc, answer)
+}
+
+/// The answer, by published name and id.
+pub(crate) fn answer(alloc: Global, told: &[ToldBy]) -> Result<Publishes, Mem>
+    ensures { IfOk result (λ list. list ≡ map publish_of (put_all [] told.now)) }
+{
+    match only(told) {
+        None => answer_by_key(alloc, told),
+        Some((name, one)) => answer_of_one(alloc, name, one),
+    }
 }

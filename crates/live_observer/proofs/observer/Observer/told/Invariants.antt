@@ -1,4 +1,4 @@
-use Rattle.std.proofs.Common.{◌≡◌, ◌+◌, ◌*◌, ◌≤◌, length, take}
+use Rattle.std.proofs.Common.{◌+◌, ◌*◌, ◌≤◌, length, take}
 use Rattle.live_observer.specs.Answering.{AreToldBy}
 use Rattle.live_observer.proofs.observer.Observer.told.Given as goal
 

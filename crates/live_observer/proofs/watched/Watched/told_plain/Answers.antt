@@ -1,4 +1,4 @@
-use Rattle.std.proofs.Common.{◌≡◌, ap, sym, ◌∙◌}
+use Rattle.std.proofs.Common.{ap, ◌∙◌}
 use Rattle.live_observer.specs.Answering.{ToldOf}
 use Rattle.live_observer.proofs.Plans.{told_plain}
 use Rattle.live_observer.proofs.watched.Watched.told_plain.Goals as goal
