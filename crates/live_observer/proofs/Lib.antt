@@ -4,3 +4,4 @@ pub mod Nets
 pub mod Answers
 pub mod Elsewhere
 pub mod Plans
+pub mod InOrder

@@ -41,6 +41,14 @@ put_all answer (one ∷ all) = put_all (put_told one.name answer one.told) all
 abbrev pub publish_of : Key × Option Entries → Publish
 publish_of one = record { key = one.0; new = one.1 }
 
+-- what is told, by id
+abbrev pub as_told : List Shown → List (List ℕ × Option Entries)
+as_told shown = map (λ one. (one.id, one.doc)) shown
+
+-- what one of them publishes under the name
+abbrev pub publish_at : List ℕ → Shown → Publish
+publish_at name one = record { key = key_of name one.id; new = one.doc }
+
 -- the changes lead on from contents where the cursor stands
 pub record Leading (w : Watched) (changes : List Change) (rows rows' : Rows) : Type 0 where
   pub by_key : IsSorted key_cmp rows

@@ -1,8 +1,11 @@
 //! What the cursors tell, and the answer that is made of it.
-ghost use Rattle.std.specs.Prelude.{◌≡◌, [], map, Some, None, IfOk, IfSome, OnOk};
-ghost use Rattle.map_model.specs.Maps.{set};
+ghost use Rattle.std.specs.Prelude.{◌≡◌, ◌∷◌, [], map, Some, None, IsTrue, IfOk, IfSome, OnOk};
+ghost use Rattle.std.specs.Map.{keys_of};
+ghost use Rattle.std.specs.List.Sorted.{IsStrictlySortedBy};
+ghost use Rattle.map_model.specs.Maps.{set, IsSorted};
+ghost use Rattle.value_model.specs.Order.{text_cmp};
 ghost use Rattle.ejson_value.specs.Key.{key_cmp, key_of};
-ghost use Rattle.live_observer.specs.Answering.{put_told, put_all, publish_of};
+ghost use Rattle.live_observer.specs.Answering.{as_told, put_told, put_all, publish_of, publish_at};
 
 use ejson_value::{Doc, Key, Mem, Publish, Publishes, Text, copy_option};
 use sort_window::{Moves, Shown, ShownList};
@@ -116,29 +119,67 @@ fn listed(alloc: Global, answer: Answer) -> Result<Publishes, Mem>
     Ok(list)
 }
 
-// The one document that is told of, with its published name, where there is one alone.
-fn only(told: &[ToldBy]) -> Option<(&Text, &Shown)>
-    ensures { IfSome result (λ one. put_all [] told.now ≡ set key_cmp [] (key_of one.0.now one.1.now.id) (Some one.1.now.doc)) }
+// Whether the ids rise from this one on.
+fn rise_from(id: &Text, shown: &[Shown]) -> bool
+    ensures { IsTrue result → IsStrictlySortedBy text_cmp (id.now ∷ keys_of (as_told shown.now)) }
 {
-    let [one] = told else { return None };
-    let [shown] = one.shown().as_slice() else {
-        return None;
-    };
-    Some((&one.name, shown))
+    let mut last = id;
+    let mut rest = shown;
+    while let Some((next, others)) = rest.split_first() {
+        if last.cmp(&next.id).is_ge() {
+            return false;
+        }
+        last = &next.id;
+        rest = others;
+    }
+    true
 }
 
-// The answer that tells of one document.
-fn answer_of_one(alloc: Global, name: &Text, one: &Shown) -> Result<Publishes, Mem>
-    ensures { IfOk result (λ list. list ≡ map publish_of (set key_cmp [] (key_of name.now one.now.id) (Some one.now.doc))) }
+// Whether the ids rise.
+fn is_by_id(shown: &[Shown]) -> bool
+    ensures { IsTrue result → IsSorted text_cmp (as_told shown.now) }
+{
+    match shown.split_first() {
+        None => true,
+        Some((first, others)) => rise_from(&first.id, others),
+    }
+}
+
+// What is told under its published name, where one cursor alone tells, by rising id.
+fn in_order(told: &[ToldBy]) -> Option<(&Text, &[Shown])>
+    ensures { IfSome result (λ one. map publish_of (put_all [] told.now) ≡ map (publish_at one.0.now) one.1.now) }
+{
+    let [one] = told else { return None };
+    let shown = one.shown().as_slice();
+    if is_by_id(shown) {
+        Some((&one.name, shown))
+    } else {
+        None
+    }
+}
+
+fn publish_at(name: &Text, one: &Shown) -> Result<Publish, Mem>
+    ensures { IfOk result (λ publish. publish ≡ publish_at name.now one.now) }
 {
     let key = Key::of(name, &one.id)?;
-    let new = copy_option(&one.doc)?;
+    Ok(Publish {
+        key,
+        new: copy_option(&one.doc)?,
+    })
+}
+
+// The answer that tells the same under the name.
+fn answer_under(alloc: Global, name: &Text, shown: &[Shown]) -> Result<Publishes, Mem>
+    ensures { IfOk result (λ list. list ≡ map (publish_at name.now) shown.now) }
+{
     let mut list = Publishes::new(alloc);
-    list.push(Publish { key, new })?;
+    for one in shown {
+        list.push(publish_at(name, one)?)?;
+    }
     Ok(list)
 }
 
-// The answer, by published name and id.
+// The answer, by published name and id, whatever is told.
 fn answer_by_key(alloc: Global, told: &[ToldBy]) -> Result<Publishes, Mem>
     ensures { IfOk result (λ list. list ≡ map publish_of (put_all [] told.now)) }
 {
@@ -151,8 +192,8 @@ fn answer_by_key(alloc: Global, told: &[ToldBy]) -> Result<Publishes, Mem>
 pub(crate) fn answer(alloc: Global, told: &[ToldBy]) -> Result<Publishes, Mem>
     ensures { IfOk result (λ list. list ≡ map publish_of (put_all [] told.now)) }
 {
-    match only(told) {
+    match in_order(told) {
         None => answer_by_key(alloc, told),
-        Some((name, one)) => answer_of_one(alloc, name, one),
+        Some((name, shown)) => answer_under(alloc, name, shown),
     }
 }
