@@ -1,2 +1,4 @@
 mod Turns
 mod EntryLines
+mod Printed
+mod ReadBack

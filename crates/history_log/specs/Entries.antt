@@ -1,8 +1,10 @@
 -- What a log keeps of an entry: the line that is printed of it, where the entry can be read back from the line.
-use Rattle.std.specs.Prelude.{◌≡◌, ℕ, pos, List, [], ◌∷◌, Result, Ok, Err}
+use Rattle.std.specs.Prelude.{◌≡◌, ◌≤◌, nat_le, Bool, ℕ, pos, List, [], ◌∷◌, Result, Ok, Err}
 use Rattle.value_model.specs.Val.{Val, int, text, list, list_of}
 use Rattle.ejson_codec.specs.declared.fault.ParseFault.{ParseFault}
-use Rattle.ejson_codec.specs.Reading.{parsed}
+use Rattle.value_model.specs.Valid.{IsValue}
+use Rattle.value_model.specs.Depth.{depth}
+use Rattle.ejson_codec.specs.Reading.{max_levels, parsed}
 use Rattle.history_model.specs.declared.entry.Entry.{Entry}
 use Rattle.history_model.specs.declared.entry.Entry.TheVariants as entry
 use Rattle.history_model.specs.ViewLaws.{value_of}
@@ -52,6 +54,15 @@ HasLine (form.Step session k) = Unit {0}
 HasLine (form.Begin session line) = line ≡ line_of (entry_value (begin_in session (words_in (parsed line))))
 HasLine (form.Admin line) = line ≡ line_of (entry_value (admin_in (words_in (parsed line))))
 HasLine (form.Whole e) = Unit {0}
+
+-- a value that is read back from its text
+pub record IsReadBack (v : Val) : Type 0 where
+  pub value : IsValue v
+  pub shallow : depth v ≤ max_levels
+
+-- a value may stand in a list in a line
+abbrev pub is_shallow : Val → Bool
+is_shallow v = nat_le (depth v) 30
 
 -- the text is the value's, and reads as the value
 pub record Says (line : List ℕ) (v : Val) : Type 0 where

@@ -1,12 +1,12 @@
 //! An entry as a log keeps it.
-ghost use Rattle.std.specs.Prelude.{◌≡◌, IfOk, IfSome};
-ghost use Rattle.value_model.specs.Val.{list, vals_of};
-ghost use Rattle.ejson_value.specs.View.{view};
-ghost use Rattle.history_log.specs.Entries.{Says, Keeps};
+ghost use Rattle.std.specs.Prelude.{◌≡◌, ℕ, List, IfOk, IfSome, IsTrue};
+ghost use Rattle.std.specs.List.{list_all};
+ghost use Rattle.ejson_value.specs.View.{view, views};
+ghost use Rattle.history_model.specs.declared.entry.Entry.TheVariants.{Begin, Admin};
+ghost use Rattle.history_log.specs.Entries.{is_shallow, IsReadBack, Says, Keeps};
 ghost use Rattle.history_log.specs.Lines.{entry_value, line_of};
 
-use crate::lines::{entry_line, entry_words, step_line};
-use ejson_codec::text;
+use crate::lines::{entry_line, step_line};
 use ejson_value::{Items, Mem, Text, Value, depth};
 use history_model::entry::Entry;
 use std::alloc::Global;
@@ -50,34 +50,56 @@ impl Model for KeptEntry {
     ghost invariant = { λ e. HasLine e.form };
 }
 
+fn is_shallow(value: &Value) -> bool
+    ensures { result ≡ is_shallow (view value.now) }
+{
+    depth(value) <= MAX_LEVELS - 2
+}
+
+// Whether the list of the values may stand in a line that is read back.
+fn are_shallow(values: &[Value]) -> bool
+    ensures { result ≡ list_all (λ v. is_shallow v) (views values.now) }
+{
+    for value in values {
+        if !is_shallow(value) {
+            return false;
+        }
+    }
+    true
+}
+
+fn may_tell_call(k: u64, params: &Items, seed: &Value) -> bool
+    ensures { IsTrue result → (session : ℕ) (method : List ℕ) → IsReadBack (entry_value (Begin session k method params.now seed.now)) }
+{
+    params.known();
+    seed.known();
+    if k > MAX_NUMBER {
+        return false;
+    }
+    are_shallow(params.as_slice()) && is_shallow(seed)
+}
+
+fn may_tell_operation(op: &Items) -> bool
+    ensures { IsTrue result → IsReadBack (entry_value (Admin op.now)) }
+{
+    op.known();
+    are_shallow(op.as_slice())
+}
+
 // Whether the entry may be kept as its line. A step is smaller than its line.
-fn may_have_line(entry: &Entry) -> bool {
+fn may_have_line(entry: &Entry) -> bool
+    ensures { IsTrue result → IsReadBack (entry_value entry.now) }
+{
     match entry {
-        Entry::Begin { k, .. } => *k <= MAX_NUMBER,
+        Entry::Begin {
+            k,
+            params,
+            seed,
+            ..
+        } => may_tell_call(*k, params, seed),
         Entry::Step { .. } => false,
-        Entry::Admin { .. } => true,
+        Entry::Admin { op } => may_tell_operation(op),
     }
-}
-
-// The value's text, None where the value is too deep to be read back from it.
-fn text_told(alloc: Global, value: &Value) -> Result<Option<Text>, Mem>
-    ensures { IfOk result (λ told. IfSome told (λ text. Says text (view value.now))) }
-{
-    if depth(value) > MAX_LEVELS {
-        return Ok(None);
-    }
-    let text = text(alloc, value)?;
-    // A copy has no more memory than it needs.
-    Ok(Some(text.copy()?))
-}
-
-fn list_told(alloc: Global, items: Items) -> Result<Option<Text>, Mem>
-    ensures { IfOk result (λ told. IfSome told (λ text. Says text (list (vals_of items)))) }
-{
-    let value = Value::List(items);
-    let told = text_told(alloc, &value);
-    drop(value);
-    told
 }
 
 // The entry's line, None where the entry isn't kept as its line.
@@ -85,7 +107,7 @@ fn line_told(alloc: Global, entry: &Entry) -> Result<Option<Text>, Mem>
     ensures { IfOk result (λ told. IfSome told (λ line. Says line (entry_value entry.now))) }
 {
     if may_have_line(entry) {
-        list_told(alloc, entry_words(alloc, entry)?)
+        Ok(Some(entry_line(alloc, entry)?))
     } else {
         Ok(None)
     }

@@ -1,73 +1,80 @@
-//! The lines that are printed of a store.
+//! The lines that are printed of a store, written token by token.
 ghost use Rattle.std.specs.Prelude.{◌≡◌, ◌++◌, ◌∷◌, [], map, codes, IfOk, OnOk};
-ghost use Rattle.value_model.specs.Val.{text, list, vals_of};
+ghost use Rattle.json.specs.Token.{begin_array, string};
+ghost use Rattle.ejson_codec.specs.Tokens.{tree_tokens};
+ghost use Rattle.ejson_codec.specs.Written.{written};
 ghost use Rattle.ejson_value.specs.View.{view};
-ghost use Rattle.history_model.specs.declared.entry.Entry.TheVariants.{Step};
+ghost use Rattle.history_model.specs.declared.entry.Entry.TheVariants.{Begin, Step, Admin};
 ghost use Rattle.history_log.specs.Log.{entries_in};
 ghost use Rattle.history_log.specs.Lines.{worded, number, session_text, doc_value, entry_value, line_of};
 
 use crate::log::Logged;
-use ejson_codec::{Lines, text};
-use ejson_value::{Contents, Doc, Items, Key, Mem, Text, Value, Whole, copy};
+use crate::room::{doc_room, entry_room};
+use ejson_codec::{Lines, TextWriter, put_document, put_items, put_value};
+use ejson_value::{Contents, Doc, Items, Key, Mem, Text, Value};
 use history_model::entry::Entry;
 use std::alloc::Global;
 
-fn word_alone(alloc: Global, word: &str) -> Result<Items, Mem>
-    ensures { IfOk result (λ items. items ≡ text word.now ∷ []) }
+// Begins a line with its word.
+fn begin_line(out: &mut TextWriter, word: &str) -> Result<(), Mem>
+    ensures { OnOk result (out.new ≡ out.old ++ begin_array ∷ string word.now ∷ []) }
 {
-    let mut items = Items::new(alloc);
-    items.push(Value::Text(Text::from_str(alloc, word)?))?;
-    Ok(items)
+    out.begin_array()?;
+    out.string(word)
 }
 
-// A number past 2^53 - 1, which is none of EJSON's, finds want of memory.
-fn push_number(items: &mut Items, count: u64) -> Result<(), Mem>
-    ensures { OnOk result (items.new ≡ items.old ++ number count ∷ []) }
+// A number past 2^63 - 1 finds want of memory.
+fn put_number(out: &mut TextWriter, count: u64) -> Result<(), Mem>
+    ensures { OnOk result (out.new ≡ out.old ++ tree_tokens (written (number count))) }
 {
-    let Ok(number) = i64::try_from(count) else {
-        return Err(Mem);
-    };
-    let Some(number) = Whole::of(number) else {
-        return Err(Mem);
-    };
-    items.push(Value::Int(number))
+    match i64::try_from(count) {
+        Ok(count) => out.whole(count),
+        Err(_) => Err(Mem),
+    }
 }
 
-// The text of the list of these values.
-fn list_text(alloc: Global, items: Items) -> Result<Text, Mem>
-    ensures { IfOk result (λ text. text ≡ line_of (list (vals_of items))) }
+fn put_count(out: &mut TextWriter, word: &str, count: u64) -> Result<(), Mem>
+    ensures { OnOk result (out.new ≡ out.old ++ tree_tokens (written (worded word.now (number count ∷ [])))) }
 {
-    let value = Value::List(items);
-    let text = text(alloc, &value);
-    drop(value);
-    text
+    begin_line(out, word)?;
+    put_number(out, count)?;
+    out.end_array()
 }
 
-fn push_line(alloc: Global, lines: &mut Lines, items: Items) -> Result<(), Mem>
-    ensures { OnOk result (lines.new ≡ lines.old ++ line_of (list (vals_of items)) ∷ []) }
+fn count_line(alloc: Global, word: &str, count: u64) -> Result<Text, Mem>
+    ensures { IfOk result (λ line. line ≡ line_of (worded word.now (number count ∷ []))) }
 {
-    lines.push(list_text(alloc, items)?)
+    let mut out = TextWriter::new(alloc)?;
+    put_count(&mut out, word, count)?;
+    Ok(out.finish())
 }
 
 /// The first line: a word, and how many entries there are.
 pub(crate) fn first_line(alloc: Global, word: &str, entries: u64) -> Result<Lines, Mem>
     ensures { IfOk result (λ lines. lines ≡ line_of (worded word.now (number entries ∷ [])) ∷ []) }
 {
-    let mut items = word_alone(alloc, word)?;
-    push_number(&mut items, entries)?;
+    let line = count_line(alloc, word, entries)?;
     let mut lines = Lines::new(alloc);
-    push_line(alloc, &mut lines, items)?;
+    lines.push(line)?;
     Ok(lines)
 }
 
-fn push_doc(alloc: Global, lines: &mut Lines, key: &Key, doc: &Doc) -> Result<(), Mem>
-    ensures { OnOk result (lines.new ≡ lines.old ++ line_of (doc_value (key.now, doc.now)) ∷ []) }
+fn put_doc(alloc: Global, out: &mut TextWriter, key: &Key, doc: &Doc) -> Result<(), Mem>
+    ensures { OnOk result (out.new ≡ out.old ++ tree_tokens (written (doc_value (key.now, doc.now)))) }
 {
-    let mut items = word_alone(alloc, "doc")?;
-    items.push(Value::Text(key.collection.copy()?))?;
-    items.push(Value::Text(key.id.copy()?))?;
-    items.push(Value::Object(doc.copy()?))?;
-    push_line(alloc, lines, items)
+    begin_line(out, "doc")?;
+    out.string(key.collection.as_str())?;
+    out.string(key.id.as_str())?;
+    put_document(alloc, out, doc)?;
+    out.end_array()
+}
+
+fn doc_line(alloc: Global, key: &Key, doc: &Doc) -> Result<Text, Mem>
+    ensures { IfOk result (λ line. line ≡ line_of (doc_value (key.now, doc.now))) }
+{
+    let mut out = TextWriter::with_room(alloc, doc_room(key, doc))?;
+    put_doc(alloc, &mut out, key, doc)?;
+    Ok(out.finish())
 }
 
 /// A line for each document.
@@ -75,63 +82,68 @@ pub(crate) fn push_docs(alloc: Global, lines: &mut Lines, rows: &Contents) -> Re
     ensures { OnOk result (lines.new ≡ lines.old ++ map line_of (map doc_value rows.now)) }
 {
     for (key, doc) in rows.iter() {
-        push_doc(alloc, lines, key, doc)?;
+        lines.push(doc_line(alloc, key, doc)?)?;
     }
     Ok(())
 }
 
-fn push_session(alloc: Global, items: &mut Items, session: u32) -> Result<(), Mem>
-    ensures { OnOk result (items.new ≡ items.old ++ text (session_text session) ∷ []) }
+fn put_session(alloc: Global, out: &mut TextWriter, session: u32) -> Result<(), Mem>
+    ensures { OnOk result (out.new ≡ out.old ++ string (session_text session) ∷ []) }
 {
-    let name = Text::from_string(format!(in alloc; "S{session}")?);
-    items.push(Value::Text(name))
+    let name = format!(in alloc; "S{session}")?;
+    out.string(name.as_str())
 }
 
-// A word, and which call it is.
-fn call_words(alloc: Global, word: &str, session: u32, k: u64) -> Result<Items, Mem>
-    ensures { IfOk result (λ items. items ≡ text word.now ∷ text (session_text session) ∷ number k ∷ []) }
-{
-    let mut items = word_alone(alloc, word)?;
-    push_session(alloc, &mut items, session)?;
-    push_number(&mut items, k)?;
-    Ok(items)
-}
-
-// What was called.
-fn push_call(items: &mut Items, method: &Text, params: &Items, seed: &Value) -> Result<(), Mem>
-    ensures { OnOk result (items.new ≡ items.old ++ text method.now ∷ list (vals_of params.now) ∷ view seed.now ∷ []) }
-{
-    items.push(Value::Text(method.copy()?))?;
-    items.push(Value::List(params.copy()?))?;
-    items.push(copy(seed)?)
-}
-
-fn begin_words(
+// Begins a line with a word, and which call it is.
+fn begin_call(
     alloc: Global,
+    out: &mut TextWriter,
+    word: &str,
+    session: u32,
+    k: u64,
+) -> Result<(), Mem>
+    ensures { OnOk result (out.new ≡ out.old ++ begin_array ∷ string word.now ∷ string (session_text session) ∷ tree_tokens (written (number k))) }
+{
+    begin_line(out, word)?;
+    put_session(alloc, out, session)?;
+    put_number(out, k)
+}
+
+fn put_begin(
+    alloc: Global,
+    out: &mut TextWriter,
     session: u32,
     k: u64,
     method: &Text,
     params: &Items,
     seed: &Value,
-) -> Result<Items, Mem>
-    ensures { IfOk result (λ items. items ≡ text (codes "begin") ∷ text (session_text session) ∷ number k ∷ text method.now ∷ list (vals_of params.now) ∷ view seed.now ∷ []) }
+) -> Result<(), Mem>
+    ensures { OnOk result (out.new ≡ out.old ++ tree_tokens (written (entry_value (Begin session k method.now params.now seed.now)))) }
 {
-    let mut items = call_words(alloc, "begin", session, k)?;
-    push_call(&mut items, method, params, seed)?;
-    Ok(items)
+    begin_call(alloc, out, "begin", session, k)?;
+    out.string(method.as_str())?;
+    put_items(alloc, out, params)?;
+    put_value(alloc, out, seed)?;
+    out.end_array()
 }
 
-fn admin_words(alloc: Global, op: &Items) -> Result<Items, Mem>
-    ensures { IfOk result (λ items. items ≡ text (codes "admin") ∷ list (vals_of op.now) ∷ []) }
+fn put_step(alloc: Global, out: &mut TextWriter, session: u32, k: u64) -> Result<(), Mem>
+    ensures { OnOk result (out.new ≡ out.old ++ tree_tokens (written (entry_value (Step session k)))) }
 {
-    let mut items = word_alone(alloc, "admin")?;
-    items.push(Value::List(op.copy()?))?;
-    Ok(items)
+    begin_call(alloc, out, "step", session, k)?;
+    out.end_array()
 }
 
-/// What the line of an entry lists.
-pub(crate) fn entry_words(alloc: Global, entry: &Entry) -> Result<Items, Mem>
-    ensures { IfOk result (λ items. list (vals_of items) ≡ entry_value entry.now) }
+fn put_admin(alloc: Global, out: &mut TextWriter, op: &Items) -> Result<(), Mem>
+    ensures { OnOk result (out.new ≡ out.old ++ tree_tokens (written (entry_value (Admin op.now)))) }
+{
+    begin_line(out, "admin")?;
+    put_items(alloc, out, op)?;
+    out.end_array()
+}
+
+fn put_entry(alloc: Global, out: &mut TextWriter, entry: &Entry) -> Result<(), Mem>
+    ensures { OnOk result (out.new ≡ out.old ++ tree_tokens (written (entry_value entry.now))) }
 {
     match entry {
         Entry::Begin {
@@ -140,9 +152,9 @@ pub(crate) fn entry_words(alloc: Global, entry: &Entry) -> Result<Items, Mem>
             method,
             params,
             seed,
-        } => begin_words(alloc, *session, *k, method, params, seed),
-        Entry::Step { session, k } => call_words(alloc, "step", *session, *k),
-        Entry::Admin { op } => admin_words(alloc, op),
+        } => put_begin(alloc, out, *session, *k, method, params, seed),
+        Entry::Step { session, k } => put_step(alloc, out, *session, *k),
+        Entry::Admin { op } => put_admin(alloc, out, op),
     }
 }
 
@@ -150,14 +162,18 @@ pub(crate) fn entry_words(alloc: Global, entry: &Entry) -> Result<Items, Mem>
 pub(crate) fn entry_line(alloc: Global, entry: &Entry) -> Result<Text, Mem>
     ensures { IfOk result (λ line. line ≡ line_of (entry_value entry.now)) }
 {
-    list_text(alloc, entry_words(alloc, entry)?)
+    let mut out = TextWriter::with_room(alloc, entry_room(entry))?;
+    put_entry(alloc, &mut out, entry)?;
+    Ok(out.finish())
 }
 
 /// The line of a step.
 pub(crate) fn step_line(alloc: Global, session: u32, k: u64) -> Result<Text, Mem>
     ensures { IfOk result (λ line. line ≡ line_of (entry_value (Step session k))) }
 {
-    list_text(alloc, call_words(alloc, "step", session, k)?)
+    let mut out = TextWriter::new(alloc)?;
+    put_step(alloc, &mut out, session, k)?;
+    Ok(out.finish())
 }
 
 /// A line for each entry.

@@ -16,6 +16,7 @@ loop-key-preserved c =
       (
         done ++ (key, doc) ∷ [],
         all ∙ sym (append_assoc done ((key, doc) ∷ []) rest),
-        next_line doc_value c.args.lines.now c.loop-key.lines _ done (key, doc) c.loop-key.invariant.2.2 c.in_ok-push_doc.ensures,
+        next_line doc_value c.args.lines.now c.loop-key.lines _ done (key, doc) c.loop-key.invariant.2.2
+            (c.in_ok-push.ensures.ok ∙ ap (λ line. c.loop-key.lines ++ line ∷ []) c.in_ok-doc_line.ensures),
       ),
     )
