@@ -1,12 +1,46 @@
 //! Taking a message about a document (Meteor's DDP.md, "Managing Data").
-ghost use Rattle.std.specs.Prelude.{◌≡◌, IfOk, OnOk, Some, None, option_copied};
-ghost use Rattle.map_model.specs.Differences.{with_fields, without};
+ghost use Rattle.std.specs.Prelude.{◌≡◌, ◌∷◌, [], IfOk, IfSome, OnOk, OnErr, Some, None, option_copied};
+ghost use Rattle.map_model.specs.Differences.{changed, with_fields, without};
 ghost use Rattle.value_model.specs.Order.{text_cmp};
+ghost use Rattle.value_model.specs.Doc.{put};
+ghost use Rattle.ejson_value.specs.View.{view};
 ghost use Rattle.ejson_value.specs.Messages.{said};
 ghost use Rattle.reconcile.specs.Taking.{IsTaken};
 
 use crate::fault::ServeFault;
-use ejson_value::{DataMsg, Doc, Mem, Text, copy};
+use ejson_value::{DataMsg, Doc, Mem, Text, Value, copy};
+
+// The field of a document that has no other one.
+fn only_field(fields: &Doc) -> Option<(&Text, &Value)>
+    ensures { IfSome result (λ field. fields.now ≡ (field.0.now, view field.1.now) ∷ []) }
+{
+    let mut all = fields.iter();
+    let field = all.next()?;
+    match all.next() {
+        None => Some(field),
+        Some(_) => None,
+    }
+}
+
+/// The field that the message puts into the document, where it changes no other one.
+pub fn put_alone(message: &DataMsg) -> Option<(&Text, &Value)>
+    ensures { IfSome result (λ field. (said message.now).1 ≡ changed ((field.0.now, view field.1.now) ∷ []) []) }
+{
+    match message {
+        DataMsg::Changed {
+            fields,
+            cleared,
+            ..
+        } => {
+            if cleared.is_empty() {
+                only_field(fields)
+            } else {
+                None
+            }
+        }
+        DataMsg::Added { .. } | DataMsg::Removed { .. } => None,
+    }
+}
 
 // Takes the named fields out of the document.
 fn clear(doc: &mut Doc, names: &[Text]) -> Result<(), Mem>
@@ -18,6 +52,15 @@ fn clear(doc: &mut Doc, names: &[Text]) -> Result<(), Mem>
         drop(doc.remove(&names[left])?);
     }
     Ok(())
+}
+
+/// Puts a copy of the field into the document.
+pub(crate) fn put_field(doc: &mut Doc, name: &Text, value: &Value) -> Result<(), Mem>
+    ensures ok { OnOk result (doc.new ≡ put doc.old name.now (view value.now)) }
+    ensures err { OnErr result (doc.new ≡ doc.old) }
+{
+    let name = name.copy()?;
+    doc.put(name, copy(value)?)
 }
 
 // Puts the fields into the document.
