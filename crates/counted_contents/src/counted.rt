@@ -1,16 +1,18 @@
 //! Contents with the count of their bytes.
-ghost use Rattle.std.specs.Prelude.{◌≡◌, [], Some, None, OnOk, OnErr};
+ghost use Rattle.std.specs.Prelude.{◌≡◌, [], false, is_some, Some, None, IfOk, OnOk, OnErr};
 ghost use Rattle.std.specs.Option.{option_copied};
 ghost use Rattle.map_model.specs.Maps.{at, set};
 ghost use Rattle.map_model.specs.Changes.{changed};
+ghost use Rattle.ejson_value.specs.View.{view};
 ghost use Rattle.ejson_value.specs.Key.{key_cmp};
+ghost use Rattle.ejson_value.specs.Fields.{field_at, with_field};
 ghost use Rattle.ejson_value.specs.Rows.{AreRows};
 ghost use Rattle.ejson_value.specs.Changes.{changes_of};
 ghost use Rattle.collection_store.specs.Limits.{bytes_of};
 ghost use Rattle.collection_store.specs.Answered.{AreFor};
 
-use crate::sums::{bytes_after, exchanged, size_if};
-use ejson_value::{Changes, Contents, Doc, Key, Mem, document_size};
+use crate::sums::{bytes_after, bytes_with, size_if};
+use ejson_value::{Changes, Contents, Doc, Key, Mem, Text, Value, document_size, size};
 use std::alloc::Global;
 use std::marker::Model;
 
@@ -80,11 +82,30 @@ impl CountedContents {
         ensures err { OnErr result (self.new ≡ self.old) }
     {
         self.contents.known();
-        let old = size_if(self.contents.get(&key));
-        let bytes = exchanged(self.bytes, old, document_size(&doc))?;
-        self.contents.put(key, doc)?;
-        self.bytes = bytes;
+        let both = bytes_with(self.bytes, document_size(&doc))?;
+        let there = self.contents.insert(key, doc)?;
+        self.bytes = both - size_if(there.as_ref());
         Ok(())
+    }
+
+    /// Puts a copy of the value in place of that of this field of the document at this key. It answers
+    /// whether there is such a field: where there is none nothing has changed, nor on an error. It costs
+    /// one look-up.
+    pub fn replace_field(&mut self, key: &Key, name: &Text, value: &Value) -> Result<bool, Mem>
+        ensures there { IfOk result (λ there. there ≡ is_some (field_at self.old key.now name.now)) }
+        ensures ok { OnOk result (self.new ≡ with_field self.old key.now name.now (view value.now)) }
+        ensures absent { IfOk result (λ there. there ≡ false → self.new ≡ self.old) }
+        ensures err { OnErr result (self.new ≡ self.old) }
+    {
+        self.contents.known();
+        let both = bytes_with(self.bytes, size(value))?;
+        match self.contents.replace_field(key, name, value)? {
+            None => Ok(false),
+            Some(there) => {
+                self.bytes = both - there;
+                Ok(true)
+            }
+        }
     }
 
     /// Takes the document at this key out.
@@ -93,9 +114,9 @@ impl CountedContents {
         ensures removed { self.new ≡ set key_cmp self.old key.now None }
     {
         self.contents.known();
-        let old = size_if(self.contents.get(key));
-        self.bytes -= old;
-        self.contents.remove(key)
+        let there = self.contents.remove(key);
+        self.bytes -= size_if(there.as_ref());
+        there
     }
 
     /// Puts each change's `after` at its key, or takes out what is there where it is None. On an error

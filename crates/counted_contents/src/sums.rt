@@ -36,18 +36,25 @@ fn new_bytes(changes: &Changes) -> u64
     total
 }
 
-/// This many bytes, less those of documents that go, and with those of documents that come. Documents
-/// that fit in memory have fewer than 2^64 - 1 bytes.
-pub(crate) fn exchanged(bytes: u64, old: u64, new: u64) -> Result<u64, Mem>
-    ensures { IfOk result (λ after. (old < 2 ^ 64 - 1) × (new < 2 ^ 64 - 1) × (after + old ≡ bytes + new)) }
+/// This many bytes with those of what comes, which has fewer than 2^64 - 1 where it fits in memory.
+pub(crate) fn bytes_with(bytes: u64, new: u64) -> Result<u64, Mem>
+    ensures { IfOk result (λ both. (new < 2 ^ 64 - 1) × (both ≡ bytes + new)) }
 {
-    if old == u64::MAX || new == u64::MAX {
+    if new == u64::MAX {
         return Err(Mem);
     }
-    match bytes.checked_add(new) {
-        None => Err(Mem),
-        Some(all) => all.checked_sub(old).ok_or(Mem),
+    bytes.checked_add(new).ok_or(Mem)
+}
+
+// This many bytes, less those of documents that go, and with those of documents that come. Documents
+// that fit in memory have fewer than 2^64 - 1 bytes.
+fn exchanged(bytes: u64, old: u64, new: u64) -> Result<u64, Mem>
+    ensures { IfOk result (λ after. (old < 2 ^ 64 - 1) × (new < 2 ^ 64 - 1) × (after + old ≡ bytes + new)) }
+{
+    if old == u64::MAX {
+        return Err(Mem);
     }
+    bytes_with(bytes, new)?.checked_sub(old).ok_or(Mem)
 }
 
 /// The bytes of the documents once the changes are made, where there were this many before.

@@ -1,8 +1,9 @@
 //! Documents saved before a simulation, and restored after it.
-ghost use Rattle.std.specs.Prelude.{◌≡◌, ◌++◌, ◌∷◌, [], map, IfOk, OnOk, OnErr};
+ghost use Rattle.std.specs.Prelude.{◌≡◌, ◌++◌, ◌∷◌, [], true, false, None, map, IfOk, OnOk, OnErr};
 ghost use Rattle.map_model.specs.Maps.{at, set};
 ghost use Rattle.map_model.specs.Differences.{taken};
 ghost use Rattle.value_model.specs.Order.{text_cmp};
+ghost use Rattle.view_model.specs.Views.{refusal};
 ghost use Rattle.ejson_value.specs.Key.{key_cmp};
 ghost use Rattle.ejson_value.specs.Messages.{said};
 ghost use Rattle.reconcile.specs.Originals.{saves_of};
@@ -12,7 +13,7 @@ ghost use Rattle.minimongo.specs.Restored.{saves_at, restored};
 use crate::fault::ViewFault;
 use counted_contents::CountedContents;
 use ejson_value::{Change, Changes, Contents, DataMsg, Doc, Key, Keys, Mem, copy_option};
-use reconcile::{Save, Saves, key_of, taken};
+use reconcile::{Save, Saves, key_of, put_alone, taken};
 use std::alloc::Global;
 
 // A copy of what stands at the key.
@@ -71,6 +72,21 @@ pub(crate) fn restoring(alloc: Global, contents: &Contents, saves: &Saves) -> Re
     Ok(changes)
 }
 
+// Takes a message that puts one field, which the document has, and answers whether it is such a one;
+// another one changes nothing.
+fn put_in_place(contents: &mut CountedContents, message: &DataMsg) -> Result<bool, Mem>
+    ensures fits { IfOk result (λ put. put ≡ true → refusal (at key_cmp contents.old (said message.now).0) (said message.now).1 ≡ None) }
+    ensures ok { IfOk result (λ put. put ≡ true → contents.new ≡ set key_cmp contents.old (said message.now).0
+        (taken text_cmp (at key_cmp contents.old (said message.now).0) (said message.now).1)) }
+    ensures other { IfOk result (λ put. put ≡ false → contents.new ≡ contents.old) }
+    ensures err { OnErr result (contents.new ≡ contents.old) }
+{
+    match put_alone(message) {
+        None => Ok(false),
+        Some((name, value)) => contents.replace_field(key_of(message), name, value),
+    }
+}
+
 /// Takes a message about a document.
 pub(crate) fn take(contents: &mut CountedContents, message: &DataMsg) -> Result<(), ViewFault>
     ensures fits { IsFitting (at key_cmp contents.old (said message.now).0) (said message.now).1 result }
@@ -78,6 +94,9 @@ pub(crate) fn take(contents: &mut CountedContents, message: &DataMsg) -> Result<
         (taken text_cmp (at key_cmp contents.old (said message.now).0) (said message.now).1)) }
     ensures err { OnErr result (contents.new ≡ contents.old) }
 {
+    if put_in_place(contents, message)? {
+        return Ok(());
+    }
     let key = key_of(message);
     match taken(contents.get(key), message)? {
         None => {

@@ -1,8 +1,7 @@
 use Rattle.std.specs.Prelude.{map}
 use Rattle.ejson_value.specs.Rows.{Rows}
 use Rattle.minimongo.specs.Restored.{restored}
-use Rattle.std.proofs.Common.{◌≡◌, List, All, ap, sym, subst, ◌∙◌}
-use Rattle.map_model.specs.Maps.{at}
+use Rattle.std.proofs.Common.{List, ap, sym, subst, ◌∙◌}
 use Rattle.map_model.specs.Changes.{changed}
 use Rattle.view_model.specs.Views.{released}
 use Rattle.ejson_value.specs.declared.change.Change.{Change}
