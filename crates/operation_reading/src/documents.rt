@@ -17,14 +17,6 @@ fn is_id(id: &Text) -> bool
     0 < id.len() && id.len() <= MAX_ID
 }
 
-fn without(fields: &Doc, name: &Text) -> Result<Doc, Mem>
-    ensures { IfOk result (λ doc. doc ≡ remove fields.now name.now) }
-{
-    let mut doc = fields.copy()?;
-    doc.remove(name)?;
-    Ok(doc)
-}
-
 fn insert_with(collection: &Text, id: &Text, fields: &Doc, name: &Text) -> Result<Option<Op>, Mem>
     ensures { IfOk result (λ o. o ≡ insert_of collection.now (if is_id id.now then Some (record { id = id.now; is_drawn = false; doc = remove fields.now name.now }) else None)) }
 {
@@ -36,7 +28,7 @@ fn insert_with(collection: &Text, id: &Text, fields: &Doc, name: &Text) -> Resul
     Ok(Some(Op::Insert {
         collection,
         id,
-        doc: without(fields, name)?,
+        doc: fields.without(name)?,
     }))
 }
 

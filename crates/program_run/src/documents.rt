@@ -75,9 +75,7 @@ fn without_id(alloc: Global, fields: &Doc) -> Result<Doc, Mem>
     ensures { IfOk result (λ doc. doc ≡ remove fields.now (codes "_id")) }
 {
     let name = Text::from_str(alloc, "_id")?;
-    let mut doc = fields.copy()?;
-    doc.remove(&name)?;
-    Ok(doc)
+    fields.without(&name)
 }
 
 fn with_given_id(alloc: Global, fields: &Doc, id: &Text) -> Result<Option<NewDocument>, Mem>
