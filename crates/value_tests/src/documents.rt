@@ -82,6 +82,17 @@ fn is_copied(alloc: Global, fields: &mut Doc) -> Result<bool, Mem> {
     Ok(same && takes(alloc, fields, 1999)? && !same_documents(&copied, fields))
 }
 
+// Whether a copy lacks the field that was left out, and with it the field's bytes.
+fn is_left_out(alloc: Global, fields: &Doc, number: i64) -> Result<bool, Mem> {
+    let name = numbered(alloc, number)?;
+    let rest = fields.without(&name)?;
+    Ok(
+        rest.len() < fields.len()
+            && rest.get(&name).is_none()
+            && document_size(&rest) < document_size(fields),
+    )
+}
+
 // Whether the document that was large is now the same as one that never was.
 fn is_small(alloc: Global, fields: &Doc, end: i64) -> Result<bool, Mem> {
     let mut small = Doc::new(alloc);
@@ -89,6 +100,7 @@ fn is_small(alloc: Global, fields: &Doc, end: i64) -> Result<bool, Mem> {
     Ok(
         same_documents(&small, fields)
             && document_size(&small) == document_size(fields)
+            && is_left_out(alloc, &small, 1000)?
             && document_depth(fields) == 1,
     )
 }
@@ -99,6 +111,7 @@ fn is_large_as_told(alloc: Global, fields: &mut Doc) -> Result<bool, Mem> {
         fields.len() == 1000
             && is_walked(alloc, fields, 1000)?
             && is_replaced(alloc, fields)?
+            && is_left_out(alloc, fields, 1500)?
             && is_copied(alloc, fields)?
             && takes_each(alloc, fields, 1020, 1999)?
             && is_small(alloc, fields, 1020)?,
