@@ -1,4 +1,5 @@
 mod KeyRows
+mod NamedRows
 pub mod Overlay
 pub mod Windows
 pub mod Following

@@ -1,3 +1,4 @@
 pub mod KeySets
+pub mod Naming
 pub mod Simulating
 pub mod Drafts

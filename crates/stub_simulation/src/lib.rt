@@ -9,6 +9,7 @@ mod draft;
 mod finding;
 mod fitting;
 mod key_set;
+mod naming;
 mod simulation;
 mod steps;
 mod traces;

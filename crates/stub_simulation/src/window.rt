@@ -1,14 +1,18 @@
 //! The documents that a step looks at.
 ghost use Rattle.std.specs.Prelude.{◌≡◌, [], IfOk, option_map};
+ghost use Rattle.map_model.specs.Maps.{at};
+ghost use Rattle.ejson_value.specs.Key.{key_cmp, key_of};
 ghost use Rattle.ejson_value.specs.View.{view as value_view};
 ghost use Rattle.selector_match.specs.Reading.{reading};
 ghost use Rattle.program_steps.specs.Template.{filled};
 ghost use Rattle.program_model.specs.Run.{if_ok};
+ghost use Rattle.stub_simulation.specs.Naming.{row_at};
 ghost use Rattle.stub_simulation.specs.Drafts.{shown_by, selector_by, IsWithin, IsFoundBy, IsWindow};
 
 use crate::draft::Draft;
 use crate::finding::found;
-use ejson_value::{Contents, Items, Mem, Names, Text, Value};
+use crate::naming::id_named_by;
+use ejson_value::{Contents, Items, Key, Mem, Names, Text, Value};
 use program_steps::{FillFault, ProgramStep, Template};
 use selector_match::{Selector, SelectorFault};
 use std::alloc::Global;
@@ -58,7 +62,27 @@ fn selector_by(
     }
 }
 
-// The documents that the selector holds of which the template is filled to.
+// A copy of the document with this id, if there is one.
+fn found_at(
+    alloc: Global,
+    view: &Contents,
+    draft: &Draft,
+    collection: &Text,
+    id: &Text,
+) -> Result<Contents, Mem>
+    requires { IsWithin draft.now }
+    ensures { IfOk result (λ found. found ≡ row_at (key_of collection.now id.now) (at key_cmp (shown_by view.now draft.now) (key_of collection.now id.now))) }
+{
+    let key = Key::of(collection, id)?;
+    let mut found = Contents::new(alloc);
+    if let Some(doc) = draft.doc_at(view, &key) {
+        found.put(key, doc.copy()?)?;
+    }
+    Ok(found)
+}
+
+// The documents that the selector holds of which the template is filled to. One that names an id
+// alone holds of the document with this id, and isn't read for that.
 fn found_by(
     alloc: Global,
     params: &Items,
@@ -70,6 +94,10 @@ fn found_by(
     requires { IsWithin draft.now }
     ensures { IfOk result (IsFoundBy (selector_by params.now draft.now.made template.now) collection.now (shown_by view.now draft.now)) }
 {
+    view.known();
+    if let Some(id) = id_named_by(params, template) {
+        return found_at(alloc, view, draft, collection, id);
+    }
     match selector_by(alloc, params, &draft.made, template)? {
         Some(selector) => found(alloc, view, draft, collection, &selector),
         None => Ok(Contents::new(alloc)),
