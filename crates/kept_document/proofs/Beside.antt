@@ -141,7 +141,12 @@ claims_beside sub fields doc made s t is f =
     ∙ changed_joined sub f (at text_cmp fields f) (at text_cmp doc f)
 
 -- the next entry of both maps, at one key
-pub both_next : {K X Y : Type 0} {R : K → K → Ordering} (o : IsKeyOrder R) (j k : K) (x : X) (y : Y) (a : List (K × X)) (b : List (K × Y)) → j ≡ k → side_by_side R ((j, x) ∷ a) ((k, y) ∷ b) ≡ (k, (Some x, Some y)) ∷ side_by_side R a b
+pub both_next : {K X Y : Type 0} {R : K → K → Ordering} (o : IsKeyOrder R) (j k : K) (x : X) (y : Y)
+    (a : List (K × X)) (b : List (K × Y))
+    → j ≡ k → side_by_side R ((j, x) ∷ a) ((k, y) ∷ b) ≡ (k, (Some x, Some y)) ∷ side_by_side R a b
 both_next {R = R} o j k x y a b e =
-    ap (λ r. match_ordering r ((j, (Some x, None)) ∷ side_by_side R a ((k, y) ∷ b)) ((j, (Some x, Some y)) ∷ side_by_side R a b) ((k, (None, Some y)) ∷ entry_beside R j x (side_by_side R a) b)) (ap (R j) (sym e) ∙ tied_itself o.total j)
+    let first = (j, (Some x, None)) ∷ side_by_side R a ((k, y) ∷ b) in
+    let both = (j, (Some x, Some y)) ∷ side_by_side R a b in
+    let second = (k, (None, Some y)) ∷ entry_beside R j x (side_by_side R a) b in
+    ap (λ r. match_ordering r first both second) (ap (R j) (sym e) ∙ tied_itself o.total j)
     ∙ ap (λ q. (q, (Some x, Some y)) ∷ side_by_side R a b) e

@@ -80,12 +80,15 @@ module _ (cursor : Cursor) where
 
   sorted_noted : (nets : NetMap) (change : Change) → IsSorted text_cmp nets → IsSorted text_cmp (noted cursor nets change)
   sorted_noted nets change s =
-      elim (is_own cursor change) as (λ b. IsSorted text_cmp (if b then set text_cmp nets change.key.id (Some (net_of cursor (at text_cmp nets change.key.id) change)) else nets)) [
-        | true ↦ sorted-set name_order nets change.key.id (Some (net_of cursor (at text_cmp nets change.key.id) change)) s
+      let id = change.key.id in
+      let net = net_of cursor (at text_cmp nets id) change in
+      elim (is_own cursor change) as (λ b. IsSorted text_cmp (if b then set text_cmp nets id (Some net) else nets)) [
+        | true ↦ sorted-set name_order nets id (Some net) s
         | false ↦ s
       ]
 
-  pub sorted_all_noted : (nets : NetMap) (changes : List Change) → IsSorted text_cmp nets → IsSorted text_cmp (all_noted cursor nets changes)
+  pub sorted_all_noted : (nets : NetMap) (changes : List Change) → IsSorted text_cmp nets
+      → IsSorted text_cmp (all_noted cursor nets changes)
   sorted_all_noted nets [] s = s
   sorted_all_noted nets (change ∷ changes) s = sorted_all_noted (noted cursor nets change) changes (sorted_noted nets change s)
 

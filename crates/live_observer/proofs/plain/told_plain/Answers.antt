@@ -13,4 +13,7 @@ whatever (Err e) P p = tt
 
 pub returns-in-len1-clause-ordered : goal.returns-in-len1-clause-ordered
 returns-in-len1-clause-ordered g c =
-    whatever c.told_once.result (IsSorted text_cmp (all_noted c.args.cursor.now [] c.args.changes.now)) (sorted_all_noted c.args.cursor.now [] c.args.changes.now (sorted-nil text_cmp))
+    let cursor = c.args.cursor.now in
+    let changes = c.args.changes.now in
+    whatever c.told_once.result (IsSorted text_cmp (all_noted cursor [] changes))
+    (sorted_all_noted cursor [] changes (sorted-nil text_cmp))

@@ -12,9 +12,12 @@ loop-next-preserved c =
     let last = c.loop-next.last.now in
     let next = c.in-Some.next.now in
     let others = c.in-Some.others.now in
+    let less = less_of (text_cmp last next.id) (ap is_ge (sym c.cmp.ensures) ∙ sym c.is_ge.ensures ∙ c.if-is_ge.false) in
     record {
-      whole = λ s. c.loop-next.invariant.whole (subst (λ rest. IsStrictlySortedBy text_cmp (last ∷ keys_of (as_told rest))) (sym c.in-Some.ensures.cases.0)
-          (sorted_next last next.id (keys_of (as_told others)) (less_of (text_cmp last next.id) (ap is_ge (sym c.cmp.ensures) ∙ sym c.is_ge.ensures ∙ c.if-is_ge.false)) s));
+      whole = λ s. c.loop-next.invariant.whole (
+          subst (λ rest. IsStrictlySortedBy text_cmp (last ∷ keys_of (as_told rest))) (sym c.in-Some.ensures.cases.0)
+          (sorted_next last next.id (keys_of (as_told others)) less s)
+          );
     }
 
 pub returns : goal.returns
