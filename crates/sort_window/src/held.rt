@@ -5,7 +5,7 @@ use crate::rows::Row;
 use ejson_value::{Doc, Mem, Text};
 use std::alloc::Global;
 use std::marker::Model;
-use std::rc::Rc;
+use std::sync::Arc;
 
 #[derive(Drop)]
 struct Entry {
@@ -16,11 +16,12 @@ struct Entry {
 /// A row with its id. Several lists hold the same one. A contract sees the id and the row.
 #[derive(Drop)]
 pub(crate) struct Held {
-    inner: Rc<Entry>,
+    inner: Arc<Entry>,
 }
 
 impl Model for Held {
     ghost use Rattle.std.specs.Prelude.{List, ℕ};
+    ghost use Rattle.std.specs.Arc.{arc_value};
     ghost use Rattle.sort_window.specs.declared.rows.Row.{Row};
     ghost use Rattle.sort_window.specs.Coding.{held_code};
 
@@ -28,7 +29,7 @@ impl Model for Held {
 
     ghost coded = { held_code };
 
-    ghost view = { λ a. (a.inner.value.id, a.inner.value.row) };
+    ghost view = { λ a. ((arc_value a.inner).id, (arc_value a.inner).row) };
 }
 
 impl Held {
@@ -36,7 +37,7 @@ impl Held {
         ensures { IfOk result (λ held. held ≡ (id, row)) }
     {
         Ok(Held {
-            inner: Rc::new(alloc, Entry { id, row })?,
+            inner: Arc::new(alloc, Entry { id, row })?,
         })
     }
 
@@ -63,7 +64,7 @@ impl Held {
         ensures { IfOk result (λ held. held ≡ self.now) }
     {
         Ok(Held {
-            inner: self.inner.clone()?,
+            inner: Arc::try_clone(&self.inner)?,
         })
     }
 }
