@@ -3,8 +3,10 @@ ghost use Rattle.std.specs.Prelude.{◌≡◌, ◌≢◌, ◌<◌, ◌≤◌, �
 ghost use Rattle.checking.specs.Input.{line_feed, lines_in, is_blank, value_in};
 ghost use Rattle.ejson_value.specs.View.{view};
 
-use ejson_codec::{ParseFault, parse};
-use ejson_value::{Mem, Text, Value};
+use ejson_codec::{ParseFault, parse_in};
+use ejson_value::{Mem, Value};
+use json::Scratch;
+use memchr::memchr;
 use std::alloc::Global;
 use std::str;
 
@@ -20,12 +22,10 @@ fn line_end(input: &[u8]) -> usize
     ensures before { (k : ℕ) → k < result → slice_index input.now k ≢ line_feed }
     ensures found { result < length input.now → slice_index input.now result ≡ line_feed }
 {
-    for (i, byte) in input.iter().enumerate() {
-        if *byte == b'\n' {
-            return i;
-        }
+    match memchr(b'\n', input) {
+        Some(place) => place,
+        None => input.len(),
     }
-    input.len()
 }
 
 /// The first line of the input, without its line feed, and what follows.
@@ -67,10 +67,18 @@ pub fn is_blank(line: &[u8]) -> bool
 pub fn value_in(alloc: Global, line: &[u8]) -> Result<Option<Value>, Mem>
     ensures { IfOk result (λ v. option_map view v ≡ value_in line.now) }
 {
+    let mut scratch = Scratch::new(alloc);
+    read_value(alloc, line, &mut scratch)
+}
+
+/// What `value_in` answers, with this room for reading.
+pub fn read_value(alloc: Global, line: &[u8], scratch: &mut Scratch) -> Result<Option<Value>, Mem>
+    ensures { IfOk result (λ v. option_map view v ≡ value_in line.now) }
+{
     let Ok(text) = str::from_utf8(line) else {
         return Ok(None);
     };
-    match parse(alloc, &Text::from_str(alloc, text)?) {
+    match parse_in(alloc, text, scratch) {
         Ok(value) => Ok(Some(value)),
         Err(ParseFault::Memory) => Err(Mem),
         Err(_) => Ok(None),
