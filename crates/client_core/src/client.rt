@@ -21,6 +21,7 @@ use client_parts::subs::Subs;
 use client_parts::texts;
 use ejson_codec::Lines;
 use ejson_value::{Items, Mem, Text, Value};
+use json::Scratch;
 use minimongo::View;
 use program_steps::Outcome;
 use std::alloc::Global;
@@ -49,6 +50,8 @@ pub struct Client {
     pub(crate) subs: Subs,
     /// The first one has the number 1.
     pub(crate) calls: Vec<Call>,
+    /// Room for reading, lent to each text.
+    pub(crate) scratch: Box<Scratch>,
 }
 
 impl Model for Client {
@@ -87,6 +90,7 @@ impl Client {
         let app = app.copy()?;
         let name = name.copy()?;
         let waiting = one_text(alloc, texts::connect(alloc)?)?;
+        let scratch = Box::new(alloc, Scratch::new(alloc))?;
         Ok(Client {
             alloc,
             app,
@@ -98,6 +102,7 @@ impl Client {
             view: View::new(alloc),
             subs: Subs::new(alloc),
             calls: Vec::new(alloc),
+            scratch,
         })
     }
 

@@ -16,19 +16,20 @@ use client_parts::subs::ended_by;
 use client_parts::texts::pong;
 use ddp_messages::{FromServer, MsgFault};
 use ejson_value::{Fault, Mem, Names, Text, Value};
+use json::Scratch;
 use std::alloc::Global;
 
 /// How many bytes a text may have that a client reads.
 const MAX_SERVER_TEXT: usize = 4_194_304;
 
 // Reads a text as a message.
-fn read(alloc: Global, text: &Text) -> Result<FromServer, TakeFault>
+fn read(alloc: Global, text: &Text, scratch: &mut Scratch) -> Result<FromServer, TakeFault>
     ensures { IsRead text.now result }
 {
     if text.len() > MAX_SERVER_TEXT {
         return Err(TakeFault::ServerSent(1));
     }
-    match FromServer::read(alloc, text) {
+    match FromServer::read_in(alloc, text, scratch) {
         Ok(message) => Ok(message),
         Err(MsgFault::Parse) => Err(TakeFault::ServerSent(1)),
         Err(MsgFault::BadRequest { .. }) => Err(TakeFault::ServerSent(2)),
@@ -157,7 +158,7 @@ impl Client {
     fn hear(&mut self, text: &Text) -> Result<(), TakeFault>
         ensures { Hears text.now self.old self.new result }
     {
-        let message = read(self.alloc, text)?;
+        let message = read(self.alloc, text, &mut self.scratch)?;
         self.tell(message)
     }
 
