@@ -12,9 +12,10 @@ ghost use Rattle.world_commands.specs.Stepping.{GivesEventOf, StepsLine, RunsLin
 ghost use Rattle.world_commands.specs.Truth.{AreReplayed};
 
 use app_model::{App, AppFault};
-use checking::{Outcome, add_bad, add_line, first_line, is_blank, value_in};
+use checking::{Outcome, add_bad, add_line, first_line, is_blank, read_value, value_in};
 use ejson_codec::Lines;
 use ejson_value::Mem;
+use json::Scratch;
 use read_applications::read_application;
 use std::alloc::Global;
 use world_core::World;
@@ -38,10 +39,10 @@ fn read_app(alloc: Global, line: &[u8]) -> Result<Option<App>, Mem>
 }
 
 // The event that the line is, if it is one.
-fn event_in(alloc: Global, line: &[u8]) -> Result<Option<Event>, Mem>
+fn event_in(alloc: Global, line: &[u8], scratch: &mut Scratch) -> Result<Option<Event>, Mem>
     ensures { IfOk result (GivesEventOf line.now) }
 {
-    let Some(value) = value_in(alloc, line)? else {
+    let Some(value) = read_value(alloc, line, scratch)? else {
         return Ok(None);
     };
     let read = Event::read(alloc, &value);
@@ -86,10 +87,15 @@ fn run_event(alloc: Global, world: &mut World, event: Event) -> Result<Option<Li
 }
 
 // Runs a line, if it is an event, and answers what it prints.
-fn step(alloc: Global, world: &mut World, line: &[u8]) -> Result<Option<Lines>, Mem>
+fn step(
+    alloc: Global,
+    world: &mut World,
+    line: &[u8],
+    scratch: &mut Scratch,
+) -> Result<Option<Lines>, Mem>
     ensures { IfOk result (StepsLine line.now world.old world.new) }
 {
-    match event_in(alloc, line)? {
+    match event_in(alloc, line, scratch)? {
         None => Ok(None),
         Some(event) => run_event(alloc, world, event),
     }
@@ -100,6 +106,7 @@ fn run_line(
     alloc: Global,
     world: &mut World,
     line: &[u8],
+    scratch: &mut Scratch,
     output: &mut Vec<u8>,
 ) -> Result<bool, Mem>
     ensures { IfOk result (RunsLine line.now world.old world.new output.old.items output.new.items) }
@@ -107,7 +114,7 @@ fn run_line(
     if is_blank(line) {
         return Ok(true);
     }
-    match step(alloc, world, line)? {
+    match step(alloc, world, line, scratch)? {
         None => Ok(false),
         Some(lines) => {
             add_lines(output, &lines)?;
@@ -121,6 +128,7 @@ fn run_lines(
     alloc: Global,
     world: &mut World,
     lines: &[u8],
+    scratch: &mut Scratch,
     output: &mut Vec<u8>,
 ) -> Result<Option<u32>, Mem>
     requires { length lines.now ≤ input_limit }
@@ -132,7 +140,7 @@ fn run_lines(
     let mut number = 2;
     while !rest.is_empty() {
         let (line, more) = first_line(rest);
-        if !run_line(alloc, world, line, output)? {
+        if !run_line(alloc, world, line, scratch, output)? {
             return Ok(Some(number));
         }
         rest = more;
@@ -149,8 +157,9 @@ fn run_app(alloc: Global, app: &App, lines: &[u8], output: &mut Vec<u8>) -> Resu
     ensures bad { IfOk result (λ bad. bad ≡ bad_line 2 (lines_in lines.now)) }
     ensures events { OnOk result (AreEvents (events_of (lines_in lines.now))) }
 {
+    let mut scratch = Scratch::new(alloc);
     let mut world = World::new(alloc, app)?;
-    run_lines(alloc, &mut world, lines, output)
+    run_lines(alloc, &mut world, lines, &mut scratch, output)
 }
 
 // Runs an input up to its first bad line, and answers the number of that.
