@@ -10,7 +10,7 @@ pub type Paths = ListOf<Path>;
 
 /// Which fields of a document are published: all, those at the paths, or all but these (projection,
 /// in MongoDB's documentation; field specifiers, in Meteor's).
-#[derive(Debug, Drop)]
+#[derive(Drop)]
 pub enum Projection {
     All,
     Only(Paths),
@@ -19,7 +19,7 @@ pub enum Projection {
 
 /// One cursor of a publication: the documents of a collection that a selector, once its template is
 /// filled, holds of.
-#[derive(Debug, Drop)]
+#[derive(Drop)]
 pub struct CursorRule {
     pub collection: Text,
     /// The name under which a client gets the documents.
@@ -36,7 +36,7 @@ pub struct CursorRule {
 pub type CursorRules = ListOf<CursorRule>;
 
 /// What one call of Meteor's `publish` names: no cursor or several, with distinct published names.
-#[derive(Debug, Drop)]
+#[derive(Drop)]
 pub struct Publication {
     pub cursors: CursorRules,
 }

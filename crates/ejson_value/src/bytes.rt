@@ -1,14 +1,12 @@
 //! Binary data.
-ghost use Rattle.std.specs.Prelude.{◌≡◌, ◌<◌, ◌∷◌, ◌++◌, ◌==◌, [], length, All, Some, slice_get, IfOk, OnOk, OnErr};
-ghost use Rattle.std.specs.List.{remove};
+ghost use Rattle.std.specs.Prelude.{◌≡◌, ◌<◌, ◌∷◌, ◌++◌, [], length, All, IfOk, OnOk, OnErr};
 
-use crate::list::Copied;
 use crate::memory::Mem;
 use std::alloc::Global;
 use std::marker::Model;
 
 /// Binary data. A contract sees it as the list of its bytes.
-#[derive(Debug, Drop)]
+#[derive(Drop)]
 pub struct Bytes {
     items: Vec<u8>,
 }
@@ -56,20 +54,6 @@ impl Bytes {
         self.items.len()
     }
 
-    /// Whether there are none.
-    pub fn is_empty(&self) -> bool
-        ensures { result ≡ (length self.now == 0) }
-    {
-        self.items.is_empty()
-    }
-
-    /// The byte at this place.
-    pub fn get(&self, place: usize) -> Option<u8>
-        ensures { result ≡ slice_get self.now place }
-    {
-        self.items.get(place).copied()
-    }
-
     /// The bytes in order.
     pub fn as_slice(&self) -> &[u8]
         ensures value { result.now ≡ self.now }
@@ -87,15 +71,6 @@ impl Bytes {
         Ok(())
     }
 
-    /// Takes the byte at this place out; those behind it move down.
-    pub fn remove(&mut self, place: usize) -> u8
-        requires { place < length self.old }
-        ensures value { Some result ≡ slice_get self.old place }
-        ensures removed { self.new ≡ remove self.old place }
-    {
-        self.items.remove(place)
-    }
-
     /// Bytes equal to these.
     pub fn copy(&self) -> Result<Bytes, Mem>
         ensures { IfOk result (λ b. b ≡ self.now) }
@@ -103,11 +78,5 @@ impl Bytes {
         Ok(Bytes {
             items: Vec::from_slice(*self.items.allocator(), self.items.as_slice())?,
         })
-    }
-}
-
-impl Copied for Bytes {
-    fn copied(&self) -> Result<Bytes, Mem> {
-        self.copy()
     }
 }

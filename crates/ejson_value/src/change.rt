@@ -2,12 +2,12 @@
 ghost use Rattle.std.specs.Prelude.{◌≡◌, IfOk};
 
 use crate::key::Key;
-use crate::list::{Copied, copy_option};
+use crate::list::copy_option;
 use crate::memory::Mem;
 use crate::value::Doc;
 
 /// What became of the document at a key.
-#[derive(Debug, Drop)]
+#[derive(Drop)]
 pub struct Change {
     pub key: Key,
     /// The document before, None where there was none.
@@ -17,7 +17,7 @@ pub struct Change {
 }
 
 /// What a publication says of a key, whose collection is the published name.
-#[derive(Debug, Drop)]
+#[derive(Drop)]
 pub struct Publish {
     pub key: Key,
     /// The published document, None where it is published no more.
@@ -34,29 +34,5 @@ impl Change {
             before: copy_option(&self.before)?,
             after: copy_option(&self.after)?,
         })
-    }
-}
-
-impl Publish {
-    /// A publication equal to this one.
-    pub fn copy(&self) -> Result<Publish, Mem>
-        ensures { IfOk result (λ p. p ≡ self.now) }
-    {
-        Ok(Publish {
-            key: self.key.copy()?,
-            new: copy_option(&self.new)?,
-        })
-    }
-}
-
-impl Copied for Change {
-    fn copied(&self) -> Result<Change, Mem> {
-        self.copy()
-    }
-}
-
-impl Copied for Publish {
-    fn copied(&self) -> Result<Publish, Mem> {
-        self.copy()
     }
 }

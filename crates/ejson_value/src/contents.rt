@@ -13,7 +13,6 @@ ghost use Rattle.ejson_value.specs.Rows.{Rows, AreRows, rows_of};
 
 use crate::copying::copy;
 use crate::key::Key;
-use crate::list::Copied;
 use crate::measure::size;
 use crate::memory::Mem;
 use crate::text::Text;
@@ -25,7 +24,7 @@ use std::default::Emptied;
 use std::marker::Model;
 
 /// Documents by collection and id. A contract sees its pairs by rising key.
-#[derive(Debug, Drop)]
+#[derive(Drop)]
 pub struct Contents {
     docs: BTreeMap<Key, Doc>,
 }
@@ -220,11 +219,5 @@ impl Contents {
             copies.put_copy(key, doc)?;
         }
         Ok(copies)
-    }
-}
-
-impl Copied for Contents {
-    fn copied(&self) -> Result<Contents, Mem> {
-        self.copy()
     }
 }

@@ -49,20 +49,8 @@ impl Boxed {
     }
 }
 
-impl Copied for Items {
-    fn copied(&self) -> Result<Items, Mem> {
-        self.copy()
-    }
-}
-
 impl Copied for Doc {
     fn copied(&self) -> Result<Doc, Mem> {
-        self.copy()
-    }
-}
-
-impl Copied for Boxed {
-    fn copied(&self) -> Result<Boxed, Mem> {
         self.copy()
     }
 }

@@ -7,7 +7,7 @@ use crate::text::Text;
 
 /// An error that a client is told: a code, as `404`, and a reason in words (Meteor's DDP.md,
 /// "Errors").
-#[derive(Debug, PartialEq, Eq, Drop)]
+#[derive(Drop)]
 pub struct Fault {
     pub code: Text,
     pub reason: Text,

@@ -2,12 +2,11 @@
 ghost use Rattle.std.specs.Prelude.{◌≡◌, IfOk};
 ghost use Rattle.ejson_value.specs.Key.{key_of};
 
-use crate::list::Copied;
 use crate::memory::Mem;
 use crate::text::Text;
 
 /// Where a document stands: its collection's name and its id. Keys go by collection and then by id.
-#[derive(Debug, PartialEq, Eq, PartialOrd, Ord, Drop)]
+#[derive(PartialEq, Eq, PartialOrd, Ord, Drop)]
 pub struct Key {
     /// The collection's name.
     pub collection: Text,
@@ -34,11 +33,5 @@ impl Key {
             collection: self.collection.copy()?,
             id: self.id.copy()?,
         })
-    }
-}
-
-impl Copied for Key {
-    fn copied(&self) -> Result<Key, Mem> {
-        self.copy()
     }
 }

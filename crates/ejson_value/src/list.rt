@@ -14,7 +14,7 @@ pub trait Copied: Drop {
 }
 
 /// A list. A contract sees it as the list of its elements.
-#[derive(Debug, Drop)]
+#[derive(Drop)]
 pub struct ListOf<T> {
     items: Vec<T>,
 }

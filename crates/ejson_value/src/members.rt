@@ -26,7 +26,7 @@ use std::slice;
 const MAX_ROW: usize = 64;
 
 // The fields of a document: a row while they are few, for good a table once there were more.
-#[derive(Debug, Drop)]
+#[derive(Drop)]
 #[cycle(value)]
 pub(crate) enum Members {
     Few(Row),
@@ -35,7 +35,7 @@ pub(crate) enum Members {
 
 // The fields of a document and how many bytes they have as EJSON, each with its colon and a comma, 2^64 - 1 where they
 // have more. A contract sees the fields.
-#[derive(Debug, Drop)]
+#[derive(Drop)]
 #[cycle(value)]
 pub(crate) struct Measured {
     members: Members,

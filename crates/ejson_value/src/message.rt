@@ -2,14 +2,14 @@
 ghost use Rattle.std.specs.Prelude.{◌≡◌, IfOk};
 
 use crate::key::Key;
-use crate::list::{Copied, ListOf};
+use crate::list::ListOf;
 use crate::memory::Mem;
 use crate::text::Text;
 use crate::value::Doc;
 
 /// One message about one document, to whoever keeps a copy of it (Meteor's DDP.md, "Managing
 /// data"). `merge_box` makes them and hands the type on.
-#[derive(Debug, Drop)]
+#[derive(Drop)]
 pub enum DataMsg {
     /// The document is new, with these fields.
     Added {
@@ -64,11 +64,5 @@ impl DataMsg {
             } => copy_changed(key, fields, cleared),
             DataMsg::Removed { key } => Ok(DataMsg::Removed { key: key.copy()? }),
         }
-    }
-}
-
-impl Copied for DataMsg {
-    fn copied(&self) -> Result<DataMsg, Mem> {
-        self.copy()
     }
 }

@@ -35,7 +35,7 @@ impl From<Mem> for PathFault {
 }
 
 /// One part of a path: a field's name, which may be a position in a list as well. A contract sees its name.
-#[derive(Debug, Drop)]
+#[derive(Drop)]
 pub struct Part {
     name: Text,
     place: Option<usize>,
@@ -114,7 +114,7 @@ impl Part {
 }
 
 /// A path of 1 to 32 parts, none of them empty. A contract sees its parts' names.
-#[derive(Debug, Drop)]
+#[derive(Drop)]
 pub struct Path {
     parts: Vec<Part>,
 }

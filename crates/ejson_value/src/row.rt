@@ -22,7 +22,7 @@ use std::mem;
 use std::slice::Iter;
 
 // One field of a document.
-#[derive(Debug, Drop)]
+#[derive(Drop)]
 #[cycle(value)]
 pub(crate) struct Member {
     pub(crate) name: Text,
@@ -30,7 +30,7 @@ pub(crate) struct Member {
 }
 
 // Fields by rising name. A contract sees their pairs.
-#[derive(Debug, Drop)]
+#[derive(Drop)]
 #[cycle(value)]
 pub(crate) struct Row {
     members: Vec<Member>,

@@ -7,7 +7,7 @@ use crate::path::Path;
 
 /// One key to sort documents by: the value at the path, least first, or greatest first where it is
 /// descending (as `[path, 1]` and `[path, -1]` in the sort specifiers of Meteor's `find`).
-#[derive(Debug, Drop)]
+#[derive(Drop)]
 pub struct SortKey {
     pub path: Path,
     pub descending: bool,

@@ -18,7 +18,7 @@ use std::default::Emptied;
 use std::marker::Model;
 
 // Fields by name. A contract sees their pairs by rising name.
-#[derive(Debug, Drop)]
+#[derive(Drop)]
 #[cycle(value)]
 pub(crate) struct Table {
     fields: BTreeMap<Text, Value>,

@@ -1,5 +1,5 @@
 //! Texts.
-ghost use Rattle.std.specs.Prelude.{◌≡◌, ◌+◌, ◌++◌, ◌==◌, ◌↔◌, ◌≤◌, [], length, take, slice_get, nat_eq, string_bytes, encode_utf8, refl, IsTrue, IsFalse, IsSome, IfSome, IfOk, OnOk, OnErr};
+ghost use Rattle.std.specs.Prelude.{◌≡◌, ◌+◌, ◌++◌, ◌==◌, ◌↔◌, ◌≤◌, [], length, take, nat_eq, string_bytes, encode_utf8, refl, IsTrue, IsFalse, IsSome, IfSome, IfOk, OnOk, OnErr};
 ghost use Rattle.std.specs.Ordering.{nat_cmp, as_partial_cmp};
 ghost use Rattle.std.specs.Cmp.Lexicographic.{pointwise, slice_cmp};
 ghost use Rattle.std.specs.Cmp.{partial_order_from_own_ties};
@@ -241,13 +241,6 @@ impl Text {
         ensures { result ≡ (length self.now == 0) }
     {
         self.as_str().is_empty()
-    }
-
-    /// The byte at this place.
-    pub fn get(&self, place: usize) -> Option<u8>
-        ensures { result ≡ slice_get self.now place }
-    {
-        self.as_bytes().get(place).copied()
     }
 
     /// Puts the character behind the text.

@@ -2,7 +2,6 @@
 ghost use Rattle.std.specs.Prelude.{◌≡◌, ◌↔◌, IsOk, IfOk, IfErr};
 ghost use Rattle.value_model.specs.Valid.{IsUserName};
 
-use crate::list::Copied;
 use crate::memory::Mem;
 use crate::text::Text;
 use std::alloc::Global;
@@ -13,13 +12,12 @@ pub const MAX_USER_NAME: usize = 128;
 
 /// The name of a user type, `$type` in its EJSON: a text of 1 to 128 bytes. A contract sees it as
 /// its bytes.
-#[derive(Debug, Drop)]
+#[derive(Drop)]
 pub struct UserName {
     text: Text,
 }
 
 /// The name of a user type, on the heap. A contract sees it as that name.
-#[derive(Debug)]
 pub struct BoxedName {
     inner: Box<UserName>,
 }
@@ -105,11 +103,5 @@ impl BoxedName {
         ensures { IfOk result (λ name. name ≡ self.now) }
     {
         BoxedName::of(*Box::allocator(&self.inner), self.get().copy()?)
-    }
-}
-
-impl Copied for UserName {
-    fn copied(&self) -> Result<UserName, Mem> {
-        self.copy()
     }
 }

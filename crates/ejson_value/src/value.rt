@@ -1,5 +1,5 @@
 //! Values, lists of values and documents.
-ghost use Rattle.std.specs.Prelude.{◌≡◌, ◌∷◌, ◌++◌, ◌==◌, ◌<◌, [], length, map, Some, option_map, slice_get, slice_set, IfOk, OnOk, OnErr};
+ghost use Rattle.std.specs.Prelude.{◌≡◌, ◌∷◌, ◌++◌, ◌==◌, ◌<◌, ◌↔◌, [], length, map, Some, IsSome, IfSome, option_map, slice_get, slice_set, IfOk, OnOk, OnErr};
 ghost use Rattle.std.specs.List.{remove as remove_item};
 ghost use Rattle.std.specs.List.Sorted.{IsStrictlySortedBy};
 ghost use Rattle.std.specs.Map.{keys_of};
@@ -24,7 +24,7 @@ use std::mem;
 use std::sync::Arc;
 
 /// A value of EJSON (the appendix on EJSON of Meteor's DDP.md). A contract sees it by `view`.
-#[derive(Debug, Drop)]
+#[derive(Drop)]
 #[cycle(value)]
 pub enum Value {
     Null,
@@ -41,7 +41,6 @@ pub enum Value {
 }
 
 /// One value on the heap. A contract sees it as that value.
-#[derive(Debug)]
 #[cycle(value)]
 pub struct Boxed {
     inner: Box<Value>,
@@ -49,7 +48,6 @@ pub struct Boxed {
 
 /// A list of values. Lists that are copies of one another have the same memory, until one of them is
 /// changed. A contract sees it as the list of its values.
-#[derive(Debug)]
 #[cycle(value)]
 pub struct Items {
     alloc: Global,
@@ -59,7 +57,6 @@ pub struct Items {
 
 /// A document: a finite map from names to values. Documents that are copies of one another have the
 /// same memory, until one of them is changed. A contract sees its pairs by rising name.
-#[derive(Debug)]
 #[cycle(value)]
 pub struct Doc {
     alloc: Global,
@@ -551,6 +548,19 @@ impl Doc {
         match &self.fields {
             None => Fields::none(),
             Some(fields) => fields.iter(),
+        }
+    }
+
+    /// The field of a document that has no other one.
+    pub fn only_field(&self) -> Option<(&Text, &Value)>
+        ensures one { IsSome result ↔ (length self.now ≡ 1) }
+        ensures value { IfSome result (λ field. self.now ≡ (field.0.now, view field.1.now) ∷ []) }
+    {
+        let mut all = self.iter();
+        let field = all.next()?;
+        match all.next() {
+            None => Some(field),
+            Some(_) => None,
         }
     }
 

@@ -8,7 +8,7 @@ use std::marker::Model;
 pub const MAX_WHOLE: i64 = 9007199254740991;
 
 /// A whole number from -(2^53 - 1) to 2^53 - 1, the numbers that JSON carries without loss.
-#[derive(Clone, Copy, Debug, PartialEq, Eq)]
+#[derive(Clone, Copy)]
 pub struct Whole {
     number: i64,
 }

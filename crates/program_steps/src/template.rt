@@ -14,7 +14,7 @@ use std::marker::Model;
 
 /// A value in which `{"$param":n}` stands for the n-th parameter of a call, from 0, and `{"$made":n}`
 /// for the n-th id that its run made. A contract sees its value.
-#[derive(Debug, Drop)]
+#[derive(Drop)]
 pub struct Template {
     pub value: Value,
 }

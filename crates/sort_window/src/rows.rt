@@ -11,14 +11,14 @@ use std::collections::btree_map::Iter;
 use std::marker::Model;
 
 /// A document that matches: whole, and as its readers see it.
-#[derive(Debug, Drop)]
+#[derive(Drop)]
 pub struct Row {
     pub whole: Doc,
     pub projected: Doc,
 }
 
 /// What readers see at an id now: a document, or none.
-#[derive(Debug, Drop)]
+#[derive(Drop)]
 pub struct Shown {
     pub id: Text,
     pub doc: Option<Doc>,
@@ -26,7 +26,7 @@ pub struct Shown {
 
 /// What there is at some ids now: a document that matches, or none. Contracts see the pairs of an id
 /// and what there is, by rising id.
-#[derive(Debug, Drop)]
+#[derive(Drop)]
 pub struct Rows {
     by_id: BTreeMap<Text, Option<Row>>,
 }
