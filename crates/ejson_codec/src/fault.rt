@@ -3,12 +3,11 @@ ghost use Rattle.std.specs.Prelude.{◌≡◌};
 
 use ejson_value::Mem;
 use json::Invalid;
-use std::alloc::{AllocError, AllocFailed};
 use std::error::Error;
 use std::fmt;
 
 /// Why a JSON tree is no EJSON value of this program: its first fault, in depth-first order.
-#[derive(Clone, Copy, Debug, PartialEq, Eq)]
+#[derive(Clone, Copy, Debug)]
 pub enum EjsonFault {
     /// A number that isn't whole, or not within ±(2^53 - 1).
     BadNumber = 1,
@@ -50,7 +49,7 @@ impl fmt::Display for EjsonFault {
 impl Error for EjsonFault {}
 
 /// Why a tree wasn't read.
-#[derive(Clone, Copy, Debug, PartialEq, Eq)]
+#[derive(Clone, Copy, Debug)]
 pub enum ReadFault {
     Ejson(EjsonFault),
     Memory,
@@ -75,7 +74,7 @@ impl fmt::Display for ReadFault {
 impl Error for ReadFault {}
 
 /// Why a text wasn't read.
-#[derive(Clone, Copy, Debug, PartialEq, Eq)]
+#[derive(Clone, Copy, Debug)]
 pub enum ParseFault {
     NotJson,
     Ejson(EjsonFault),
@@ -127,30 +126,12 @@ impl From<ReadFault> for ParseFault {
 }
 
 /// Why a text wasn't read without a tree.
-#[derive(Clone, Copy, Debug, PartialEq, Eq)]
+#[derive(Clone, Copy)]
 pub enum PlainFault {
     /// It has a form of EJSON or a fault, and is left to the reader of trees.
     NotPlain,
     Memory,
 }
-
-impl PlainFault {
-    // The fault in words.
-    fn words(&self) -> &'static str {
-        match self {
-            PlainFault::NotPlain => "not plain JSON",
-            PlainFault::Memory => "out of memory",
-        }
-    }
-}
-
-impl fmt::Display for PlainFault {
-    fn fmt<W: fmt::Write>(&self, f: &mut fmt::Formatter<W>) -> fmt::Result {
-        f.write_str(self.words())
-    }
-}
-
-impl Error for PlainFault {}
 
 impl From<Mem> for PlainFault {
     fn from(_: Mem) -> PlainFault {
