@@ -5,7 +5,7 @@ use std::error::Error;
 use std::fmt;
 
 /// Why a value is no selector.
-#[derive(Clone, Copy, Debug, PartialEq, Eq)]
+#[derive(Clone, Copy, Debug)]
 pub enum SelectorFault {
     NotObject,
     UnknownOperator,
