@@ -1,12 +1,12 @@
 //! What is read as an application, and the first fault of what isn't.
-use crate::values::{halves, value};
+use crate::values::{first, value};
 use app_model::{App, AppFault, Program, ProgramStep, ProgramSteps};
-use ejson_value::Text;
+use ejson_value::{Mem, Text, Value};
 use std::alloc::Global;
 use std::test::Fail;
 
 // Each row: an application, and what is answered: `read`, or the fault's number and its place.
-const READ: &str = r#"{} => read
+pub(crate) const READ: &str = r#"{} => read
 {"collections":[],"methods":{},"publications":{}} => read
 {"collections":["t","u"],"publications":{"p":[],"q":[{"collection":"t"},{"collection":"u"},{"as":"x","collection":"t"}]}} => read
 {"collections":["t"],"publications":{"p":[{"collection":"t","fields":{"a.b":1,"c":1},"selector":{"n":{"$param":0}}}]}} => read
@@ -60,7 +60,7 @@ const READ: &str = r#"{} => read
 "#;
 
 // Rows of methods, as those above.
-const METHODS: &str = r#"{"methods":{"m":{"steps":[]}}} => read
+pub(crate) const METHODS: &str = r#"{"methods":{"m":{"steps":[]}}} => read
 {"methods":{"m":{"steps":[],"stub":true},"n":{"steps":[["unblock"]],"stub":[]}}} => read
 {"collections":["tasks"],"methods":{"bump":{"steps":[["update","tasks",{"_id":"t1"},{"$inc":{"n":1}}],["update","tasks",{"_id":"t1"},{"$inc":{"n":1}}]]},"fail":{"steps":[["throw","403","Denied"]],"stub":[["insert","tasks",{"_id":"x","n":1}]]},"make":{"steps":[["insert","tasks",{"n":{"$param":0}}],["return",{"$made":0}]],"stub":true},"slow":{"steps":[["unblock"],["update","tasks",{"_id":"t1"},{"$inc":{"n":1}}]]}}} => read
 {"collections":["t"],"methods":{"m":{"steps":[["updateAll","t",5,null],["remove","t",[]],["require","t",{},404,""],["throw",-1,"r"],["return",null]]}}} => read
@@ -97,7 +97,7 @@ const METHODS: &str = r#"{"methods":{"m":{"steps":[]}}} => read
 "#;
 
 // Rows of sort keys and limits.
-const WINDOWS: &str =
+pub(crate) const WINDOWS: &str =
     r#"{"collections":["tasks"],"publications":{"top":[{"collection":"tasks","limit":2,"sort":[["n",-1]]}]}} => read
 {"collections":["t"],"publications":{"p":[{"collection":"t","limit":1}]}} => read
 {"collections":["t"],"publications":{"p":[{"collection":"t","limit":10000,"sort":[["a.b",1],["_id",-1]]}]}} => read
@@ -122,7 +122,7 @@ const WINDOWS: &str =
 "#;
 
 // Rows of rules.
-const RULES: &str = r#"{"rules":{}} => read
+pub(crate) const RULES: &str = r#"{"rules":{}} => read
 {"collections":["tasks"],"rules":{"tasks":{"allow":[{"on":"insert","selector":{"n":{"$lte":5}}},{"on":"update","fields":["n"]}],"deny":[{"on":"update","selector":{"locked":true}}]}}} => read
 {"collections":["t"],"methods":{"/t/upsert":{"steps":[]},"t/insert":{"steps":[]}},"rules":{"t":{}}} => read
 {"collections":["t"],"methods":{"/t/insert":{"steps":[]}}} => read
@@ -151,270 +151,141 @@ const RULES: &str = r#"{"rules":{}} => read
 {"publications":5,"rules":5} => 1:publications
 "#;
 
-fn told(alloc: Global, read: &Result<App, AppFault>) -> Result<String, Fail> {
-    match read {
+// Rows at the limits of names and of numbers of parts.
+pub(crate) const LIMITS: &str = r#"{"collections":["@x 128@"]} => read
+{"collections":["@x 129@"]} => 2:collections/0
+{"collections":[@"c#", 63@"c"]} => read
+{"collections":[@"c#", 64@"c"]} => 5:collections
+{"collections":["t"],"publications":{"p":[@{"as":"n#","collection":"t"}, 7@{"collection":"t"}]}} => read
+{"collections":["t"],"publications":{"p":[@{"as":"n#","collection":"t"}, 8@{"collection":"t"}]}} => 5:publications/p
+{"methods":{@"m#":{"steps":[]}, 255@"m":{"steps":[]}}} => read
+{"methods":{@"m#":{"steps":[]}, 256@"m":{"steps":[]}}} => 5:methods
+{"methods":{"m":{"steps":[@["throw",#,""], 63@["throw",63,""]]}}} => read
+{"methods":{"m":{"steps":[@["throw",#,""], 64@["throw",64,""]]}}} => 5:methods/m/steps
+{"methods":{"m":{"steps":[],"stub":[@["throw",#,""], 64@["throw",64,""]]}}} => 5:methods/m/stub
+{"collections":["t"],"rules":{"t":{"deny":[@{"on":"insert","selector":#}, 63@{"on":"insert"}]}}} => read
+{"collections":["t"],"rules":{"t":{"deny":[@{"on":"insert","selector":#}, 64@{"on":"insert"}]}}} => 5:rules/t/deny
+"#;
+
+// A row of a fault in words.
+pub(crate) const WORDS: &str = r#"{"collections":["t","t"]} => a name that stands twice"#;
+
+fn told(alloc: Global, application: &Value) -> Result<String, Mem> {
+    match App::read(alloc, application) {
         Ok(_) => Ok(String::from_str(alloc, "read")?),
         Err(AppFault::Bad { number, place }) => {
             Ok(format!(in alloc; "{number}:{}", place.as_str())?)
         }
-        Err(AppFault::Memory) => Ok(String::from_str(alloc, "memory")?),
+        Err(AppFault::Memory) => Err(Mem),
     }
 }
 
-fn read(alloc: Global, text: &str) -> Result<Result<App, AppFault>, Fail> {
-    Ok(App::read(alloc, &value(alloc, text)?))
+// Whether the text is read as an application, or is refused for this.
+pub(crate) fn is_read(alloc: Global, text: &str, wanted: &str) -> Result<bool, Fail> {
+    let application = value(alloc, text)?;
+    Ok(told(alloc, &application)?.as_str() == wanted)
 }
 
-fn is_read(alloc: Global, text: &str, wanted: &str) -> Result<bool, Fail> {
-    let read = read(alloc, text)?;
-    Ok(told(alloc, &read)?.as_str() == wanted)
-}
-
-fn is_right(alloc: Global, row: &str) -> Result<bool, Fail> {
-    let (text, wanted) = halves(row);
-    is_read(alloc, text, wanted)
-}
-
-#[test]
-fn applications_are_read(rt: HostRuntime) -> Result<(), Fail> {
-    for rows in [READ, METHODS, WINDOWS, RULES] {
-        for row in rows.lines() {
-            assert!(rt; is_right(rt.alloc(), row)?, "at {row}");
-        }
-    }
-    Ok(())
-}
-
-// A list of so many different elements.
-fn listed(alloc: Global, count: u32, before: &str, after: &str) -> Result<String, Fail> {
-    let mut text = String::from_str(alloc, "[")?;
-    for number in 0..count {
-        if number > 0 {
-            text.push_str(",")?;
-        }
-        let element = format!(in alloc; "{before}{number}{after}")?;
-        text.push_str(element.as_str())?;
-    }
-    text.push_str("]")?;
-    Ok(text)
-}
-
-fn with_collections(alloc: Global, count: u32, wanted: &str) -> Result<bool, Fail> {
-    let names = listed(alloc, count, "\"c", "\"")?;
-    let text = format!(in alloc; "{{\"collections\":{}}}", names.as_str())?;
-    is_read(alloc, text.as_str(), wanted)
-}
-
-fn with_cursors(alloc: Global, count: u32, wanted: &str) -> Result<bool, Fail> {
-    let cursors = listed(alloc, count, "{\"as\":\"n", "\",\"collection\":\"t\"}")?;
-    let text = format!(in alloc;
-        "{{\"collections\":[\"t\"],\"publications\":{{\"p\":{}}}}}",
-        cursors.as_str()
-    )?;
-    is_read(alloc, text.as_str(), wanted)
-}
-
-// A text of so many bytes.
-pub(crate) fn long_text(alloc: Global, length: u32) -> Result<String, Fail> {
-    let mut name = String::new(alloc);
-    for _ in 0..length {
-        name.push_str("x")?;
-    }
-    Ok(name)
-}
-
-fn with_methods(alloc: Global, count: u32, wanted: &str) -> Result<bool, Fail> {
-    let mut text = String::from_str(alloc, "{\"methods\":{\"m\":{\"steps\":[]}")?;
-    for number in 1..count {
-        let method = format!(in alloc; ",\"m{number}\":{{\"steps\":[]}}")?;
-        text.push_str(method.as_str())?;
-    }
-    text.push_str("}}")?;
-    is_read(alloc, text.as_str(), wanted)
-}
-
-fn with_steps(alloc: Global, count: u32, stub: &str, wanted: &str) -> Result<bool, Fail> {
-    let steps = listed(alloc, count, "[\"throw\",", ",\"\"]")?;
-    let text = format!(in alloc;
-        "{{\"methods\":{{\"m\":{{\"steps\":{stub}{}}}}}}}",
-        steps.as_str()
-    )?;
-    is_read(alloc, text.as_str(), wanted)
-}
-
-fn with_rules(alloc: Global, count: u32, wanted: &str) -> Result<bool, Fail> {
-    let rules = listed(alloc, count, "{\"on\":\"insert\",\"selector\":", "}")?;
-    let text = format!(in alloc;
-        "{{\"collections\":[\"t\"],\"rules\":{{\"t\":{{\"deny\":{}}}}}}}",
-        rules.as_str()
-    )?;
-    is_read(alloc, text.as_str(), wanted)
-}
-
-fn with_long_name(alloc: Global, length: u32, wanted: &str) -> Result<bool, Fail> {
-    let name = long_text(alloc, length)?;
-    let text = format!(in alloc; "{{\"collections\":[\"{}\"]}}", name.as_str())?;
-    is_read(alloc, text.as_str(), wanted)
-}
-
-#[test]
-fn parts_are_limited(rt: HostRuntime) -> Result<(), Fail> {
-    let alloc = rt.alloc();
-    assert!(rt; with_collections(alloc, 64, "read")?);
-    assert!(rt; with_collections(alloc, 65, "5:collections")?);
-    assert!(rt; with_cursors(alloc, 8, "read")?);
-    assert!(rt; with_cursors(alloc, 9, "5:publications/p")?);
-    assert!(rt; with_methods(alloc, 256, "read")?);
-    assert!(rt; with_methods(alloc, 257, "5:methods")?);
-    assert!(rt; with_steps(alloc, 64, "", "read")?);
-    assert!(rt; with_steps(alloc, 65, "", "5:methods/m/steps")?);
-    assert!(rt; with_steps(alloc, 65, "[],\"stub\":", "5:methods/m/stub")?);
-    assert!(rt; with_rules(alloc, 64, "read")?);
-    assert!(rt; with_rules(alloc, 65, "5:rules/t/deny")?);
-    assert!(rt; with_long_name(alloc, 128, "read")?);
-    assert!(rt; with_long_name(alloc, 129, "2:collections/0")?);
-    Ok(())
-}
-
-fn in_words(alloc: Global, text: &str) -> Result<String, Fail> {
-    match read(alloc, text)? {
-        Ok(_) => Ok(String::from_str(alloc, "read")?),
-        Err(fault) => Ok(format!(in alloc; "{fault}")?),
+// Whether the text is refused in these words.
+pub(crate) fn is_refused(alloc: Global, text: &str, words: &str) -> Result<bool, Fail> {
+    match App::read(alloc, &value(alloc, text)?) {
+        Ok(_) => Ok(false),
+        Err(fault) => Ok(format!(in alloc; "{fault}")?.as_str() == words),
     }
 }
 
-#[test]
-fn faults_are_told_in_words(rt: HostRuntime) -> Result<(), Fail> {
-    assert_eq!(rt;
-        in_words(rt.alloc(), "{\"collections\":[\"t\",\"t\"]}")?.as_str(),
-        "a name that stands twice"
-    );
-    Ok(())
-}
+// The application in which parts are found.
+const PARTS: &str =
+    r#"{"collections":["t","u"],"methods":{"all":{"steps":[["insert","t",{}],["update","t",{},{}],["updateAll","t",{},{}],["remove","t",{}],["require","t",{},1,""],["unblock"],["throw",1,""],["return",1]],"stub":true},"none":{"steps":[]},"some":{"steps":[["unblock"]],"stub":[["insert","t",{}]]}},"publications":{"p":[],"q":[{"collection":"t","fields":{"a":1}},{"collection":"u","fields":{"b":0}}]},"rules":{"t":{"deny":[{"on":"insert"},{"on":"update"}]}}}"#;
 
-fn count_cursors(alloc: Global, app: &App, name: &str) -> Result<usize, Fail> {
-    Ok(match app.publication(&Text::from_str(alloc, name)?) {
-        Some(publication) => publication.copy()?.cursors.len(),
-        None => 0,
-    })
-}
-
-// Whether the application's copy has two collections, and two cursors of `q`.
-fn is_copied(alloc: Global, text: &str) -> Result<bool, Fail> {
-    let app = read(alloc, text)??.copy()?;
-    Ok(
-        app.collections().len() == 2
-            && app.has_collection(&Text::from_str(alloc, "u")?)
-            && !app.has_collection(&Text::from_str(alloc, "q")?)
-            && count_cursors(alloc, &app, "q")? == 2
-            && count_cursors(alloc, &app, "t")? == 0,
-    )
-}
-
-#[test]
-fn applications_are_copied(rt: HostRuntime) -> Result<(), Fail> {
-    assert!(rt;
-        is_copied(
-            rt.alloc(),
-            r#"{"collections":["t","u"],"publications":{"p":[],"q":[{"collection":"t","fields":{"a":1}},{"collection":"u","fields":{"b":0}}]}}"#
-        )?
-    );
-    Ok(())
-}
-
-// What steps do, each by the first letter of its variant, and an update of all by a capital.
-fn letters(alloc: Global, steps: &ProgramSteps) -> Result<String, Fail> {
-    let mut text = String::new(alloc);
-    for step in steps.as_slice() {
-        text.push_str(match step {
-            ProgramStep::Insert { .. } => "i",
-            ProgramStep::Update { all, .. } => { if *all { "U" } else { "u" } }
-            ProgramStep::Remove { .. } => "d",
-            ProgramStep::Require { .. } => "q",
-            ProgramStep::Unblock => "b",
-            ProgramStep::Throw(_) => "t",
-            ProgramStep::Return(_) => "r",
-            ProgramStep::Guarded { .. } => "g",
-        })?;
-    }
-    Ok(text)
-}
-
-fn stub_letters(alloc: Global, program: &Program) -> Result<String, Fail> {
-    match &program.stub {
-        None => Ok(String::from_str(alloc, "-")?),
-        Some(steps) => letters(alloc, steps),
-    }
-}
-
-fn program_told(alloc: Global, app: &App, name: &str) -> Result<String, Fail> {
-    let name = Text::from_str(alloc, name)?;
-    let Some(program) = app.method(&name) else {
-        return Ok(String::from_str(alloc, "none")?);
-    };
-    let stub = stub_letters(alloc, program)?;
-    Ok(format!(in alloc;
-        "{} {}",
-        letters(alloc, &program.steps)?.as_str(),
-        stub.as_str()
-    )?)
-}
-
-const PROGRAMS: &str =
-    r#"{"collections":["t","u"],"methods":{"all":{"steps":[["insert","t",{}],["update","t",{},{}],["updateAll","t",{},{}],["remove","t",{}],["require","t",{},1,""],["unblock"],["throw",1,""],["return",1]],"stub":true},"none":{"steps":[]},"some":{"steps":[["unblock"]],"stub":[["insert","t",{}]]}},"rules":{"t":{"deny":[{"on":"insert"},{"on":"update"}]}}}"#;
-
-// Each row: a method, and what its steps and its stub's do.
-const TOLD: &str = "all => iuUdqbtr iuUdqbtr
-none =>  -
-some => b i
-/t/insert => g i
-/t/update => g u
-/t/remove => g d
-/u/insert => none
-/t/upsert => none
-other => none
+// Each row: a part and its name, and what is found: how many collections or cursors, what a method's steps and its
+// stub's do, or how many rules allow and deny.
+pub(crate) const FOUND: &str = "collections ; all => 2
+collection ; u => true
+collection ; q => false
+cursors ; q => 2
+cursors ; p => 0
+cursors ; t => none
+method ; all => iuUdqbtr iuUdqbtr
+method ; none =>  -
+method ; some => b i
+method ; /t/insert => g i
+method ; /t/update => g u
+method ; /t/remove => g d
+method ; /u/insert => none
+method ; /t/upsert => none
+method ; other => none
+rules ; t => 0 2
+rules ; u => none
 ";
 
-fn is_program(alloc: Global, row: &str) -> Result<bool, Fail> {
-    let (name, wanted) = halves(row);
-    let app = read(alloc, PROGRAMS)??.copy()?;
-    Ok(program_told(alloc, &app, name)?.as_str() == wanted)
+// What a step does, by the first letter of its variant, and an update of all by a capital.
+fn letter(step: &ProgramStep) -> &'static str {
+    match step {
+        ProgramStep::Insert { .. } => "i",
+        ProgramStep::Update { all, .. } => { if *all { "U" } else { "u" } }
+        ProgramStep::Remove { .. } => "d",
+        ProgramStep::Require { .. } => "q",
+        ProgramStep::Unblock => "b",
+        ProgramStep::Throw(_) => "t",
+        ProgramStep::Return(_) => "r",
+        ProgramStep::Guarded { .. } => "g",
+    }
 }
 
-#[test]
-fn methods_are_found(rt: HostRuntime) -> Result<(), Fail> {
-    for row in TOLD.lines() {
-        assert!(rt; is_program(rt.alloc(), row)?, "at {row}");
+fn push_letters(text: &mut String, steps: &ProgramSteps) -> Result<(), Mem> {
+    for step in steps.as_slice() {
+        text.push_str(letter(step))?;
     }
     Ok(())
 }
 
-// How many allow rules a collection has, and how many deny rules.
-fn count_rules(alloc: Global, app: &App, collection: &str) -> Result<(usize, usize), Fail> {
-    Ok(match app.rules(&Text::from_str(alloc, collection)?) {
-        Some(rules) => (rules.allow.len(), rules.deny.len()),
-        None => (0, 0),
-    })
+fn push_program(text: &mut String, program: &Program) -> Result<(), Mem> {
+    push_letters(text, &program.steps)?;
+    text.push_str(" ")?;
+    match &program.stub {
+        None => Ok(text.push_str("-")?),
+        Some(steps) => push_letters(text, steps),
+    }
 }
 
-fn has_rules(
-    alloc: Global,
-    app: &App,
-    collection: &str,
-    wanted: (usize, usize),
-) -> Result<bool, Fail> {
-    let (allow, deny) = count_rules(alloc, app, collection)?;
-    Ok(allow == wanted.0 && deny == wanted.1)
+fn push_none(text: &mut String) -> Result<(), Mem> {
+    Ok(text.push_str("none")?)
 }
 
-// Whether the copy of the application has two deny rules for `t`, and none for `u`.
-fn rules_are_copied(alloc: Global) -> Result<bool, Fail> {
-    let app = read(alloc, PROGRAMS)??.copy()?;
-    Ok(has_rules(alloc, &app, "t", (0, 2))? && has_rules(alloc, &app, "u", (0, 0))?)
+fn push_part(text: &mut String, app: &App, part: &str, name: &Text) -> Result<(), Mem> {
+    match part {
+        "collections" => Ok(write!(text, "{}", app.collections().len())?),
+        "collection" => Ok(write!(text, "{}", app.has_collection(name))?),
+        "cursors" => match app.publication(name) {
+            Some(publication) => Ok(write!(text, "{}", publication.cursors.len())?),
+            None => push_none(text),
+        },
+        "method" => match app.method(name) {
+            Some(program) => push_program(text, program),
+            None => push_none(text),
+        },
+        _ => match app.rules(name) {
+            Some(rules) => Ok(write!(text, "{} {}", rules.allow.len(), rules.deny.len())?),
+            None => push_none(text),
+        },
+    }
 }
 
-#[test]
-fn rules_are_found(rt: HostRuntime) -> Result<(), Fail> {
-    assert!(rt; rules_are_copied(rt.alloc())?);
-    Ok(())
+fn found(alloc: Global, app: &App, part: &str, name: &Text) -> Result<String, Mem> {
+    let mut text = String::new(alloc);
+    push_part(&mut text, app, part, name)?;
+    Ok(text)
+}
+
+pub(crate) fn app(alloc: Global, text: &str) -> Result<App, Fail> {
+    Ok(App::read(alloc, &value(alloc, text)?)?)
+}
+
+// Whether this is found in a copy of the application.
+pub(crate) fn is_found(alloc: Global, part: &str, wanted: &str) -> Result<bool, Fail> {
+    let (part, name) = first(part);
+    let name = Text::from_str(alloc, name)?;
+    let app = app(alloc, PARTS)?.copy()?;
+    Ok(found(alloc, &app, part, &name)?.as_str() == wanted)
 }

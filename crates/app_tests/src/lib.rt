@@ -8,6 +8,8 @@ mod applications;
 #[cfg(test)]
 mod queries;
 #[cfg(test)]
+mod tables;
+#[cfg(test)]
 mod templates;
 #[cfg(test)]
 mod values;

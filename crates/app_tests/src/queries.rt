@@ -1,13 +1,14 @@
 //! Projections, the cursors of a publication, and what they publish.
-use crate::values::{document, first, halves, is_value, list, value};
+use crate::applications::app;
+use crate::values::{document, first, is_value, list};
 use app_model::{App, Projection, Publication};
-use ejson_value::{Contents, Items, Key, Mem, Publish, Publishes, Text, Value};
-use publication::{CursorFault, Cursors, project, query};
+use ejson_value::{Contents, Doc, Items, Key, Mem, Publish, Publishes, Text, Value};
+use publication::{Cursors, project, query};
 use std::alloc::Global;
 use std::test::Fail;
 
 // Each row: a cursor's fields, a document, and what they leave of it.
-const LEFT: &str = r#"{"a.b":1} ; {"a":[{"b":1,"c":2},5],"n":3} => {"a":[{"b":1}]}
+pub(crate) const LEFT: &str = r#"{"a.b":1} ; {"a":[{"b":1,"c":2},5],"n":3} => {"a":[{"b":1}]}
 {"a.b":1} ; {"a":{"c":1}} => {"a":{}}
 {"a.b":1} ; {"a":5,"b":1} => {}
 {"a.b":1} ; {"a":[[{"b":1,"c":2},7],null]} => {"a":[[{"b":1}]]}
@@ -29,152 +30,43 @@ const LEFT: &str = r#"{"a.b":1} ; {"a":[{"b":1,"c":2},5],"n":3} => {"a":[{"b":1}
 {"a":1} ; {"a":{"$type":"t","$value":{"b":1}},"b":2} => {"a":{"$type":"t","$value":{"b":1}}}
 "#;
 
-// An application with one publication `p` of these cursors.
-fn with_cursors(alloc: Global, cursors: &str) -> Result<App, Fail> {
-    let text = format!(in alloc;
-        "{{\"collections\":[\"t\",\"u\",\"v\"],\"publications\":{{\"p\":{cursors}}}}}"
-    )?;
-    Ok(App::read(alloc, &value(alloc, text.as_str())?)?)
-}
-
-fn publication(alloc: Global, cursors: &str) -> Result<Option<Publication>, Fail> {
-    let app = with_cursors(alloc, cursors)?;
-    Ok(match app.publication(&Text::from_str(alloc, "p")?) {
-        Some(publication) => Some(publication.copy()?),
-        None => None,
-    })
-}
-
-fn projection(alloc: Global, fields: &str) -> Result<Projection, Fail> {
-    let cursors = format!(in alloc; "[{{\"collection\":\"t\",\"fields\":{fields}}}]")?;
-    let Some(publication) = publication(alloc, cursors.as_str())? else {
-        return Ok(Projection::All);
-    };
-    match publication.cursors.get(0) {
-        Some(rule) => Ok(rule.fields.copy()?),
-        None => Ok(Projection::All),
-    }
-}
-
-fn is_left(alloc: Global, row: &str) -> Result<bool, Fail> {
-    let (input, wanted) = halves(row);
-    let (fields, doc) = first(input);
-    let left = project(alloc, &projection(alloc, fields)?, &document(alloc, doc)?)?;
-    is_value(alloc, &Value::Object(left), wanted)
-}
-
-#[test]
-fn documents_are_projected(rt: HostRuntime) -> Result<(), Fail> {
-    for row in LEFT.lines() {
-        assert!(rt; is_left(rt.alloc(), row)?, "at {row}");
-    }
-    Ok(())
-}
-
-// Each row: a cursor's selector, parameters, and whether cursors are made, or the fault.
-const MADE: &str = r#"{} ; [] => made
-{"n":{"$param":0}} ; [3] => made
-{"n":{"$param":0}} ; [] => fill 1
-5 ; [] => selector 1
-{"$param":0} ; [[]] => selector 1
-{"$param":0} ; [{"$type":"t","$value":{}}] => selector 1
-{"n":{"$what":1}} ; [] => selector 2
-{"$where":1} ; [] => selector 2
-{"$and":[]} ; [] => selector 3
-"#;
-
-fn told(alloc: Global, made: &Result<Cursors, CursorFault>) -> Result<String, Fail> {
-    match made {
-        Ok(cursors) => Ok(format!(in alloc;
-            "{}",
-            if cursors.copy()?.len() == 1 {
-                "made"
-            } else {
-                "other"
-            }
-        )?),
-        Err(CursorFault::Fill(number)) => Ok(format!(in alloc; "fill {number}")?),
-        Err(CursorFault::Selector(number)) => Ok(format!(in alloc; "selector {number}")?),
-        Err(CursorFault::Memory) => Ok(String::from_str(alloc, "memory")?),
-    }
-}
-
-fn made(alloc: Global, selector: &str, params: &str) -> Result<String, Fail> {
-    let cursors = format!(in alloc; "[{{\"collection\":\"t\",\"selector\":{selector}}}]")?;
-    let Some(publication) = publication(alloc, cursors.as_str())? else {
-        return Ok(String::from_str(alloc, "no publication")?);
-    };
-    told(
-        alloc,
-        &Cursors::make(alloc, &publication, &list(alloc, params)?),
-    )
-}
-
-fn is_made(alloc: Global, row: &str) -> Result<bool, Fail> {
-    let (input, wanted) = halves(row);
-    let (selector, params) = first(input);
-    Ok(made(alloc, selector, params)?.as_str() == wanted)
-}
-
-#[test]
-fn cursors_are_made(rt: HostRuntime) -> Result<(), Fail> {
-    for row in MADE.lines() {
-        assert!(rt; is_made(rt.alloc(), row)?, "at {row}");
-    }
-    Ok(())
-}
-
-// Each row: cursors, and whether one has a limit.
-const LIMITED: &str = r#"[] => no
-[{"collection":"t"}] => no
-[{"collection":"t","sort":[["n",1]]}] => no
-[{"collection":"t","limit":1}] => limited
-[{"collection":"t"},{"collection":"u","limit":10000}] => limited
-"#;
-
-fn limited(alloc: Global, cursors: &str) -> Result<bool, Fail> {
-    let Some(publication) = publication(alloc, cursors)? else {
-        return Ok(false);
-    };
-    Ok(Cursors::make(alloc, &publication, &Items::new(alloc))?.limited())
-}
-
-fn is_told_limited(alloc: Global, row: &str) -> Result<bool, Fail> {
-    let (cursors, wanted) = halves(row);
-    Ok(limited(alloc, cursors)? == (wanted == "limited"))
-}
-
-#[test]
-fn limits_are_told(rt: HostRuntime) -> Result<(), Fail> {
-    for row in LIMITED.lines() {
-        assert!(rt; is_told_limited(rt.alloc(), row)?, "at {row}");
-    }
-    Ok(())
-}
-
-// Each row: cursors, parameters, and the published documents, each as its name, id and fields.
-const PUBLISHED: &str =
-    r#"[{"collection":"t","fields":{"a.b":1},"selector":{"n":{"$param":0}}}] ; [3] => [["t","t1",{"a":[{"b":1}]}]]
-[] ; [] => []
-[{"collection":"u"}] ; [] => [["u","u1",{"n":3}]]
-[{"as":"z","collection":"t","fields":{"a":0}},{"as":"t","collection":"u"}] ; [] => [["t","u1",{"n":3}],["z","t1",{"n":3}],["z","t2",{"n":4}]]
-[{"collection":"t","selector":{"_id":"t2"}}] ; [] => [["t","t2",{"n":4}]]
-[{"collection":"t","selector":{"_id":"t2","n":3}}] ; [] => []
-[{"collection":"t","selector":{"_id":"u1"}}] ; [] => []
-[{"as":"z","collection":"t","selector":{"_id":{"$param":0}}},{"collection":"u"}] ; ["t1"] => [["u","u1",{"n":3}],["z","t1",{"a":[{"b":1,"c":2},5],"n":3}]]
-[{"collection":"t","selector":{"n":9}}] ; [] => []
-[{"collection":"v","limit":2,"sort":[["n",-1]]}] ; [] => [["v","v2",{"n":3}],["v","v4",{"n":3}]]
-[{"collection":"v","limit":1,"sort":[["n",-1]]}] ; [] => [["v","v2",{"n":3}]]
-[{"collection":"v","limit":3,"sort":[["n",-1]]}] ; [] => [["v","v1",{"m":{"k":5},"n":2}],["v","v2",{"n":3}],["v","v4",{"n":3}]]
-[{"collection":"v","limit":2,"sort":[["n",1]]}] ; [] => [["v","v3",{"m":{"k":7}}],["v","v5",{"n":1}]]
-[{"collection":"v","limit":2,"sort":[["m.k",1],["n",-1]]}] ; [] => [["v","v2",{"n":3}],["v","v4",{"n":3}]]
-[{"collection":"v","limit":2}] ; [] => [["v","v1",{"m":{"k":5},"n":2}],["v","v2",{"n":3}]]
-[{"collection":"t","limit":10,"sort":[["n",-1]]}] ; [] => [["t","t1",{"a":[{"b":1,"c":2},5],"n":3}],["t","t2",{"n":4}]]
-[{"collection":"v","fields":{"m":0},"sort":[["n",-1]]}] ; [] => [["v","v1",{"n":2}],["v","v2",{"n":3}],["v","v3",{}],["v","v4",{"n":3}],["v","v5",{"n":1}]]
-[{"collection":"v","fields":{"m":1},"limit":2,"selector":{"n":{"$gt":1}},"sort":[["n",1]]}] ; [] => [["v","v1",{"m":{"k":5}}],["v","v2",{}]]
-[{"collection":"v","limit":1,"selector":{"_id":"v5"},"sort":[["n",-1]]}] ; [] => [["v","v5",{"n":1}]]
-[{"collection":"v","limit":1,"selector":{"_id":"t1"}}] ; [] => []
-[{"collection":"u"},{"as":"z","collection":"v","limit":1,"sort":[["n",1]]}] ; [] => [["u","u1",{"n":3}],["z","v3",{"m":{"k":7}}]]
+// Each row: cursors, parameters, and how many cursors are made, whether one has a limit, and the published documents,
+// each as its name, id and fields; or the fault.
+pub(crate) const PUBLISHED: &str =
+    r#"[{"collection":"t","fields":{"a.b":1},"selector":{"n":{"$param":0}}}] ; [3] => 1 all [["t","t1",{"a":[{"b":1}]}]]
+[] ; [] => 0 all []
+[{"collection":"u"}] ; [] => 1 all [["u","u1",{"n":3}]]
+[{"as":"z","collection":"t","fields":{"a":0}},{"as":"t","collection":"u"}] ; [] => 2 all [["t","u1",{"n":3}],["z","t1",{"n":3}],["z","t2",{"n":4}]]
+[{"collection":"t","selector":{"_id":"t2"}}] ; [] => 1 all [["t","t2",{"n":4}]]
+[{"collection":"t","selector":{"_id":"t2","n":3}}] ; [] => 1 all []
+[{"collection":"t","selector":{"_id":"u1"}}] ; [] => 1 all []
+[{"as":"z","collection":"t","selector":{"_id":{"$param":0}}},{"collection":"u"}] ; ["t1"] => 2 all [["u","u1",{"n":3}],["z","t1",{"a":[{"b":1,"c":2},5],"n":3}]]
+[{"collection":"t","selector":{"n":9}}] ; [] => 1 all []
+[{"collection":"v","limit":2,"sort":[["n",-1]]}] ; [] => 1 limited [["v","v2",{"n":3}],["v","v4",{"n":3}]]
+[{"collection":"v","limit":1,"sort":[["n",-1]]}] ; [] => 1 limited [["v","v2",{"n":3}]]
+[{"collection":"v","limit":3,"sort":[["n",-1]]}] ; [] => 1 limited [["v","v1",{"m":{"k":5},"n":2}],["v","v2",{"n":3}],["v","v4",{"n":3}]]
+[{"collection":"v","limit":2,"sort":[["n",1]]}] ; [] => 1 limited [["v","v3",{"m":{"k":7}}],["v","v5",{"n":1}]]
+[{"collection":"v","limit":2,"sort":[["m.k",1],["n",-1]]}] ; [] => 1 limited [["v","v2",{"n":3}],["v","v4",{"n":3}]]
+[{"collection":"v","limit":2}] ; [] => 1 limited [["v","v1",{"m":{"k":5},"n":2}],["v","v2",{"n":3}]]
+[{"collection":"t","limit":10,"sort":[["n",-1]]}] ; [] => 1 limited [["t","t1",{"a":[{"b":1,"c":2},5],"n":3}],["t","t2",{"n":4}]]
+[{"collection":"v","fields":{"m":0},"sort":[["n",-1]]}] ; [] => 1 all [["v","v1",{"n":2}],["v","v2",{"n":3}],["v","v3",{}],["v","v4",{"n":3}],["v","v5",{"n":1}]]
+[{"collection":"v","fields":{"m":1},"limit":2,"selector":{"n":{"$gt":1}},"sort":[["n",1]]}] ; [] => 1 limited [["v","v1",{"m":{"k":5}}],["v","v2",{}]]
+[{"collection":"v","limit":1,"selector":{"_id":"v5"},"sort":[["n",-1]]}] ; [] => 1 limited [["v","v5",{"n":1}]]
+[{"collection":"v","limit":1,"selector":{"_id":"t1"}}] ; [] => 1 limited []
+[{"collection":"u"},{"as":"z","collection":"v","limit":1,"sort":[["n",1]]}] ; [] => 2 limited [["u","u1",{"n":3}],["z","v3",{"m":{"k":7}}]]
+[{"collection":"t","selector":{}}] ; [] => 1 all [["t","t1",{"a":[{"b":1,"c":2},5],"n":3}],["t","t2",{"n":4}]]
+[{"collection":"t","selector":{"n":{"$param":0}}}] ; [3] => 1 all [["t","t1",{"a":[{"b":1,"c":2},5],"n":3}]]
+[{"collection":"t","selector":{"n":{"$param":0}}}] ; [] => Fill(1)
+[{"collection":"t","selector":5}] ; [] => Selector(1)
+[{"collection":"t","selector":{"$param":0}}] ; [[]] => Selector(1)
+[{"collection":"t","selector":{"$param":0}}] ; [{"$type":"t","$value":{}}] => Selector(1)
+[{"collection":"t","selector":{"n":{"$what":1}}}] ; [] => Selector(2)
+[{"collection":"t","selector":{"$where":1}}] ; [] => Selector(2)
+[{"collection":"t","selector":{"$and":[]}}] ; [] => Selector(3)
+[{"collection":"t"}] ; [] => 1 all [["t","t1",{"a":[{"b":1,"c":2},5],"n":3}],["t","t2",{"n":4}]]
+[{"collection":"t","sort":[["n",1]]}] ; [] => 1 all [["t","t1",{"a":[{"b":1,"c":2},5],"n":3}],["t","t2",{"n":4}]]
+[{"collection":"t","limit":1}] ; [] => 1 limited [["t","t1",{"a":[{"b":1,"c":2},5],"n":3}]]
+[{"collection":"t"},{"collection":"u","limit":10000}] ; [] => 2 limited [["t","t1",{"a":[{"b":1,"c":2},5],"n":3}],["t","t2",{"n":4}],["u","u1",{"n":3}]]
 "#;
 
 // Each row: a collection, an id and a document.
@@ -189,15 +81,46 @@ v ; v4 ; {"n":3}
 v ; v5 ; {"n":1}
 "#;
 
+// An application with one publication `p` of these cursors.
+fn publishing(alloc: Global, cursors: &str) -> Result<App, Fail> {
+    let text = format!(in alloc;
+        "{{\"collections\":[\"t\",\"u\",\"v\"],\"publications\":{{\"p\":{cursors}}}}}"
+    )?;
+    app(alloc, text.as_str())
+}
+
+fn leaves(alloc: Global, projection: &Projection, doc: &Doc, wanted: &str) -> Result<bool, Fail> {
+    let left = project(alloc, &projection.copy()?, doc)?;
+    is_value(alloc, &Value::Object(left), wanted)
+}
+
+fn leaves_by(alloc: Global, app: &App, doc: &Doc, wanted: &str) -> Result<bool, Fail> {
+    match app.publication(&Text::from_str(alloc, "p")?) {
+        Some(publication) => match publication.cursors.get(0) {
+            Some(rule) => leaves(alloc, &rule.fields, doc, wanted),
+            None => Ok(false),
+        },
+        None => Ok(false),
+    }
+}
+
+// Whether a cursor's fields leave this of a document.
+pub(crate) fn is_left(alloc: Global, projecting: &str, wanted: &str) -> Result<bool, Fail> {
+    let (fields, doc) = first(projecting);
+    let cursors = format!(in alloc; "[{{\"collection\":\"t\",\"fields\":{fields}}}]")?;
+    let app = publishing(alloc, cursors.as_str())?;
+    leaves_by(alloc, &app, &document(alloc, doc)?, wanted)
+}
+
 fn put(alloc: Global, contents: &mut Contents, row: &str) -> Result<(), Fail> {
     let (collection, rest) = first(row);
     let (id, doc) = first(rest);
-    let key = Key {
-        collection: Text::from_str(alloc, collection)?,
-        id: Text::from_str(alloc, id)?,
-    };
-    contents.put(key, document(alloc, doc)?)?;
-    Ok(())
+    let doc = document(alloc, doc)?;
+    let key = Key::of(
+        &Text::from_str(alloc, collection)?,
+        &Text::from_str(alloc, id)?,
+    )?;
+    Ok(contents.put(key, doc)?)
 }
 
 fn contents(alloc: Global) -> Result<Contents, Fail> {
@@ -227,25 +150,45 @@ fn listed(alloc: Global, published: &Publishes) -> Result<Value, Mem> {
     Ok(Value::List(list))
 }
 
-fn published(alloc: Global, cursors: &str, params: &str) -> Result<Value, Fail> {
-    let Some(publication) = publication(alloc, cursors)? else {
-        return Ok(Value::Null);
-    };
-    let cursors = Cursors::make(alloc, &publication, &list(alloc, params)?)?;
-    Ok(listed(alloc, &query(alloc, &cursors, &contents(alloc)?)?)?)
+fn published(alloc: Global, cursors: &Cursors) -> Result<Value, Fail> {
+    let published = query(alloc, cursors, &contents(alloc)?)?;
+    Ok(listed(alloc, &published)?)
 }
 
-fn is_published(alloc: Global, row: &str) -> Result<bool, Fail> {
-    let (input, wanted) = halves(row);
-    let (cursors, params) = first(input);
-    let published = published(alloc, cursors, params)?;
-    is_value(alloc, &published, wanted)
+fn limits(cursors: &Cursors) -> &'static str {
+    if cursors.limited() { "limited" } else { "all" }
 }
 
-#[test]
-fn contents_are_queried(rt: HostRuntime) -> Result<(), Fail> {
-    for row in PUBLISHED.lines() {
-        assert!(rt; is_published(rt.alloc(), row)?, "at {row}");
+fn publish(alloc: Global, cursors: &Cursors, wanted: &str) -> Result<bool, Fail> {
+    let kind = format!(in alloc; "{} {} ", cursors.len(), limits(cursors))?;
+    match wanted.strip_prefix(kind.as_str()) {
+        Some(wanted) => is_value(alloc, &published(alloc, cursors)?, wanted),
+        None => Ok(false),
     }
-    Ok(())
+}
+
+fn gives(
+    alloc: Global,
+    publication: &Publication,
+    params: &Items,
+    wanted: &str,
+) -> Result<bool, Fail> {
+    match Cursors::make(alloc, publication, params) {
+        Ok(cursors) => publish(alloc, &cursors.copy()?, wanted),
+        Err(fault) => Ok(format!(in alloc; "{fault:?}")?.as_str() == wanted),
+    }
+}
+
+fn gives_by(alloc: Global, app: &App, params: &Items, wanted: &str) -> Result<bool, Fail> {
+    match app.publication(&Text::from_str(alloc, "p")?) {
+        Some(publication) => gives(alloc, &publication.copy()?, params, wanted),
+        None => Ok(false),
+    }
+}
+
+// Whether the cursors publish this with these parameters.
+pub(crate) fn is_published(alloc: Global, call: &str, wanted: &str) -> Result<bool, Fail> {
+    let (cursors, params) = first(call);
+    let app = publishing(alloc, cursors)?;
+    gives_by(alloc, &app, &list(alloc, params)?, wanted)
 }

@@ -1,11 +1,50 @@
 //! Values as their EJSON texts, for the tables.
 use ejson_codec::parse;
-use ejson_value::{Doc, Items, Names, Text, Value, same};
+use ejson_value::{Doc, Items, Mem, Names, Text, Value, same};
 use std::alloc::Global;
 use std::test::Fail;
 
+fn push_numbered(made: &mut String, before: &str, after: &str, times: u32) -> Result<(), Mem> {
+    for number in 0..times {
+        write!(made, "{before}{number}{after}")?;
+    }
+    Ok(())
+}
+
+fn push_same(made: &mut String, piece: &str, times: u32) -> Result<(), Mem> {
+    for _ in 0..times {
+        made.push_str(piece)?;
+    }
+    Ok(())
+}
+
+fn push_counted(made: &mut String, piece: &str) -> Result<(), Fail> {
+    let (piece, times) = piece.rsplit_once(' ').unwrap_or((piece, ""));
+    let times = times.parse::<u32>()?;
+    match piece.split_once('#') {
+        Some((before, after)) => Ok(push_numbered(made, before, after, times)?),
+        None => Ok(push_same(made, piece, times)?),
+    }
+}
+
+// The text, where `@a 256@` stands for 256 times the letter `a`, and `@a#, 3@` for `a0,a1,a2,`.
+pub(crate) fn filled(alloc: Global, text: &str) -> Result<String, Fail> {
+    let mut made = String::new(alloc);
+    let mut is_counted = false;
+    for piece in text.split('@') {
+        if is_counted {
+            push_counted(&mut made, piece)?;
+        } else {
+            made.push_str(piece)?;
+        }
+        is_counted = !is_counted;
+    }
+    Ok(made)
+}
+
 pub(crate) fn value(alloc: Global, text: &str) -> Result<Value, Fail> {
-    Ok(parse(alloc, &Text::from_str(alloc, text)?)?)
+    let text = Text::from_string(filled(alloc, text)?);
+    Ok(parse(alloc, &text)?)
 }
 
 pub(crate) fn is_value(alloc: Global, found: &Value, wanted: &str) -> Result<bool, Fail> {
