@@ -6,22 +6,24 @@ use std::test::Fail;
 
 // Each row is one call: the subscription; the document's id and then its fields, or `gone`, or `drop` where the
 // subscription ends; what the client is told, and in brackets how many documents two or more subscriptions publish.
+// `plan` and `carry` plan the subscription's end, and `carry` carries it out; `see` tells what the client sees.
 
-const FIRST_PUBLISHER_WINS: &str = "1 x a=1 => added c/x a=1; [0]
+pub(crate) const FIRST_PUBLISHER_WINS: &str = "1 x a=1 => added c/x a=1; [0]
 2 x a=2 =>  [1]
 2 x a=3 =>  [1]
 1 x a=4 => changed c/x a=4; [1]
 2 x a=3 =>  [1]
 ";
 
-const WINNER_LEAVES: &str = "1 x a=1 b=1 => added c/x a=1 b=1; [0]
+pub(crate) const WINNER_LEAVES: &str = "1 x a=1 b=1 => added c/x a=1 b=1; [0]
 2 x a=2 c=2 => changed c/x c=2; [1]
 1 drop => changed c/x a=2 -b; [0]
 2 drop => removed c/x; [0]
 2 drop =>  [0]
+2 see x => none [0]
 ";
 
-const CLEARED_FIELD_GOES_BEHIND: &str = "1 x a=1 => added c/x a=1; [0]
+pub(crate) const CLEARED_FIELD_GOES_BEHIND: &str = "1 x a=1 => added c/x a=1; [0]
 2 x a=2 =>  [1]
 1 x => changed c/x a=2; [1]
 1 x a=1 =>  [1]
@@ -29,13 +31,13 @@ const CLEARED_FIELD_GOES_BEHIND: &str = "1 x a=1 => added c/x a=1; [0]
 1 x => changed c/x -a; [1]
 ";
 
-const EQUAL_VALUES_ARE_NOT_TOLD: &str = "1 x a=7 => added c/x a=7; [0]
+pub(crate) const EQUAL_VALUES_ARE_NOT_TOLD: &str = "1 x a=7 => added c/x a=7; [0]
 2 x a=7 =>  [1]
 1 gone x =>  [0]
 2 gone x => removed c/x; [0]
 ";
 
-const STAYS_WHILE_ONE_PUBLISHES: &str = "1 x a=1 => added c/x a=1; [0]
+pub(crate) const STAYS_WHILE_ONE_PUBLISHES: &str = "1 x a=1 => added c/x a=1; [0]
 2 x =>  [1]
 1 gone x => changed c/x -a; [0]
 1 y => added c/y; [0]
@@ -43,12 +45,13 @@ const STAYS_WHILE_ONE_PUBLISHES: &str = "1 x a=1 => added c/x a=1; [0]
 1 gone z =>  [0]
 ";
 
-const FIRST_ENDS: &str = "0 t1 a=1 => added c/t1 a=1; [0]
+pub(crate) const FIRST_ENDS: &str = "0 t1 a=1 => added c/t1 a=1; [0]
 1 t1 a=2 b=3 => changed c/t1 b=3; [1]
 0 drop => changed c/t1 a=2; [0]
+1 see t1 =>  a=2 b=3 [0]
 ";
 
-const FIELDS_COME_AND_GO: &str = "1 x b=1 d=1 => added c/x b=1 d=1; [0]
+pub(crate) const FIELDS_COME_AND_GO: &str = "1 x b=1 d=1 => added c/x b=1 d=1; [0]
 1 x a=1 c=1 d=1 e=1 => changed c/x a=1 c=1 e=1 -b; [0]
 1 x a=1 c=2 => changed c/x c=2 -d -e; [0]
 1 x a=1 c=2 =>  [0]
@@ -56,7 +59,7 @@ const FIELDS_COME_AND_GO: &str = "1 x b=1 d=1 => added c/x b=1 d=1; [0]
 1 x z=1 => changed c/x z=1; [0]
 ";
 
-const SEVERAL_SHARED: &str = "1 x a=1 => added c/x a=1; [0]
+pub(crate) const SEVERAL_SHARED: &str = "1 x a=1 => added c/x a=1; [0]
 1 y a=1 => added c/y a=1; [0]
 2 x b=1 => changed c/x b=1; [1]
 2 y b=1 => changed c/y b=1; [2]
@@ -65,7 +68,7 @@ const SEVERAL_SHARED: &str = "1 x a=1 => added c/x a=1; [0]
 2 drop => changed c/x -b;removed c/y; [0]
 ";
 
-const ALONE_AND_SHARED_BY_TURNS: &str = "1 x a=1 b=1 => added c/x a=1 b=1; [0]
+pub(crate) const ALONE_AND_SHARED_BY_TURNS: &str = "1 x a=1 b=1 => added c/x a=1 b=1; [0]
 2 gone x =>  [0]
 2 x b=2 c=2 => changed c/x c=2; [1]
 1 x a=1 => changed c/x b=2; [1]
@@ -78,6 +81,12 @@ const ALONE_AND_SHARED_BY_TURNS: &str = "1 x a=1 b=1 => added c/x a=1 b=1; [0]
 2 x a=6 =>  [1]
 1 drop => changed c/x a=6; [0]
 2 drop => removed c/x; [0]
+";
+
+pub(crate) const PLAN_CHANGES_NOTHING: &str = "1 x a=1 => added c/x a=1; [0]
+1 plan => removed c/x; [0]
+1 carry => removed c/x; [0]
+1 see x => none [0]
 ";
 
 fn number(n: i64) -> Value {
@@ -200,62 +209,20 @@ fn text_of(alloc: Global, messages: &DataList) -> Result<String, Mem> {
     Ok(out)
 }
 
-fn told(merge: &mut MergeBox, alloc: Global, sub: u64, act: &str) -> Result<String, Mem> {
+fn called(merge: &mut MergeBox, alloc: Global, sub: u64, act: &str) -> Result<String, Mem> {
     let messages = call(merge, alloc, sub, act)?;
-    let text = text_of(alloc, &messages)?;
-    Ok(format!(in alloc; "{} [{}]", text.as_str(), merge.listed())?)
+    text_of(alloc, &messages)
 }
 
-fn is_right(merge: &mut MergeBox, alloc: Global, row: &str) -> Result<bool, Fail> {
-    let Some((call, wanted)) = row.split_once(" => ") else {
-        return Ok(false);
-    };
-    match call.split_once(" ") {
-        None => Ok(false),
-        Some((sub, act)) => {
-            let text = told(merge, alloc, sub.parse::<u64>().unwrap_or(0), act)?;
-            Ok(text.as_str() == wanted)
-        }
-    }
+fn planned(merge: &mut MergeBox, alloc: Global, sub: u64) -> Result<String, Mem> {
+    let plan = merge.plan_drop(sub)?;
+    text_of(alloc, plan.messages())
 }
 
-// How many rows of the table are right before the first that is not.
-fn right_rows(merge: &mut MergeBox, alloc: Global, rows: &str) -> Result<u64, Fail> {
-    let mut right = 0;
-    for row in rows.lines() {
-        if !is_right(merge, alloc, row)? {
-            return Ok(right);
-        }
-        right = right.saturating_add(1);
-    }
-    Ok(right)
-}
-
-fn right_in(alloc: Global, rows: &str) -> Result<u64, Fail> {
-    let mut merge = MergeBox::new(alloc);
-    right_rows(&mut merge, alloc, rows)
-}
-
-#[test]
-fn tables_of_calls(rt: HostRuntime) -> Result<(), Fail> {
-    for rows in [
-        FIRST_PUBLISHER_WINS,
-        WINNER_LEAVES,
-        CLEARED_FIELD_GOES_BEHIND,
-        EQUAL_VALUES_ARE_NOT_TOLD,
-        STAYS_WHILE_ONE_PUBLISHES,
-        FIRST_ENDS,
-        FIELDS_COME_AND_GO,
-        SEVERAL_SHARED,
-        ALONE_AND_SHARED_BY_TURNS,
-    ] {
-        assert_eq!(rt;
-            right_in(rt.alloc(), rows)?,
-            rows.lines().count() as u64,
-            "in {rows}"
-        );
-    }
-    Ok(())
+fn carried_out(merge: &mut MergeBox, alloc: Global, sub: u64) -> Result<String, Mem> {
+    let plan = merge.plan_drop(sub)?;
+    let messages = merge.commit(plan);
+    text_of(alloc, &messages)
 }
 
 fn shown(merge: &MergeBox, alloc: Global, id: &str) -> Result<String, Mem> {
@@ -267,55 +234,44 @@ fn shown(merge: &MergeBox, alloc: Global, id: &str) -> Result<String, Mem> {
     Ok(out)
 }
 
-fn shown_after(alloc: Global, rows: &str, id: &str) -> Result<String, Fail> {
+fn answer(merge: &mut MergeBox, alloc: Global, sub: u64, act: &str) -> Result<String, Mem> {
+    match act {
+        "plan" => planned(merge, alloc, sub),
+        "carry" => carried_out(merge, alloc, sub),
+        _ => match act.strip_prefix("see ") {
+            Some(id) => shown(merge, alloc, id),
+            None => called(merge, alloc, sub, act),
+        },
+    }
+}
+
+fn told(merge: &mut MergeBox, alloc: Global, sub: u64, act: &str) -> Result<String, Mem> {
+    let answer = answer(merge, alloc, sub, act)?;
+    Ok(format!(in alloc; "{} [{}]", answer.as_str(), merge.listed())?)
+}
+
+fn is_right(merge: &mut MergeBox, alloc: Global, row: &str) -> Result<bool, Fail> {
+    let (call, wanted) = row.split_once(" => ").unwrap_or((row, ""));
+    let (sub, act) = call.split_once(" ").unwrap_or(("", call));
+    let told = told(merge, alloc, sub.parse::<u64>()?, act)?;
+    Ok(told.as_str() == wanted)
+}
+
+fn wrong_row(
+    merge: &mut MergeBox,
+    alloc: Global,
+    rows: &'static str,
+) -> Result<&'static str, Fail> {
+    for row in rows.lines() {
+        if !is_right(merge, alloc, row)? {
+            return Ok(row);
+        }
+    }
+    Ok("")
+}
+
+// The first row that isn't right, or nothing.
+pub(crate) fn wrong(alloc: Global, rows: &'static str) -> Result<&'static str, Fail> {
     let mut merge = MergeBox::new(alloc);
-    let _right = right_rows(&mut merge, alloc, rows)?;
-    Ok(shown(&merge, alloc, id)?)
-}
-
-#[test]
-fn what_the_client_sees(rt: HostRuntime) -> Result<(), Fail> {
-    assert_eq!(rt;
-        shown_after(rt.alloc(), FIRST_ENDS, "t1")?.as_str(),
-        " a=2 b=3"
-    );
-    assert_eq!(rt;
-        shown_after(rt.alloc(), WINNER_LEAVES, "x")?.as_str(),
-        "none"
-    );
-    Ok(())
-}
-
-fn planned(merge: &mut MergeBox, alloc: Global) -> Result<String, Mem> {
-    let plan = merge.plan_drop(1)?;
-    text_of(alloc, plan.messages())
-}
-
-fn carried_out(merge: &mut MergeBox, alloc: Global) -> Result<String, Mem> {
-    let plan = merge.plan_drop(1)?;
-    let messages = merge.commit(plan);
-    text_of(alloc, &messages)
-}
-
-// Plans the end of subscription 1 twice, and carries the second plan out.
-fn planned_twice(merge: &mut MergeBox, alloc: Global) -> Result<String, Mem> {
-    let first = planned(merge, alloc)?;
-    let second = carried_out(merge, alloc)?;
-    let left = shown(merge, alloc, "x")?;
-    Ok(format!(in alloc; "{first}{second}{left}")?)
-}
-
-fn planned_text(alloc: Global) -> Result<String, Fail> {
-    let mut merge = MergeBox::new(alloc);
-    let _told = told(&mut merge, alloc, 1, "x a=1")?;
-    Ok(planned_twice(&mut merge, alloc)?)
-}
-
-#[test]
-fn a_plan_changes_nothing_by_itself(rt: HostRuntime) -> Result<(), Fail> {
-    assert_eq!(rt;
-        planned_text(rt.alloc())?.as_str(),
-        "removed c/x;removed c/x;none"
-    );
-    Ok(())
+    wrong_row(&mut merge, alloc, rows)
 }

@@ -41,19 +41,18 @@ fn is_right(fences: &mut Fences, row: &str) -> bool {
     fences.fired(least.parse::<u64>().ok(), opening) == fires.parse::<u64>().ok()
 }
 
-fn all_are_right(alloc: Global) -> Result<bool, Fail> {
-    let mut fences = Fences::new(alloc);
-    arm(&mut fences)?;
+fn wrong_row(fences: &mut Fences) -> &'static str {
     for row in CALLS.lines() {
-        if !is_right(&mut fences, row) {
-            return Ok(false);
+        if !is_right(fences, row) {
+            return row;
         }
     }
-    Ok(true)
+    ""
 }
 
-#[test]
-fn fires_the_least_number_that_is_reached(rt: HostRuntime) -> Result<(), Fail> {
-    assert!(rt; all_are_right(rt.alloc())?);
-    Ok(())
+// The first row that isn't right, or nothing.
+pub(crate) fn wrong(alloc: Global) -> Result<&'static str, Fail> {
+    let mut fences = Fences::new(alloc);
+    arm(&mut fences)?;
+    Ok(wrong_row(&mut fences))
 }

@@ -47,10 +47,12 @@ fn is_right(alloc: Global, row: &str) -> Result<bool, Fail> {
     }
 }
 
-#[test]
-fn draws_the_ids_of_the_definition(rt: HostRuntime) -> Result<(), Fail> {
+// The first row that isn't right, or nothing.
+pub(crate) fn wrong(alloc: Global) -> Result<&'static str, Fail> {
     for row in IDS.lines() {
-        assert!(rt; is_right(rt.alloc(), row)?, "at {row}");
+        if !is_right(alloc, row)? {
+            return Ok(row);
+        }
     }
-    Ok(())
+    Ok("")
 }

@@ -7,3 +7,5 @@ mod boxes;
 mod fences;
 #[cfg(test)]
 mod ids;
+#[cfg(test)]
+mod tables;
