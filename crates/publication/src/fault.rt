@@ -4,7 +4,7 @@ use std::alloc::AllocFailed;
 use thiserror::Error;
 
 /// Why the cursors of a publication can't be made with the parameters of a call.
-#[derive(Clone, Copy, Debug, PartialEq, Eq, Error)]
+#[derive(Clone, Copy, Debug, Error)]
 pub enum CursorFault {
     /// A selector's template can't be filled: 1 no such parameter, 2 too deep, 3 too large.
     #[error("a template can't be filled")]
