@@ -6,6 +6,8 @@ mod ejson;
 #[cfg(test)]
 mod messages;
 #[cfg(test)]
+mod tables;
+#[cfg(test)]
 mod texts;
 #[cfg(test)]
 mod wire;
