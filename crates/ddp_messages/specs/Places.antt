@@ -1,5 +1,5 @@
 -- What the places for an object's members say: the value at each key.
-use Rattle.std.specs.Prelude.{◌≡◌, ℕ, List, Option, Some, option_map, codes, if◌then◌else◌}
+use Rattle.std.specs.Prelude.{◌≡◌, ℕ, List, Option, Some, option_map, codes, if◌then◌else◌, ◌≢◌}
 use Rattle.std.specs.Borrow.{Bor}
 use Rattle.json.specs.Token.{Token}
 use Rattle.value_model.specs.Val.{Val, text, list, object, vals_of, Entries, fields_of}
@@ -61,6 +61,10 @@ OtherRead key tokens rest before after = (v : Val) × ValueRead max_levels token
 -- a value was read, and is found at the key
 abbrev pub MemberRead : List ℕ → List Token → List Token → Told → Told → Type 0
 MemberRead key tokens rest before after = (v : Val) × ValueRead max_levels tokens v rest × Sets key v (found before) (found after)
+
+-- the key has no place for a text
+abbrev pub IsNoTextKey : List ℕ → Type 0
+IsNoTextKey key = (key ≢ codes "msg") × (key ≢ codes "id") × (key ≢ codes "collection") × (key ≢ codes "method")
 
 -- members were read to the brace behind them, and the places say what they are
 abbrev pub MembersSaid : List Token → List Token → Told → Type 0

@@ -5,7 +5,7 @@ use std::error::Error;
 use std::fmt;
 
 /// Why a text wasn't read as a message.
-#[derive(Debug, PartialEq, Eq, Drop)]
+#[derive(Debug, Drop)]
 pub enum MsgFault {
     /// The text is no JSON; of a server's text, it is no JSON object.
     Parse,

@@ -1,10 +1,11 @@
 //! The messages from a client.
-ghost use Rattle.std.specs.Prelude.{◌≡◌, ◌++◌, Ok, IfOk, OnOk};
+ghost use Rattle.std.specs.Prelude.{◌≡◌, ◌++◌, Ok, Some, IfOk, OnOk};
+ghost use Rattle.serde_json.specs.View.{view as json_view};
 ghost use Rattle.serde_json.specs.Written.{compact_text};
 ghost use Rattle.ejson_codec.specs.Tokens.{tree_tokens};
 ghost use Rattle.ejson_codec.specs.Trees.{HasRisingKeys};
 ghost use Rattle.ddp_messages.specs.ClientMessage.{ClientMessage, client_view};
-ghost use Rattle.ddp_messages.specs.Answers.{IsClientText, client_answer, GivesMessage};
+ghost use Rattle.ddp_messages.specs.Answers.{IsClientText, client_tree, client_answer, GivesMessage};
 ghost use Rattle.ddp_messages.specs.Written.{client_written};
 ghost use Rattle.ddp_messages.specs.Limits.{ClientKeepsLimits, ClientHasValues};
 
@@ -16,6 +17,7 @@ use crate::writing::{connect, heartbeat, known_if_any, method, sub, unsub};
 use ejson_codec::{PlainFault, TextWriter};
 use ejson_value::{Items, Mem, Names, Text, Value};
 use json::Scratch;
+use serde_json::Value as Json;
 use std::alloc::Global;
 
 /// A message from a client to a server.
@@ -92,9 +94,16 @@ impl FromClient {
         ensures { GivesMessage client_view result (client_answer text.now) }
     {
         let tree = parsed(alloc, text)?;
-        match message(alloc, &tree) {
+        Self::of_tree(alloc, &tree)
+    }
+
+    // Reads a tree.
+    fn of_tree(alloc: Global, tree: &Json) -> Result<FromClient, MsgFault>
+        ensures { GivesMessage client_view result (client_tree (Some (json_view tree.now))) }
+    {
+        match message(alloc, tree) {
             Ok(message) => Ok(message),
-            Err(FieldFault::Malformed) => Err(refusal(alloc, &tree)?),
+            Err(FieldFault::Malformed) => Err(refusal(alloc, tree)?),
             Err(FieldFault::Memory) => Err(MsgFault::Memory),
         }
     }

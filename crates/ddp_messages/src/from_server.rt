@@ -1,12 +1,13 @@
 //! The messages from a server.
-ghost use Rattle.std.specs.Prelude.{◌≡◌, ◌++◌, Ok, IfOk, OnOk, option_map};
+ghost use Rattle.std.specs.Prelude.{◌≡◌, ◌++◌, Ok, Some, IfOk, OnOk, option_map};
 ghost use Rattle.serde_json.specs.Data.{object, no_members};
+ghost use Rattle.serde_json.specs.View.{view as json_view};
 ghost use Rattle.serde_json.specs.Written.{compact_text};
 ghost use Rattle.ejson_value.specs.View.{view};
 ghost use Rattle.ejson_codec.specs.Tokens.{tree_tokens};
 ghost use Rattle.ejson_codec.specs.Trees.{HasRisingKeys};
 ghost use Rattle.ddp_messages.specs.ServerMessage.{ServerMessage, server_view, about, finished};
-ghost use Rattle.ddp_messages.specs.Answers.{IsServerText, server_answer, GivesMessage};
+ghost use Rattle.ddp_messages.specs.Answers.{IsServerText, server_tree, server_answer, GivesMessage};
 ghost use Rattle.ddp_messages.specs.Written.{data_members, server_written};
 ghost use Rattle.ddp_messages.specs.Limits.{DataHasValues, ServerKeepsLimits, ServerHasValues};
 
@@ -21,6 +22,7 @@ use crate::writing::{
 use ejson_codec::{PlainFault, TextWriter};
 use ejson_value::{DataMsg, Fault, Mem, Names, Text, Value};
 use json::Scratch;
+use serde_json::Value as Json;
 use std::alloc::Global;
 
 /// A message from a server to a client.
@@ -111,12 +113,19 @@ impl FromServer {
         ensures { GivesMessage server_view result (server_answer text.now) }
     {
         let tree = parsed(alloc, text)?;
+        Self::of_tree(alloc, &tree)
+    }
+
+    // Reads a tree.
+    fn of_tree(alloc: Global, tree: &Json) -> Result<FromServer, MsgFault>
+        ensures { GivesMessage server_view result (server_tree (Some (json_view tree.now))) }
+    {
         if !tree.is_object() {
             return Err(MsgFault::Parse);
         }
-        match message(alloc, &tree) {
+        match message(alloc, tree) {
             Ok(message) => Ok(message),
-            Err(FieldFault::Malformed) => Err(refusal(alloc, &tree)?),
+            Err(FieldFault::Malformed) => Err(refusal(alloc, tree)?),
             Err(FieldFault::Memory) => Err(MsgFault::Memory),
         }
     }

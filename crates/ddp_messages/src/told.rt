@@ -1,6 +1,6 @@
 //! What the members of a message's object say, read from the tokens of a text.
 ghost use Rattle.std.specs.Prelude.{◌≡◌, [], ◌<◌, length, OnOk};
-ghost use Rattle.ddp_messages.specs.Places.{text_there, document_there, list_there, StandsRead, OtherRead, MemberRead, Says, MembersSaid, TextSaid};
+ghost use Rattle.ddp_messages.specs.Places.{text_there, document_there, list_there, StandsRead, OtherRead, MemberRead, IsNoTextKey, Says, MembersSaid, TextSaid};
 
 use ejson_codec::{PlainFault, next_value, put_field};
 use ejson_value::{Doc, Items, Value};
@@ -110,6 +110,22 @@ impl<'a> Told<'a> {
             "id" => tell_text(reader, &mut self.id),
             "collection" => tell_text(reader, &mut self.collection),
             "method" => tell_text(reader, &mut self.method),
+            _ => self.tell_value(alloc, key, reader),
+        }
+    }
+
+    // Reads the value of a key that isn't one of a text.
+    fn tell_value(
+        &mut self,
+        alloc: Global,
+        key: &str,
+        reader: &mut Reader<'a>,
+    ) -> Result<(), PlainFault>
+        requires { IsNoTextKey key.now }
+        ensures read { OnOk result (MemberRead key.now reader.old reader.new self.old self.new) }
+        ensures shorter { OnOk result (length reader.new < length reader.old) }
+    {
+        match key {
             "fields" => tell_document(alloc, reader, &mut self.fields),
             "params" => tell_list(alloc, reader, &mut self.params),
             _ => tell_other(alloc, key, reader, &mut self.others),
