@@ -30,6 +30,17 @@ fn may_stay(operator: &Operator) -> Result<(), ApplyFault>
     }
 }
 
+// The value, where the path can't go on.
+fn stays(operator: &Operator, value: Value) -> Result<Option<Value>, ApplyFault>
+    ensures { Gives (λ o. option_map view o) result (made Some (blocked (edit_view operator.now) (view value))) }
+{
+    if makes(operator) {
+        drop(value);
+        return Err(ApplyFault::PathBlocked);
+    }
+    Ok(Some(value))
+}
+
 // Fills the list with nulls up to this many places.
 fn filled(mut items: Items, places: usize) -> Result<Items, Mem>
     ensures { IfOk result (λ vs. vs ≡ items ++ replicate (places - length items) null) }
@@ -108,10 +119,7 @@ fn changed_inside(
             let items = element_changed(alloc, operator, part, rest, items)?;
             Ok(Some(Value::List(items)))
         }
-        other => {
-            may_stay(operator)?;
-            Ok(Some(other))
-        }
+        other => stays(operator, other),
     }
 }
 

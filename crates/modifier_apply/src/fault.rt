@@ -8,7 +8,7 @@ use std::error::Error;
 use std::fmt;
 
 /// Why a value is no modifier.
-#[derive(Clone, Copy, Debug, PartialEq, Eq)]
+#[derive(Clone, Copy, Debug)]
 pub enum ModifierFault {
     NotObject,
     UnknownOperator,
@@ -70,7 +70,7 @@ impl<T: Drop> From<AllocFailed<T>> for ModifierFault {
 }
 
 /// Why a modifier is refused by a document.
-#[derive(Clone, Copy, Debug, PartialEq, Eq)]
+#[derive(Clone, Copy, Debug)]
 pub enum ApplyFault {
     NotNumber,
     NotArray,
