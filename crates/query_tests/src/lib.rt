@@ -4,6 +4,8 @@
 #[cfg(test)]
 mod modifiers;
 #[cfg(test)]
+mod rows;
+#[cfg(test)]
 mod selectors;
 #[cfg(test)]
 mod texts;

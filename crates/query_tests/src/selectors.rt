@@ -1,7 +1,7 @@
-//! Tables of selectors and documents.
+//! Selectors and documents, tests of elements, and the ids that selectors name.
 ghost use Rattle.std.specs.Prelude.{◌≡◌};
 
-use crate::texts::{parts, value};
+use crate::texts::value;
 use ejson_value::{Doc, Text, Value};
 use selector_match::{Selector, SelectorFault, Steps, Test, fits, matches};
 use std::alloc::Global;
@@ -14,7 +14,7 @@ const DOCUMENT: &str =
 
 // Each row: a selector, ` => `, and whether it holds of the document with the id `t1`, or the
 // number of the fault.
-const SELECTORS: &str = r#"{} => true
+pub(crate) const SELECTORS: &str = r#"{} => true
 {"z":null} => true
 {"q":null} => true
 {"a.b":2} => true
@@ -154,7 +154,7 @@ const SELECTORS: &str = r#"{} => true
 "#;
 
 // Each row: a test, ` of `, an element, ` => `, and whether it passes or the number of the fault.
-const TESTS: &str = r#"{"$gt":1} of 2 => true
+pub(crate) const TESTS: &str = r#"{"$gt":1} of 2 => true
 {"$size":1} of [5] => true
 {"$gt":1} of [2] => false
 {"a":1} of {"a":1} => true
@@ -173,7 +173,7 @@ const TESTS: &str = r#"{"$gt":1} of 2 => true
 "#;
 
 // Each row: a selector, ` => `, and the id that it names, if it names one.
-const IDS: &str = r#"{"_id":"a"} => a
+pub(crate) const IDS: &str = r#"{"_id":"a"} => a
 {"_id":{"$gt":"0","$eq":"b"},"n":1} => b
 {"_id":1} => none
 {"n":"a"} => none
@@ -182,11 +182,20 @@ const IDS: &str = r#"{"_id":"a"} => a
 {"_id":{"$type":"point","$value":"a"}} => none
 "#;
 
-fn document(alloc: Global, text: &str) -> Result<Doc, Fail> {
-    match value(alloc, text)? {
-        Value::Object(doc) => Ok(doc),
-        _ => Ok(Doc::new(alloc)),
+fn fields(alloc: Global, value: Value) -> Doc {
+    match value {
+        Value::Object(fields) => fields,
+        _ => Doc::new(alloc),
     }
+}
+
+fn object(alloc: Global, text: &str) -> Result<Doc, Fail> {
+    Ok(fields(alloc, value(alloc, text)?))
+}
+
+/// The document that the selectors are tried on.
+pub(crate) fn document(alloc: Global) -> Result<Doc, Fail> {
+    object(alloc, DOCUMENT)
 }
 
 fn number(fault: SelectorFault) -> &'static str {
@@ -217,14 +226,20 @@ fn copy_holds(selector: &Selector, id: &Text, doc: &Doc) -> Result<&'static str,
     Ok(word(counted::<Brand>(&copied, id, doc, Blank::new(1))))
 }
 
+fn holds(alloc: Global, selector: &Selector, doc: &Doc) -> Result<&'static str, Fail> {
+    let id = Text::from_str(alloc, "t1")?;
+    copy_holds(selector, &id, doc)
+}
+
 fn answer_of(alloc: Global, selector: &Value, doc: &Doc) -> Result<&'static str, Fail> {
     match Selector::read(alloc, selector) {
-        Ok(read) => copy_holds(&read, &Text::from_str(alloc, "t1")?, doc),
+        Ok(read) => holds(alloc, &read, doc),
         Err(fault) => Ok(number(fault)),
     }
 }
 
-fn answer(alloc: Global, selector: &str, doc: &Doc) -> Result<&'static str, Fail> {
+/// Whether the selector holds of the document, or the number of the fault.
+pub(crate) fn answer(alloc: Global, selector: &str, doc: &Doc) -> Result<&'static str, Fail> {
     let selector = value(alloc, selector)?;
     answer_of(alloc, &selector, doc)
 }
@@ -246,7 +261,8 @@ fn tried(alloc: Global, test: &str, element: &str) -> Result<&'static str, Fail>
     passes(alloc, test, &element)
 }
 
-fn tested_on(alloc: Global, call: &str) -> Result<&'static str, Fail> {
+/// Whether the test passes the element, or the number of the fault.
+pub(crate) fn tested_on(alloc: Global, call: &str) -> Result<&'static str, Fail> {
     match call.split_once(" of ") {
         Some((test, element)) => tried(alloc, test, element),
         None => Ok("no row"),
@@ -263,36 +279,9 @@ fn names(alloc: Global, selector: &Value, wanted: &str) -> bool {
     }
 }
 
-fn has_id(alloc: Global, selector: &str, wanted: &str) -> Result<bool, Fail> {
+pub(crate) fn has_id(alloc: Global, selector: &str, wanted: &str) -> Result<bool, Fail> {
     let selector = value(alloc, selector)?;
     Ok(names(alloc, &selector, wanted))
-}
-
-// What the rows of a table are.
-#[derive(Clone, Copy)]
-enum Table<'a> {
-    Selectors(&'a Doc),
-    Tests,
-    Ids,
-}
-
-fn is_right(alloc: Global, table: Table, row: &str) -> Result<bool, Fail> {
-    let (call, wanted) = parts(row);
-    match table {
-        Table::Selectors(doc) => Ok(answer(alloc, call, doc)? == wanted),
-        Table::Tests => Ok(tested_on(alloc, call)? == wanted),
-        Table::Ids => has_id(alloc, call, wanted),
-    }
-}
-
-// The first row that isn't right, or nothing.
-fn wrong(alloc: Global, table: Table, rows: &'static str) -> Result<&'static str, Fail> {
-    for row in rows.lines() {
-        if !is_right(alloc, table, row)? {
-            return Ok(row);
-        }
-    }
-    Ok("")
 }
 
 // The text of an operator with the numbers from 0, and of a list of them.
@@ -312,24 +301,15 @@ fn all_of(alloc: Global, count: u32, doc: &Doc) -> Result<&'static str, Fail> {
 
 fn many_numbers(alloc: Global) -> Result<Doc, Fail> {
     let text = numbers(alloc, "{\"a\":[", 2500, "]}")?;
-    document(alloc, text.as_str())
+    object(alloc, text.as_str())
 }
 
-#[test]
-fn tables(rt: HostRuntime) -> Result<(), Fail> {
-    let alloc = rt.alloc();
-    let doc = document(alloc, DOCUMENT)?;
-    assert_eq!(rt; wrong(alloc, Table::Selectors(&doc), SELECTORS)?, "");
-    assert_eq!(rt; wrong(alloc, Table::Tests, TESTS)?, "");
-    assert_eq!(rt; wrong(alloc, Table::Ids, IDS)?, "");
-    Ok(())
+fn finds_all(alloc: Global, doc: &Doc) -> Result<bool, Fail> {
+    Ok(all_of(alloc, 2500, doc)? == "true" && all_of(alloc, 2501, doc)? == "false")
 }
 
-// More operands than one walk looks for, and one more than the document has.
-#[test]
-fn many_operands(rt: HostRuntime) -> Result<(), Fail> {
-    let doc = many_numbers(rt.alloc())?;
-    assert_eq!(rt; all_of(rt.alloc(), 2500, &doc)?, "true");
-    assert_eq!(rt; all_of(rt.alloc(), 2501, &doc)?, "false");
-    Ok(())
+/// Whether more operands than one walk looks for are found, and one more than the document has isn't.
+pub(crate) fn finds_many(alloc: Global) -> Result<bool, Fail> {
+    let doc = many_numbers(alloc)?;
+    finds_all(alloc, &doc)
 }
