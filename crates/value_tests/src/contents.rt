@@ -3,19 +3,12 @@ ghost use Rattle.std.specs.Prelude.{◌≡◌, All, IfOk, OnOk};
 ghost use Rattle.map_model.specs.Maps.{at};
 ghost use Rattle.ejson_value.specs.Key.{key_cmp};
 
-use crate::values::{doc, int, is_int, text};
-use ejson_value::{
-    Change, Changes, Contents, DataList, DataMsg, Doc, Key, Keys, Mem, Names, Publish, Publishes,
-    Text, copy_option,
-};
+use crate::values::{cut, doc, int, is_int, number, text};
+use ejson_value::{Change, Changes, Contents, DataMsg, Doc, Key, Mem, Names, Text};
 use std::alloc::Global;
-use std::test::Fail;
 
 fn key_in(alloc: Global, collection: &str, id: &str) -> Result<Key, Mem> {
-    Ok(Key {
-        collection: text(alloc, collection)?,
-        id: text(alloc, id)?,
-    })
+    Key::of(&text(alloc, collection)?, &text(alloc, id)?)
 }
 
 fn key(alloc: Global, id: &str) -> Result<Key, Mem> {
@@ -26,21 +19,28 @@ fn task(alloc: Global, number: i64) -> Result<Doc, Mem> {
     doc(alloc, "n", int(number))
 }
 
-fn has_task(alloc: Global, contents: &Contents, id: &str, number: i64) -> Result<bool, Mem> {
+fn is_task(alloc: Global, task: &Doc, number: i64) -> Result<bool, Mem> {
     let name = text(alloc, "n")?;
-    let Some(task) = contents.get(&key(alloc, id)?) else {
-        return Ok(false);
-    };
     Ok(task.get(&name).is_some_and(|n| is_int(n, number)))
+}
+
+fn has_task(alloc: Global, contents: &Contents, id: &str, number: i64) -> Result<bool, Mem> {
+    match contents.get(&key(alloc, id)?) {
+        Some(task) => is_task(alloc, task, number),
+        None => Ok(false),
+    }
+}
+
+fn put_key(alloc: Global, contents: &mut Contents, written: &str) -> Result<(), Mem> {
+    let (collection, id) = written.split_once("/").unwrap_or((written, ""));
+    contents.put(key_in(alloc, collection, id)?, Doc::new(alloc))
 }
 
 // A document at each of these keys, collection and id.
 fn contents_at(alloc: Global, keys: &str) -> Result<Contents, Mem> {
     let mut contents = Contents::new(alloc);
     for key in keys.split(' ') {
-        if let Some((collection, id)) = key.split_once("/") {
-            contents.put(key_in(alloc, collection, id)?, Doc::new(alloc))?;
-        }
+        put_key(alloc, &mut contents, key)?;
     }
     Ok(contents)
 }
@@ -55,27 +55,10 @@ fn ids_of(alloc: Global, contents: &Contents, collection: &str) -> Result<Text, 
 
 const KEYS: &str = "task/x tasks/b tasks/ tasks/a tasks\0/y taskss/z tasks\u{1}/w /v";
 
-// A collection, and the ids of its documents in order.
-const COLLECTIONS: &str = "tasks ab
-task x
-taskss z
-tas 
- v";
-
-fn is_walked_as_told(alloc: Global, contents: &Contents, row: &str) -> Result<bool, Mem> {
-    match row.split_once(" ") {
-        Some((collection, ids)) => Ok(ids_of(alloc, contents, collection)?.as_str() == ids),
-        None => Ok(false),
-    }
-}
-
-#[test]
-fn collections_are_walked(rt: HostRuntime) -> Result<(), Fail> {
-    let contents = contents_at(rt.alloc(), KEYS)?;
-    for row in COLLECTIONS.lines() {
-        assert!(rt; is_walked_as_told(rt.alloc(), &contents, row)?, "at {row}");
-    }
-    Ok(())
+pub(crate) fn is_walked_as_told(alloc: Global, case: &str) -> Result<bool, Mem> {
+    let (collection, ids) = cut(case);
+    let contents = contents_at(alloc, KEYS)?;
+    Ok(ids_of(alloc, &contents, collection)?.as_str() == ids)
 }
 
 fn take(alloc: Global, contents: &mut Contents, id: &str) -> Result<bool, Mem> {
@@ -83,17 +66,17 @@ fn take(alloc: Global, contents: &mut Contents, id: &str) -> Result<bool, Mem> {
     Ok(contents.remove(&key).is_some() && contents.get(&key).is_none())
 }
 
-fn contents_are_edited(alloc: Global) -> Result<bool, Mem> {
+fn are_edited(alloc: Global) -> Result<bool, Mem> {
     let mut contents = contents_at(alloc, "tasks/b tasks/a")?;
     Ok(take(alloc, &mut contents, "b")? && ids_of(alloc, &contents, "tasks")?.as_str() == "a")
 }
 
-fn contents_are_copied(alloc: Global) -> Result<bool, Mem> {
+fn are_copied(alloc: Global) -> Result<bool, Mem> {
     let copied = contents_at(alloc, "tasks/b tasks/a")?.copy()?;
     Ok(copied.len() == 2 && ids_of(alloc, &copied, "tasks")?.as_str() == "ab")
 }
 
-fn contents_are_walked(alloc: Global) -> Result<bool, Mem> {
+fn are_walked(alloc: Global) -> Result<bool, Mem> {
     let contents = contents_at(alloc, "t/b t/a")?;
     let Some((key, _)) = contents.iter().next() else {
         return Ok(false);
@@ -101,12 +84,12 @@ fn contents_are_walked(alloc: Global) -> Result<bool, Mem> {
     Ok(key.id.as_str() == "a" && !contents.is_empty())
 }
 
-#[test]
-fn contents_are_right(rt: HostRuntime) -> Result<(), Fail> {
-    assert!(rt; contents_are_edited(rt.alloc())?);
-    assert!(rt; contents_are_copied(rt.alloc())?);
-    assert!(rt; contents_are_walked(rt.alloc())?);
-    Ok(())
+fn after(alloc: Global, written: &str) -> Result<Option<Doc>, Mem> {
+    if written == "-" {
+        Ok(None)
+    } else {
+        Ok(Some(task(alloc, number(written))?))
+    }
 }
 
 // A change of what the contents have.
@@ -121,132 +104,138 @@ fn change(alloc: Global, contents: &Contents, id: &str, after: Option<Doc>) -> R
     Ok(Change { key, before, after })
 }
 
-// Puts such a change behind others.
+// Puts such a change behind others: an id, and the number of the task that it leaves there, if any.
 fn push_change(
     alloc: Global,
     contents: &Contents,
     changes: &mut Changes,
-    id: &str,
-    after: Option<Doc>,
+    told: &str,
 ) -> Result<(), Mem>
     requires { All (λ c. at key_cmp contents.now c.key ≡ c.before) changes.old }
     ensures { OnOk result (All (λ c. at key_cmp contents.now c.key ≡ c.before) changes.new) }
 {
-    changes.push(change(alloc, contents, id, after)?)?;
+    let (id, left) = told.split_once("=").unwrap_or((told, "-"));
+    changes.push(change(alloc, contents, id, after(alloc, left)?)?)?;
     Ok(())
 }
 
-fn put_first(alloc: Global, contents: &mut Contents) -> Result<(), Mem> {
+fn push_changes(
+    alloc: Global,
+    contents: &Contents,
+    changes: &mut Changes,
+    told: &str,
+) -> Result<(), Mem>
+    requires { All (λ c. at key_cmp contents.now c.key ≡ c.before) changes.old }
+    ensures { OnOk result (All (λ c. at key_cmp contents.now c.key ≡ c.before) changes.new) }
+{
+    for one in told.split(' ') {
+        push_change(alloc, contents, changes, one)?;
+    }
+    Ok(())
+}
+
+fn put_changes(alloc: Global, contents: &mut Contents, told: &str) -> Result<(), Mem> {
     let mut changes = Changes::new(alloc);
-    push_change(alloc, contents, &mut changes, "a", Some(task(alloc, 1)?))?;
-    push_change(alloc, contents, &mut changes, "b", Some(task(alloc, 2)?))?;
-    push_change(alloc, contents, &mut changes, "c", None)?;
+    push_changes(alloc, contents, &mut changes, told)?;
     contents.put_all(&changes)
 }
 
-// By falling key, and two of them at one.
-fn put_second(alloc: Global, contents: &mut Contents) -> Result<(), Mem> {
-    let mut changes = Changes::new(alloc);
-    push_change(alloc, contents, &mut changes, "c", Some(task(alloc, 3)?))?;
-    push_change(alloc, contents, &mut changes, "b", None)?;
-    push_change(alloc, contents, &mut changes, "a", None)?;
-    push_change(alloc, contents, &mut changes, "a", Some(task(alloc, 4)?))?;
-    contents.put_all(&changes)
+// Each row: changes, and how many documents there are then and one of them. The second has changes by falling key,
+// and two of them at one.
+const CHANGES: &str = "a=1 b=2 c=- => 2 b 2
+c=3 b=- a=- a=4 => 2 c 3
+c=- => 1 a 4";
+
+fn has_left(alloc: Global, contents: &Contents, wanted: &str) -> Result<bool, Mem> {
+    let (length, task) = cut(wanted);
+    let (id, written) = cut(task);
+    Ok(
+        length.parse().ok() == Some(contents.len())
+            && has_task(alloc, contents, id, number(written))?,
+    )
 }
 
-fn put_third(alloc: Global, contents: &mut Contents) -> Result<(), Mem> {
-    let mut changes = Changes::new(alloc);
-    push_change(alloc, contents, &mut changes, "c", None)?;
-    contents.put_all(&changes)
+fn is_changed(alloc: Global, contents: &mut Contents, row: &str) -> Result<bool, Mem> {
+    let Some((changes, wanted)) = row.split_once(" => ") else {
+        return Ok(false);
+    };
+    put_changes(alloc, contents, changes)?;
+    has_left(alloc, contents, wanted)
 }
 
-fn changes_are_put(alloc: Global) -> Result<bool, Mem> {
+fn takes_each_row(alloc: Global, contents: &mut Contents) -> Result<bool, Mem> {
+    for row in CHANGES.lines() {
+        if !is_changed(alloc, contents, row)? {
+            return Ok(false);
+        }
+    }
+    Ok(true)
+}
+
+fn are_changed(alloc: Global) -> Result<bool, Mem> {
     let mut contents = Contents::new(alloc);
-    put_first(alloc, &mut contents)?;
-    let put = contents.len() == 2 && has_task(alloc, &contents, "b", 2)?;
-    put_second(alloc, &mut contents)?;
-    let put = put && contents.len() == 2 && has_task(alloc, &contents, "c", 3)?;
-    put_third(alloc, &mut contents)?;
-    Ok(put && contents.len() == 1 && has_task(alloc, &contents, "a", 4)?)
+    takes_each_row(alloc, &mut contents)
 }
 
-fn one_change(alloc: Global) -> Result<Changes, Mem> {
-    let mut changes = Changes::new(alloc);
-    changes.push(Change {
+fn one_change(alloc: Global) -> Result<Change, Mem> {
+    Ok(Change {
         key: key(alloc, "a")?,
         before: None,
-        after: None,
-    })?;
-    Ok(changes)
+        after: Some(Doc::new(alloc)),
+    })
 }
 
 fn changes_are_copied(alloc: Global) -> Result<bool, Mem> {
-    Ok(one_change(alloc)?.copy()?.len() == 1)
+    let copied = one_change(alloc)?.copy()?;
+    Ok(copied.key.id.as_str() == "a" && copied.before.is_none() && copied.after.is_some())
 }
 
-fn one_publish(alloc: Global) -> Result<Publishes, Mem> {
-    let mut publishes = Publishes::new(alloc);
-    publishes.push(Publish {
-        key: key(alloc, "a")?,
-        new: Some(Doc::new(alloc)),
-    })?;
-    Ok(publishes)
+pub(crate) fn are_right(alloc: Global, case: &str) -> Result<bool, Mem> {
+    match case {
+        "edited" => are_edited(alloc),
+        "copied" => are_copied(alloc),
+        "walked" => are_walked(alloc),
+        "changed" => are_changed(alloc),
+        "of changes" => changes_are_copied(alloc),
+        _ => Ok(false),
+    }
 }
 
-fn publishes_are_copied(alloc: Global) -> Result<bool, Mem> {
-    Ok(one_publish(alloc)?.copy()?.len() == 1)
-}
-
-fn one_key(alloc: Global) -> Result<Keys, Mem> {
-    let mut keys = Keys::new(alloc);
-    keys.push(key(alloc, "a")?)?;
-    Ok(keys)
-}
-
-fn keys_are_copied(alloc: Global) -> Result<bool, Mem> {
-    let keys = one_key(alloc)?;
-    Ok(keys.copy()?.as_slice() == keys.as_slice())
-}
-
-fn options_are_copied(alloc: Global) -> Result<bool, Mem> {
-    let one = Some(text(alloc, "a")?);
-    Ok(copy_option(&one)? == one)
-}
-
-fn push_messages(alloc: Global, messages: &mut DataList) -> Result<(), Mem> {
-    messages.push(DataMsg::Removed {
-        key: key(alloc, "a")?,
-    })?;
-    messages.push(DataMsg::Changed {
-        key: key(alloc, "a")?,
-        fields: task(alloc, 1)?,
-        cleared: Names::new(alloc),
-    })?;
-    messages.push(DataMsg::Added {
-        key: key(alloc, "a")?,
+fn added(alloc: Global) -> Result<DataMsg, Mem> {
+    let key = key(alloc, "a")?;
+    Ok(DataMsg::Added {
+        key,
         fields: task(alloc, 1)?,
     })
 }
 
-fn messages_are_copied(alloc: Global) -> Result<bool, Mem> {
-    let mut messages = DataList::new(alloc);
-    push_messages(alloc, &mut messages)?;
-    Ok(messages.copy()?.len() == 3)
+fn changed(alloc: Global) -> Result<DataMsg, Mem> {
+    let key = key(alloc, "a")?;
+    Ok(DataMsg::Changed {
+        key,
+        fields: task(alloc, 1)?,
+        cleared: Names::new(alloc),
+    })
 }
 
-fn are_copied(alloc: Global) -> Result<bool, Mem> {
-    Ok(
-        changes_are_copied(alloc)?
-            && publishes_are_copied(alloc)?
-            && keys_are_copied(alloc)?
-            && options_are_copied(alloc)?
-            && messages_are_copied(alloc)?,
-    )
+fn message(alloc: Global, kind: &str) -> Result<DataMsg, Mem> {
+    match kind {
+        "added" => added(alloc),
+        "changed" => changed(alloc),
+        _ => Ok(DataMsg::Removed {
+            key: key(alloc, "a")?,
+        }),
+    }
 }
 
-#[test]
-fn changes_and_copies_are_right(rt: HostRuntime) -> Result<(), Fail> {
-    assert!(rt; changes_are_put(rt.alloc())?);
-    assert!(rt; are_copied(rt.alloc())?);
-    Ok(())
+fn kind(message: &DataMsg) -> &'static str {
+    match message {
+        DataMsg::Added { .. } => "added",
+        DataMsg::Changed { .. } => "changed",
+        DataMsg::Removed { .. } => "removed",
+    }
+}
+
+pub(crate) fn is_message_copied(alloc: Global, case: &str) -> Result<bool, Mem> {
+    Ok(kind(&message(alloc, case)?.copy()?) == case)
 }

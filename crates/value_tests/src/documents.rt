@@ -1,8 +1,7 @@
 //! Documents of more fields than stand in a row.
-use crate::values::{int, is_int};
+use crate::values::{int, is_int, number};
 use ejson_value::{Doc, Mem, Text, document_depth, document_size, same_documents};
 use std::alloc::Global;
-use std::test::Fail;
 
 // Names of five bytes for the numbers from 1000 to 9999, so that they go by number.
 fn numbered(alloc: Global, number: i64) -> Result<Text, Mem> {
@@ -59,13 +58,22 @@ fn is_walked(alloc: Global, fields: &Doc, first: i64) -> Result<bool, Mem> {
     Ok(true)
 }
 
+fn risen(alloc: Global, end: i64) -> Result<Doc, Mem> {
+    let mut fields = Doc::new(alloc);
+    put_rising(alloc, &mut fields, 1000, end)?;
+    Ok(fields)
+}
+
+fn is_risen(alloc: Global, fields: &Doc, end: i64) -> Result<bool, Mem> {
+    Ok(same_documents(&risen(alloc, end)?, fields))
+}
+
 // Whether putting the fields in falling order makes the same document as in rising order.
-fn is_same_either_way(alloc: Global, end: i64) -> Result<bool, Mem> {
+pub(crate) fn is_same_either_way(alloc: Global, end: &str) -> Result<bool, Mem> {
+    let end = number(end);
     let mut falling = Doc::new(alloc);
     put_falling(alloc, &mut falling, 1000, end)?;
-    let mut rising = Doc::new(alloc);
-    put_rising(alloc, &mut rising, 1000, end)?;
-    Ok(same_documents(&falling, &rising))
+    is_risen(alloc, &falling, end)
 }
 
 fn is_replaced(alloc: Global, fields: &mut Doc) -> Result<bool, Mem> {
@@ -95,8 +103,7 @@ fn is_left_out(alloc: Global, fields: &Doc, number: i64) -> Result<bool, Mem> {
 
 // Whether the document that was large is now the same as one that never was.
 fn is_small(alloc: Global, fields: &Doc, end: i64) -> Result<bool, Mem> {
-    let mut small = Doc::new(alloc);
-    put_rising(alloc, &mut small, 1000, end)?;
+    let small = risen(alloc, end)?;
     Ok(
         same_documents(&small, fields)
             && document_size(&small) == document_size(fields)
@@ -118,16 +125,7 @@ fn is_large_as_told(alloc: Global, fields: &mut Doc) -> Result<bool, Mem> {
     )
 }
 
-fn large_document_is_right(alloc: Global) -> Result<bool, Mem> {
+pub(crate) fn large_document_is_right(alloc: Global) -> Result<bool, Mem> {
     let mut fields = Doc::new(alloc);
     is_large_as_told(alloc, &mut fields)
-}
-
-#[test]
-fn large_documents_are_edited(rt: HostRuntime) -> Result<(), Fail> {
-    assert!(rt; large_document_is_right(rt.alloc())?);
-    for end in 1063..1067 {
-        assert!(rt; is_same_either_way(rt.alloc(), end)?, "at {end}");
-    }
-    Ok(())
 }

@@ -1,11 +1,10 @@
-//! Edits of texts, bytes, lists, documents and lists of things, and their copies.
-use crate::values::{int, is_int, push_numbers, text};
+//! Edits of texts, bytes, lists and documents, and copies of texts, lists and what they are made of.
+use crate::values::{int, is_int, list, text};
 use ejson_value::{
-    Bytes, Doc, Fault, Items, ListOf, Mem, Names, Path, PathFault, SortKey, SortKeys, Text, Whole,
+    Bytes, Doc, Fault, Items, ListOf, Mem, Names, Path, PathFault, SortKey, SortKeys, Text,
     copy_option,
 };
 use std::alloc::Global;
-use std::test::Fail;
 
 fn pushed_text(alloc: Global) -> Result<Text, Mem> {
     let mut text = Text::new(alloc);
@@ -16,11 +15,12 @@ fn pushed_text(alloc: Global) -> Result<Text, Mem> {
 
 fn texts_are_edited(alloc: Global) -> Result<bool, Mem> {
     let text = pushed_text(alloc)?;
-    if text.as_bytes() != "aéb".as_bytes() || text.len() != 4 {
-        return Ok(false);
-    }
-    let read = text.get(1) == Some(0xc3) && text.get(4).is_none() && !text.is_empty();
-    Ok(read && text.as_str() == "aéb")
+    Ok(
+        text.as_bytes() == "aéb".as_bytes()
+            && text.len() == 4
+            && !text.is_empty()
+            && text.as_str() == "aéb",
+    )
 }
 
 fn texts_are_copied(alloc: Global) -> Result<bool, Mem> {
@@ -38,98 +38,85 @@ fn is_like(alloc: Global, text: &Text, wanted: &str) -> Result<bool, Mem> {
     Ok(text.as_str() == wanted && made.copy()? == *text)
 }
 
+fn grows(alloc: Global, text: &mut Text, wanted: &mut String, letter: char) -> Result<bool, Mem> {
+    text.push(letter)?;
+    wanted.push(letter)?;
+    is_like(alloc, text, wanted.as_str())
+}
+
 fn texts_grow(alloc: Global) -> Result<bool, Mem> {
     let mut text = Text::new(alloc);
     let mut wanted = String::new(alloc);
     for letter in LETTERS.chars() {
-        text.push(letter)?;
-        wanted.push(letter)?;
-        if !is_like(alloc, &text, wanted.as_str())? {
+        if !grows(alloc, &mut text, &mut wanted, letter)? {
             return Ok(false);
         }
     }
     Ok(true)
 }
 
+fn join(text: &mut Text) -> Result<(), Mem> {
+    for more in "vw éx yz.!".split(' ') {
+        text.push_str(more)?;
+    }
+    Ok(())
+}
+
 fn texts_are_joined(alloc: Global) -> Result<bool, Mem> {
     let mut text = Text::from_str(alloc, "abcdefghijklmnopqrstu")?;
-    text.push_str("vw")?;
-    text.push_str("éx")?;
-    text.push_str("yz.!")?;
+    join(&mut text)?;
     is_like(alloc, &text, LETTERS)
 }
 
 fn bytes_are_edited(alloc: Global) -> Result<bool, Mem> {
     let mut data = Bytes::from_vec(Vec::from_slice(alloc, b"\x07")?);
     data.push(8)?;
-    if data.is_empty() || data.len() != 2 || data.get(0) != Some(7) || data.get(2).is_some() {
+    Ok(data.len() == 2 && data.copy()?.as_slice() == b"\x07\x08".as_slice())
+}
+
+fn takes_first(items: &mut Items) -> Result<bool, Mem> {
+    if items.is_empty() {
         return Ok(false);
     }
-    Ok(data.remove(0) == 7 && data.copy()?.as_slice() == b"\x08".as_slice())
-}
-
-// Each row: a number, and whether it is a whole number of 53 bits.
-const WHOLES: &str = "9007199254740991 true
-9007199254740992 false
--9007199254740991 true
--9007199254740992 false
-0 true";
-
-fn is_whole_as_told(row: &str) -> bool {
-    let Some((number, fits)) = row.split_once(" ") else {
-        return false;
-    };
-    let Some(number) = number.parse().ok() else {
-        return false;
-    };
-    match Whole::of(number) {
-        Some(whole) => fits == "true" && whole.get() == number,
-        None => fits == "false",
-    }
-}
-
-fn numbers(alloc: Global) -> Result<Items, Mem> {
-    let mut items = Items::new(alloc);
-    push_numbers(&mut items, &[1, 2])?;
-    Ok(items)
+    let first = items.remove(0)?;
+    Ok(is_int(&first, 1) && items.get(0).is_some_and(|v| is_int(v, 3)))
 }
 
 fn is_edited(items: &mut Items) -> Result<bool, Mem> {
-    if items.is_empty() || items.len() != 2 || items.get(2).is_some() {
+    if items.len() != 2 || items.get(2).is_some() {
         return Ok(false);
     }
     let second = items.replace(1, int(3))?;
-    let first = items.remove(0)?;
-    let right = is_int(&first, 1) && is_int(&second, 2);
-    Ok(right && items.get(0).is_some_and(|v| is_int(v, 3)))
+    Ok(is_int(&second, 2) && takes_first(items)?)
 }
 
 fn lists_are_edited(alloc: Global) -> Result<bool, Mem> {
-    let mut items = numbers(alloc)?;
+    let mut items = list(alloc, "1 2")?;
     is_edited(&mut items)
 }
 
 // Whether a copy stays as it was when the list that it was made of is edited.
 fn list_copies_stay(alloc: Global) -> Result<bool, Mem> {
-    let mut items = numbers(alloc)?;
+    let mut items = list(alloc, "1 2")?;
     let copied = items.copy()?;
     Ok(is_edited(&mut items)? && copied.len() == 2 && copied.get(1).is_some_and(|v| is_int(v, 2)))
 }
 
-fn fields(alloc: Global) -> Result<Doc, Mem> {
-    let mut fields = Doc::new(alloc);
+fn put_fields(alloc: Global, fields: &mut Doc) -> Result<(), Mem> {
     for (name, number) in [("m", 1), ("z", 2), ("a", 3), ("m", 4), ("b", 5), ("z", 6)] {
         fields.put(text(alloc, name)?, int(number))?;
     }
-    Ok(fields)
+    Ok(())
 }
 
-fn names_of(fields: &Doc, alloc: Global) -> Result<Text, Mem> {
-    let mut names = Text::new(alloc);
+fn names_are(fields: &Doc, names: &str) -> bool {
+    let mut wanted = names.split(' ');
     for (name, _) in fields.iter() {
-        names.push_str(name.as_str())?;
+        if wanted.next() != Some(name.as_str()) {
+            return false;
+        }
     }
-    Ok(names)
+    wanted.next().is_none()
 }
 
 fn loses_field(fields: &mut Doc, name: &Text) -> Result<bool, Mem> {
@@ -141,16 +128,35 @@ fn loses_field(fields: &mut Doc, name: &Text) -> Result<bool, Mem> {
     )
 }
 
-fn documents_are_edited(alloc: Global) -> Result<bool, Mem> {
-    let name = text(alloc, "m")?;
-    let mut fields = fields(alloc)?;
+// Whether the fields stand in order, and a copy keeps one that the document loses.
+fn are_fields_right(fields: &mut Doc, name: &Text) -> Result<bool, Mem> {
     let copied = fields.copy()?;
-    Ok(loses_field(&mut fields, &name)? && copied.get(&name).is_some_and(|v| is_int(v, 4)))
+    Ok(
+        !copied.is_empty()
+            && copied.len() == 4
+            && names_are(&copied, "a b m z")
+            && loses_field(fields, name)?
+            && copied.get(name).is_some_and(|v| is_int(v, 4)),
+    )
 }
 
-fn documents_are_sorted(alloc: Global) -> Result<bool, Mem> {
-    let fields = fields(alloc)?;
-    Ok(!fields.is_empty() && fields.len() == 4 && names_of(&fields, alloc)?.as_str() == "abmz")
+fn documents_are_edited(alloc: Global) -> Result<bool, Mem> {
+    let name = text(alloc, "m")?;
+    let mut fields = Doc::new(alloc);
+    put_fields(alloc, &mut fields)?;
+    are_fields_right(&mut fields, &name)
+}
+
+pub(crate) fn are_edits_right(alloc: Global, case: &str) -> Result<bool, Mem> {
+    match case {
+        "of texts" => texts_are_edited(alloc),
+        "of bytes" => bytes_are_edited(alloc),
+        "of lists" => lists_are_edited(alloc),
+        "of documents" => documents_are_edited(alloc),
+        "that a text grows by" => texts_grow(alloc),
+        "that join texts" => texts_are_joined(alloc),
+        _ => Ok(false),
+    }
 }
 
 fn lists_of_names_are_copied(alloc: Global) -> Result<bool, Mem> {
@@ -161,13 +167,16 @@ fn lists_of_names_are_copied(alloc: Global) -> Result<bool, Mem> {
     Ok(first && copied.len() == 1 && copied.get(1).is_none() && !copied.is_empty())
 }
 
-fn faults_are_copied(alloc: Global) -> Result<bool, Mem> {
-    let fault = Fault {
+fn fault(alloc: Global) -> Result<Fault, Mem> {
+    Ok(Fault {
         code: text(alloc, "404")?,
         reason: text(alloc, "no such task")?,
-    };
-    let nothing: Option<Fault> = copy_option(&None)?;
-    Ok(fault.copy()? == fault && nothing.is_none())
+    })
+}
+
+fn faults_are_copied(alloc: Global) -> Result<bool, Mem> {
+    let copied = fault(alloc)?.copy()?;
+    Ok(copied.code.as_str() == "404" && copied.reason.as_str() == "no such task")
 }
 
 fn sort_key(alloc: Global) -> Result<SortKey, PathFault> {
@@ -188,81 +197,20 @@ fn sort_keys_are_copied(alloc: Global) -> Result<bool, PathFault> {
     )
 }
 
-fn edits_are_right(alloc: Global) -> Result<bool, Mem> {
-    Ok(
-        texts_are_edited(alloc)?
-            && texts_are_copied(alloc)?
-            && texts_grow(alloc)?
-            && texts_are_joined(alloc)?
-            && bytes_are_edited(alloc)?
-            && lists_are_edited(alloc)?
-            && list_copies_stay(alloc)?
-            && documents_are_edited(alloc)?
-            && documents_are_sorted(alloc)?,
-    )
+fn options_are_copied(alloc: Global) -> Result<bool, Mem> {
+    let one = Some(text(alloc, "a")?);
+    let nothing: Option<Fault> = copy_option(&None)?;
+    Ok(copy_option(&one)? == one && nothing.is_none())
 }
 
-#[test]
-fn edits_and_copies_are_right(rt: HostRuntime) -> Result<(), Fail> {
-    assert!(rt; edits_are_right(rt.alloc())?);
-    assert!(rt; lists_of_names_are_copied(rt.alloc())?);
-    assert!(rt; faults_are_copied(rt.alloc())?);
-    assert!(rt; sort_keys_are_copied(rt.alloc())?);
-    Ok(())
-}
-
-#[test]
-fn whole_numbers_have_53_bits(rt: HostRuntime) {
-    for row in WHOLES.lines() {
-        assert!(rt; is_whole_as_told(row), "at {row}");
+pub(crate) fn are_copies_right(alloc: Global, case: &str) -> Result<bool, Mem> {
+    match case {
+        "of texts" => texts_are_copied(alloc),
+        "of lists" => list_copies_stay(alloc),
+        "of names" => lists_of_names_are_copied(alloc),
+        "of faults" => faults_are_copied(alloc),
+        "of sort keys" => Ok(sort_keys_are_copied(alloc).unwrap_or(false)),
+        "of options" => options_are_copied(alloc),
+        _ => Ok(false),
     }
-}
-
-// Each row: a path or none, how many parts it has, and the position that its first part is.
-const PATHS: &str = "a 1 -
-a.0.b 3 -
- .$x. 0 -
- 0 -
-. 0 -
-a..b 0 -
-a.a.a.a.a.a.a.a.a.a.a.a.a.a.a.a.a.a.a.a.a.a.a.a.a.a.a.a.a.a.a.a 32 -
-a.a.a.a.a.a.a.a.a.a.a.a.a.a.a.a.a.a.a.a.a.a.a.a.a.a.a.a.a.a.a.a.a 0 -
-0 1 0
-00 1 -
-10.a 2 10
-+1 1 -
-1a 1 -
-18446744073709551615 1 18446744073709551615
-18446744073709551616 1 -";
-
-// How many parts the path has, and the position that its first part is.
-fn path_read(alloc: Global, written: &str) -> Result<(usize, Option<usize>), Mem> {
-    let text = text(alloc, written)?;
-    let Ok(path) = Path::read(alloc, &text) else {
-        return Ok((0, None));
-    };
-    let copied = path.copy()?;
-    match copied.parts().split_first() {
-        Some((first, rest)) => Ok((rest.len().saturating_add(1), first.place())),
-        None => Ok((0, None)),
-    }
-}
-
-fn is_path_as_told(alloc: Global, row: &str) -> Result<bool, Mem> {
-    let Some((rest, place)) = row.rsplit_once(" ") else {
-        return Ok(false);
-    };
-    let Some((written, parts)) = rest.rsplit_once(" ") else {
-        return Ok(false);
-    };
-    let (length, position) = path_read(alloc, written)?;
-    Ok(parts.parse().ok() == Some(length) && place.parse().ok() == position)
-}
-
-#[test]
-fn paths_are_read_and_copied(rt: HostRuntime) -> Result<(), Fail> {
-    for row in PATHS.lines() {
-        assert!(rt; is_path_as_told(rt.alloc(), row)?, "at {row}");
-    }
-    Ok(())
 }

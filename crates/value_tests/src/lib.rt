@@ -2,10 +2,14 @@
 #![tactic(auto)]
 
 #[cfg(test)]
+mod cases;
+#[cfg(test)]
 mod contents;
 #[cfg(test)]
 mod documents;
 #[cfg(test)]
 mod edits;
+#[cfg(test)]
+mod names;
 #[cfg(test)]
 mod values;
