@@ -3,7 +3,7 @@ ghost use Rattle.std.specs.Prelude.{◌≡◌, ◌≢◌, ◌↔◌, ◌∷◌, 
 ghost use Rattle.std.specs.List.{list_all};
 ghost use Rattle.std.specs.Ordering.{eq_by_cmp, nat_cmp};
 ghost use Rattle.std.specs.BTreeSet.{contains};
-ghost use Rattle.map_model.specs.Maps.{at};
+ghost use Rattle.map_model.specs.Maps.{at, collect};
 ghost use Rattle.view_model.specs.Pending.{is_among, holders};
 ghost use Rattle.ejson_value.specs.declared.key.Key.{Key};
 ghost use Rattle.ejson_value.specs.Key.{key_cmp};
@@ -172,6 +172,18 @@ fn push_due(saves: &mut Saves, saved: &Saved, numbers: &BTreeSet<u32>, key: &Key
     }
 }
 
+// The saved copies of those of these documents that only these simulations hold.
+fn due_of(alloc: Global, saved: &Saved, numbers: &BTreeSet<u32>, keys: &[Key]) -> Result<Saves, Mem>
+    ensures { IfOk result (λ saves. saves_of saves ≡
+        collect (λ k. due_at (λ n. contains nat_cmp numbers.now n) (at key_cmp saved.now.entries k)) keys.now) }
+{
+    let mut saves = Saves::new(alloc);
+    for key in keys {
+        push_due(&mut saves, saved, numbers, key)?;
+    }
+    Ok(saves)
+}
+
 // Whether the simulation holds the document.
 fn is_held_by(saved: &Saved, number: u32, key: &Key) -> bool
     ensures { result ≡ is_holder saved.now.entries number key.now }
@@ -277,11 +289,7 @@ impl Originals {
     {
         let numbers = set_of(self.alloc, methods)?;
         let keys = listed(&self.index, self.alloc, &numbers)?;
-        let mut saves = Saves::new(self.alloc);
-        for key in keys.as_slice() {
-            push_due(&mut saves, &self.saved, &numbers, key)?;
-        }
-        Ok(saves)
+        due_of(self.alloc, &self.saved, &numbers, keys.as_slice())
     }
 
     /// These simulations hold no document any more, and one that nobody holds is no longer saved. It

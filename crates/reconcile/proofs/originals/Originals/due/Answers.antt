@@ -1,32 +1,15 @@
-use Rattle.std.proofs.Common.{◌+◌, ◌++◌, List, Option, drop, ap, sym, ◌∙◌, nat_cmp, append-nil}
-use Rattle.std.proofs.lemmas.List.{append_assoc, drop_all}
+use Rattle.std.proofs.Common.{ap, ◌∙◌, nat_cmp}
+use Rattle.std.proofs.lemmas.Result.{IfOk-weaker}
 use Rattle.std.specs.BTreeSet.{contains}
 use Rattle.map_model.specs.Maps.{at, collect}
-use Rattle.value_model.specs.Val.{Entries}
-use Rattle.ejson_value.specs.declared.key.Key.{Key}
 use Rattle.ejson_value.specs.Key.{key_cmp}
-use Rattle.reconcile.specs.Originals.{saves_of, due_at, due, some_save}
-use Rattle.reconcile.proofs.Holding.{due_next, all_due}
+use Rattle.reconcile.specs.Originals.{due_at, due}
+use Rattle.reconcile.proofs.Holding.{all_due}
 use Rattle.reconcile.proofs.originals.Originals.due.Goals as goal
 
-pub loop-key-preserved : goal.loop-key-preserved
-loop-key-preserved c =
-    let f : Key → Option (Option Entries) = λ k. due_at (λ n. contains nat_cmp c.in_ok-numbers.numbers n) (at key_cmp c.args.self.now k) in
-    let keys = c.as_slice-key-items.result.now in
-    let key = c.key-item.result in
-    let rest = drop (c.loop-key.key-index + 1) keys in
-    ap (λ ss. ss ++ collect f rest) (c.in_ok-push_due.ensures ∙ ap (λ (os : List _). saves_of c.loop-key.saves ++ some_save key (due_at (λ n. contains nat_cmp c.in_ok-numbers.numbers n) (at key_cmp os key))) c.self.view_is)
-    ∙ append_assoc (saves_of c.loop-key.saves) (some_save key (f key)) (collect f rest)
-    ∙ ap (λ ss. saves_of c.loop-key.saves ++ ss) (due_next f keys c.loop-key.key-index key c.key-item.is c.loop-key-test.true)
-    ∙ c.loop-key.invariant
-
 pub returns : goal.returns
-returns c =
-    let f : Key → Option (Option Entries) = λ k. due_at (λ n. contains nat_cmp c.in_ok-numbers.numbers n) (at key_cmp c.args.self.now k) in
-    sym (append-nil (saves_of c.loop-key.saves))
-    ∙ ap (λ ks. saves_of c.loop-key.saves ++ collect f ks) (sym (drop_all c.loop-key.key-index c.as_slice-key-items.result.now c.loop-key-test.false))
-    ∙ c.loop-key.invariant
-    ∙ ap (collect f) c.as_slice-key-items.ensures.value
-    ∙ ap (λ os. collect (λ k. due_at (λ n. contains nat_cmp c.in_ok-numbers.numbers n) (at key_cmp os k)) c.in_ok-keys.keys.items) (sym c.self.view_is)
+returns c = IfOk-weaker c.due_of.result _ _ (λ saves is.
+    is
+    ∙ ap (collect (λ k. due_at (λ n. contains nat_cmp c.in_ok-numbers.numbers n) (at key_cmp c.self.inside.saved.entries k))) c.as_slice.ensures.value
     ∙ all_due c.self.inside.index.entries c.args.methods.now c.in_ok-numbers.numbers c.in_ok-keys.keys.items c.self.inside.saved.entries c.in_ok-keys.ensures.rising c.self.invariant.by_key c.self.invariant.held c.self.invariant.listed c.in_ok-numbers.ensures c.in_ok-keys.ensures.listed
-    ∙ ap (due c.args.methods.now) c.self.view_is
+    ∙ ap (due c.args.methods.now) c.self.view_is) c.due_of.ensures
