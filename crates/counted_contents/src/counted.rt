@@ -11,7 +11,7 @@ ghost use Rattle.ejson_value.specs.Changes.{changes_of};
 ghost use Rattle.collection_store.specs.Limits.{bytes_of};
 ghost use Rattle.collection_store.specs.Answered.{AreFor};
 
-use crate::sums::{bytes_after, bytes_with, size_if};
+use crate::sums::{bytes_after, bytes_with, freed, size_if};
 use ejson_value::{Changes, Contents, Doc, Key, Mem, Text, Value, document_size, size};
 use std::alloc::Global;
 use std::marker::Model;
@@ -84,7 +84,7 @@ impl CountedContents {
         self.contents.known();
         let both = bytes_with(self.bytes, document_size(&doc))?;
         let there = self.contents.insert(key, doc)?;
-        self.bytes = both - size_if(there.as_ref());
+        self.bytes = both - freed(there);
         Ok(())
     }
 

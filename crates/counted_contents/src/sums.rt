@@ -16,6 +16,13 @@ pub(crate) fn size_if(doc: Option<&Doc>) -> u64
     }
 }
 
+/// The bytes of a document that goes, none where there is none; 2^64 - 1 where it has more.
+pub(crate) fn freed(doc: Option<Doc>) -> u64
+    ensures { result ≡ capped (size_if doc) }
+{
+    size_if(doc.as_ref())
+}
+
 fn old_bytes(changes: &Changes) -> u64
     ensures { result ≡ capped (old_bytes changes.now) }
 {

@@ -7,7 +7,7 @@ use Rattle.counted_contents.proofs.counted.CountedContents.put.Goals as goal
 pub overflow_sub-self : goal.overflow_sub-self
 overflow_sub-self c =
     let rows = c.self.inside.contents in
-    omega (arith, size-le rows c.args.key c.known.ensures.by_key, c.size_if.ensures, ap size_if c.as_ref.ensures.value, ap size_if c.in_ok-there.ensures.there, c.in_ok-both.ensures.1, c.self.invariant)
+    omega (arith, size-le rows c.args.key c.known.ensures.by_key, c.freed.ensures, ap size_if c.in_ok-there.ensures.there, c.in_ok-both.ensures.1, c.self.invariant)
 
 pub invariant_of-self-2 : goal.invariant_of-self-2
 invariant_of-self-2 c =
@@ -18,8 +18,7 @@ invariant_of-self-2 c =
       bytes-set rows c.args.key (Some c.args.doc) c.known.ensures.by_key,
       c.in_ok-both.ensures.0,
       c.in_ok-both.ensures.1,
-      c.size_if.ensures,
-      ap size_if c.as_ref.ensures.value,
+      c.freed.ensures,
       ap size_if c.in_ok-there.ensures.there,
       c.document_size.ensures,
       c.self.invariant,
