@@ -10,18 +10,6 @@ ghost use Rattle.reconcile.specs.Taking.{IsTaken};
 use crate::fault::ServeFault;
 use ejson_value::{DataMsg, Doc, Mem, Text, Value, copy};
 
-// The field of a document that has no other one.
-fn only_field(fields: &Doc) -> Option<(&Text, &Value)>
-    ensures { IfSome result (λ field. fields.now ≡ (field.0.now, view field.1.now) ∷ []) }
-{
-    let mut all = fields.iter();
-    let field = all.next()?;
-    match all.next() {
-        None => Some(field),
-        Some(_) => None,
-    }
-}
-
 /// The field that the message puts into the document, where it changes no other one.
 pub fn put_alone(message: &DataMsg) -> Option<(&Text, &Value)>
     ensures { IfSome result (λ field. (said message.now).1 ≡ changed ((field.0.now, view field.1.now) ∷ []) []) }
@@ -33,7 +21,7 @@ pub fn put_alone(message: &DataMsg) -> Option<(&Text, &Value)>
             ..
         } => {
             if cleared.is_empty() {
-                only_field(fields)
+                fields.only_field()
             } else {
                 None
             }

@@ -1,24 +1,12 @@
 //! Selectors that name a document by a parameter alone, as `{"_id":{"$param":0}}`.
-ghost use Rattle.std.specs.Prelude.{◌≡◌, ◌∷◌, [], ℕ, List, codes, Ok, Some, IfSome};
+ghost use Rattle.std.specs.Prelude.{◌≡◌, ℕ, List, codes, Ok, Some, IfSome};
 ghost use Rattle.value_model.specs.Val.{int, text, object, field, no_fields};
 ghost use Rattle.ejson_value.specs.View.{view};
 ghost use Rattle.program_steps.specs.Template.{nth, filling};
 ghost use Rattle.stub_simulation.specs.Naming.{naming};
 
-use ejson_value::{Doc, Items, Text, Value};
+use ejson_value::{Items, Text, Value};
 use program_steps::Template;
-
-// The field of a document that has no other one.
-fn only_field(fields: &Doc) -> Option<(&Text, &Value)>
-    ensures { IfSome result (λ field. fields.now ≡ (field.0.now, view field.1.now) ∷ []) }
-{
-    let mut all = fields.iter();
-    let field = all.next()?;
-    match all.next() {
-        None => Some(field),
-        Some(_) => None,
-    }
-}
 
 // The number of the parameter that the value stands for.
 fn parameter_number(value: &Value) -> Option<i64>
@@ -27,7 +15,7 @@ fn parameter_number(value: &Value) -> Option<i64>
     let Value::Object(fields) = value else {
         return None;
     };
-    let (name, value) = only_field(fields)?;
+    let (name, value) = fields.only_field()?;
     let Value::Int(number) = value else {
         return None;
     };
@@ -59,7 +47,7 @@ pub(crate) fn id_named_by<'a>(params: &'a Items, template: &Template) -> Option<
     let Value::Object(fields) = &template.value else {
         return None;
     };
-    let (name, value) = only_field(fields)?;
+    let (name, value) = fields.only_field()?;
     if name.as_str() == "_id" {
         text_parameter(params, parameter_number(value)?)
     } else {
