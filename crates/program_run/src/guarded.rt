@@ -196,6 +196,23 @@ fn without_rules(act: &Act, present: Option<&Doc>) -> Verdict
     }
 }
 
+// What the rules say to the act, where `present` is the document that is there under its id.
+fn verdict_on(
+    alloc: Global,
+    app: Option<&App>,
+    collection: &Text,
+    act: &Act,
+    present: Option<&Doc>,
+) -> Result<Verdict, Mem>
+    requires { is_write act.now ≡ true }
+    ensures { IfOk result (λ v. v ≡ judged (or_none (rules_of (option_copied app.entry) collection.now)) (write_of act.now) (option_copied present.entry)) }
+{
+    match app {
+        Some(app) => judge(alloc, app, collection, act, present),
+        None => Ok(without_rules(act, present)),
+    }
+}
+
 fn verdict(
     alloc: Global,
     app: Option<&App>,
@@ -208,10 +225,7 @@ fn verdict(
 {
     let key = Key::of(collection, id_of(act))?;
     let present = store.contents().get(&key);
-    match app {
-        Some(app) => judge(alloc, app, collection, act, present),
-        None => Ok(without_rules(act, present)),
-    }
+    verdict_on(alloc, app, collection, act, present)
 }
 
 fn with_id(alloc: Global, id: Text) -> Result<Selector, Mem>

@@ -123,20 +123,23 @@ fn told_again(answer: &Value, id: Option<Text>) -> Value
     }
 }
 
-// What the store answers to the operation: what it did, or the error that tells its refusal.
+// What the store answers to the operation: what it did, or the error that tells its refusal. It takes
+// the operation, so that no caller has to drop it.
 fn answer_of(
     alloc: Global,
     store: &mut Store,
-    op: &Op,
+    op: Op,
     room: u64,
 ) -> Result<Result<Reply, Fault>, Mem>
-    ensures does { IfOk result (λ answer. (run : ARun) (next : Applied → ARun) → by_answer store.old.rows run (applied store.old.names store.old.rows op.now room) next ≡ answered_as store.new.rows run next answer) }
+    ensures does { IfOk result (λ answer. (run : ARun) (next : Applied → ARun) → by_answer store.old.rows run (applied store.old.names store.old.rows op room) next ≡ answered_as store.new.rows run next answer) }
     ensures refused { IfOk result (λ answer. IfErr answer (λ fault. store.new ≡ store.old)) }
-    ensures answer { IfOk result (λ answer. IfOk answer (λ reply. IsAnswer (inserted_id op.now) (view reply.answer))) }
+    ensures answer { IfOk result (λ answer. IfOk answer (λ reply. IsAnswer (inserted_id op) (view reply.answer))) }
     ensures names { store.new.names ≡ store.old.names }
     ensures err { OnErr result (store.new ≡ store.old) }
 {
-    match store.apply(op, room) {
+    let applied = store.apply(&op, room);
+    drop(op);
+    match applied {
         Ok(reply) => Ok(Ok(reply)),
         Err(OpFault::Memory) => Err(Mem),
         Err(refusal) => Ok(Err(fault_of(alloc, refusal)?)),
@@ -243,6 +246,18 @@ impl Run {
         over_if(self.next == steps.len())
     }
 
+    // One step more is made, which writes nothing.
+    fn pass(&mut self, alloc: Global, steps: &[ProgramStep]) -> Effect
+        requires left { self.old.next < length steps.now }
+        requires goes_on { self.old.outcome ≡ None }
+        ensures goes { run_of steps.now self.new ≡ gone_on (with_left self.old (drop (suc self.old.next) steps.now)) }
+        ensures nothing { (result.changes ≡ []) × (result.touched ≡ []) }
+        ensures told { option_map outcome_view result.outcome ≡ self.new.outcome }
+    {
+        let outcome = self.go_on(steps);
+        no_effect(alloc, outcome)
+    }
+
     fn end(&mut self, outcome: Outcome)
         ensures ends { (steps left : List AStep) → run_of steps self.new ≡ ended (outcome_view outcome) (with_left self.old left) }
         ensures told { self.new.outcome ≡ Some (outcome_view outcome) }
@@ -296,14 +311,14 @@ impl Run {
         &mut self,
         alloc: Global,
         steps: &[ProgramStep],
-        op: &Op,
+        op: Op,
         ids: Option<Ids>,
         store: &mut Store,
         room: u64,
     ) -> Result<Effect, Mem>
         requires left { self.old.next < length steps.now }
         requires goes_on { self.old.outcome ≡ None }
-        ensures does { IfOk result (λ effect. by_answer store.old.rows (with_left self.old (drop (suc self.old.next) steps.now)) (applied store.old.names store.old.rows op.now room) (λ a. gone_on (with_ids ids (with_left self.old (drop (suc self.old.next) steps.now)))) ≡ stepped_as store.new.rows effect (run_of steps.now self.new)) }
+        ensures does { IfOk result (λ effect. by_answer store.old.rows (with_left self.old (drop (suc self.old.next) steps.now)) (applied store.old.names store.old.rows op room) (λ a. gone_on (with_ids ids (with_left self.old (drop (suc self.old.next) steps.now)))) ≡ stepped_as store.new.rows effect (run_of steps.now self.new)) }
         ensures told { IfOk result (λ effect. option_map outcome_view effect.outcome ≡ self.new.outcome) }
         ensures names { store.new.names ≡ store.old.names }
         ensures run { OnErr result (self.new ≡ self.old) }
@@ -323,18 +338,18 @@ impl Run {
     fn answer(
         &mut self,
         alloc: Global,
-        op: &Op,
+        op: Op,
         ids: Option<Ids>,
         store: &mut Store,
         room: u64,
     ) -> Result<Effect, Mem>
-        ensures does { IfOk result (λ effect. (steps left : List AStep) → by_answer store.old.rows (with_left self.old left) (applied store.old.names store.old.rows op.now room) (λ a. ended (done (Some a.answer)) (with_ids ids (with_left self.old left))) ≡ stepped_as store.new.rows effect (run_of steps self.new)) }
+        ensures does { IfOk result (λ effect. (steps left : List AStep) → by_answer store.old.rows (with_left self.old left) (applied store.old.names store.old.rows op room) (λ a. ended (done (Some a.answer)) (with_ids ids (with_left self.old left))) ≡ stepped_as store.new.rows effect (run_of steps self.new)) }
         ensures told { IfOk result (λ effect. option_map outcome_view effect.outcome ≡ self.new.outcome) }
         ensures names { store.new.names ≡ store.old.names }
         ensures run { OnErr result (self.new ≡ self.old) }
         ensures store { OnErr result (store.new ≡ store.old) }
     {
-        let id = inserted_id(op)?;
+        let id = inserted_id(&op)?;
         match answer_of(alloc, store, op, room)? {
             Ok(reply) => {
                 self.set_ids(ids);
@@ -367,18 +382,14 @@ impl Run {
         ensures store { OnErr result (store.new ≡ store.old) }
     {
         match plan {
-            Plan::GoesOn => {
-                let outcome = self.go_on(steps);
-                Ok(no_effect(alloc, outcome))
-            }
+            Plan::GoesOn => Ok(self.pass(alloc, steps)),
             Plan::Unblocks => {
                 self.unblock();
-                let outcome = self.go_on(steps);
-                Ok(no_effect(alloc, outcome))
+                Ok(self.pass(alloc, steps))
             }
             Plan::Ends(outcome) => self.end_with(alloc, outcome),
-            Plan::Makes(op, ids) => self.make(alloc, steps, &op, ids, store, room),
-            Plan::Answers(op, ids) => self.answer(alloc, &op, ids, store, room),
+            Plan::Makes(op, ids) => self.make(alloc, steps, op, ids, store, room),
+            Plan::Answers(op, ids) => self.answer(alloc, op, ids, store, room),
         }
     }
 

@@ -16,7 +16,7 @@ returns-in-Err-clause-does c =
     let self = c.args.self.now in
     let store = c.args.store.now in
     failed_does c.end_with.result c.answer_of.new.store.rows self c.end_with.new.self c.in-Err.fault
-    (λ left. by_answer store.rows (with_left self left) (applied store.names store.rows c.args.op.now c.args.room) (λ a. ended (done (Some a.answer)) (with_ids c.args.ids (with_left self left))))
+    (λ left. by_answer store.rows (with_left self left) (applied store.names store.rows c.args.op c.args.room) (λ a. ended (done (Some a.answer)) (with_ids c.args.ids (with_left self left))))
     c.end_with.ensures.ends c.end_with.ensures.nothing
     (λ left. c.in_ok-reply.ensures.does (with_left self left) (λ a. ended (done (Some a.answer)) (with_ids c.args.ids (with_left self left)))
     ∙ ap (λ (r : Result Reply Fault). answered_as c.answer_of.new.store.rows (with_left self left) (λ a. ended (done (Some a.answer)) (with_ids c.args.ids (with_left self left))) r) c.in-Err.is)
