@@ -149,6 +149,22 @@ fn run_lines(
     Ok(None)
 }
 
+// Runs the lines in this world. It takes the world, so that no caller has to drop it.
+fn run_world(
+    alloc: Global,
+    mut world: World,
+    lines: &[u8],
+    output: &mut Vec<u8>,
+) -> Result<Option<u32>, Mem>
+    requires { length lines.now ≤ input_limit }
+    ensures text { OnOk result (output.new.items ≡ output.old.items ++ all_bytes (printed world (events_of (lines_in lines.now)))) }
+    ensures bad { IfOk result (λ bad. bad ≡ bad_line 2 (lines_in lines.now)) }
+    ensures events { OnOk result (AreEvents (events_of (lines_in lines.now))) }
+{
+    let mut scratch = Scratch::new(alloc);
+    run_lines(alloc, &mut world, lines, &mut scratch, output)
+}
+
 // Runs the lines of an application.
 fn run_app(alloc: Global, app: &App, lines: &[u8], output: &mut Vec<u8>) -> Result<Option<u32>, Mem>
     requires short { length lines.now ≤ input_limit }
@@ -157,9 +173,8 @@ fn run_app(alloc: Global, app: &App, lines: &[u8], output: &mut Vec<u8>) -> Resu
     ensures bad { IfOk result (λ bad. bad ≡ bad_line 2 (lines_in lines.now)) }
     ensures events { OnOk result (AreEvents (events_of (lines_in lines.now))) }
 {
-    let mut scratch = Scratch::new(alloc);
-    let mut world = World::new(alloc, app)?;
-    run_lines(alloc, &mut world, lines, &mut scratch, output)
+    let world = World::new(alloc, app)?;
+    run_world(alloc, world, lines, output)
 }
 
 // Runs an input up to its first bad line, and answers the number of that.
