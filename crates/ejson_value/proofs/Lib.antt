@@ -1,3 +1,4 @@
+pub mod Words
 pub mod Walks
 pub mod PutAll
 pub mod Branching

@@ -1,4 +1,5 @@
 pub mod Held
+pub mod Padding
 pub mod View
 pub mod Falls
 pub mod Entries

@@ -1,11 +1,13 @@
 //! Texts.
-ghost use Rattle.std.specs.Prelude.{◌≡◌, ◌+◌, ◌++◌, ◌==◌, ◌↔◌, ◌≤◌, [], length, take, nat_eq, string_bytes, encode_utf8, refl, IsTrue, IsFalse, IsSome, IfSome, IfOk, OnOk, OnErr};
+ghost use Rattle.std.specs.Prelude.{◌≡◌, ◌+◌, ◌++◌, ◌==◌, ◌↔◌, ◌≤◌, [], drop, length, take, nat_eq, string_bytes, encode_utf8, refl, Decides, IsTrue, IsFalse, IsSome, IfSome, IfOk, OnOk, OnErr};
 ghost use Rattle.std.specs.Ordering.{nat_cmp, as_partial_cmp};
 ghost use Rattle.std.specs.Cmp.Lexicographic.{pointwise, slice_cmp};
 ghost use Rattle.std.specs.Cmp.{partial_order_from_own_ties};
 ghost use Rattle.std.specs.Cmp.Rules.{comparing};
 ghost use Rattle.std.proofs.Common.{rules};
+ghost use Rattle.std.specs.Slice.Scan.{big_endian};
 ghost use Rattle.ejson_value.specs.Held.{held_bytes};
+ghost use lib.Lanes.{chunk};
 
 use crate::list::Copied;
 use crate::memory::Mem;
@@ -29,7 +31,7 @@ enum Held {
     Long(String),
 }
 
-// A text of at most MAX_SHORT bytes.
+// A text of at most MAX_SHORT bytes. Behind them are zeros, so that words of all its bytes tell its order.
 #[derive(Drop)]
 struct Short {
     len: u8,
@@ -48,21 +50,81 @@ impl Model for Text {
 
 impl Model for Short {
     ghost use Rattle.std.specs.Prelude.{◌≤◌, List, ℕ, take, IsUtf8};
+    ghost use Rattle.ejson_value.specs.Padding.{HasZerosFrom};
     ghost use Rattle.ejson_value.specs.declared.text.TheConstants.{MAX_SHORT};
 
     ghost Value = { List ℕ };
 
     ghost view = { λ s. take s.len s.bytes };
 
-    ghost invariant = { λ s. (s.len ≤ MAX_SHORT) × ∥ IsUtf8 (take s.len s.bytes) ∥₁ };
+    ghost invariant = { λ s. (s.len ≤ MAX_SHORT) × ∥ IsUtf8 (take s.len s.bytes) ∥₁ × HasZerosFrom s.len s.bytes };
 }
 
 // Writes the source over the bytes from this place on.
 fn write_at(bytes: &mut [u8; MAX_SHORT], start: usize, source: &[u8])
     requires { start + length source.now ≤ MAX_SHORT }
-    ensures { take (start + length source.now) bytes.new ≡ take start bytes.old ++ source.now }
+    ensures written { take (start + length source.now) bytes.new ≡ take start bytes.old ++ source.now }
+    ensures behind { drop (start + length source.now) bytes.new ≡ drop (start + length source.now) bytes.old }
 {
     bytes[start..start + source.len()].copy_from_slice(source);
+}
+
+// The number that the eight bytes from this place on spell, the greatest first.
+#[inline(always)]
+fn word(bytes: &[u8; MAX_SHORT], at: usize) -> u64
+    requires { at + 8 ≤ MAX_SHORT }
+    ensures { result ≡ big_endian 0 (chunk at 8 bytes.now) }
+{
+    u64::from_be_bytes([
+        bytes[at],
+        bytes[at + 1],
+        bytes[at + 2],
+        bytes[at + 3],
+        bytes[at + 4],
+        bytes[at + 5],
+        bytes[at + 6],
+        bytes[at + 7],
+    ])
+}
+
+// The order of all bytes.
+#[inline(always)]
+fn order(left: &[u8; MAX_SHORT], right: &[u8; MAX_SHORT]) -> Ordering
+    ensures { result ≡ slice_cmp nat_cmp left.now right.now }
+{
+    let (one, two) = (word(left, 0), word(right, 0));
+    if one != two {
+        return one.cmp(&two);
+    }
+    order_behind(left, right)
+}
+
+// The order of the bytes behind the first eight.
+fn order_behind(left: &[u8; MAX_SHORT], right: &[u8; MAX_SHORT]) -> Ordering
+    ensures { result ≡ slice_cmp nat_cmp (drop 8 left.now) (drop 8 right.now) }
+{
+    let (one, two) = (word(left, 8), word(right, 8));
+    if one != two {
+        return one.cmp(&two);
+    }
+    let (one, two) = (word(left, 16), word(right, 16));
+    if one != two {
+        return one.cmp(&two);
+    }
+    word(left, 22).cmp(&word(right, 22))
+}
+
+// Whether all bytes are the same.
+#[inline(always)]
+fn is_same(left: &[u8; MAX_SHORT], right: &[u8; MAX_SHORT]) -> bool
+    ensures { Decides result (left.now ≡ right.now) }
+{
+    if word(left, 0) != word(right, 0) {
+        return false;
+    }
+    (word(left, 8) == word(right, 8))
+        & (word(left, 16) == word(right, 16))
+        & (word(left, 22) == word(right, 22))
 }
 
 impl Short {
@@ -108,6 +170,27 @@ impl Short {
         write_at(&mut self.bytes, len, more.as_bytes());
         self.len = (len + more.len()) as u8;
         true
+    }
+
+    #[inline(always)]
+    fn order(&self, other: &Short) -> Ordering
+        ensures { result ≡ slice_cmp nat_cmp self.now other.now }
+    {
+        let bytes = order(&self.bytes, &other.bytes);
+        if bytes.is_eq() {
+            return self.len.cmp(&other.len);
+        }
+        bytes
+    }
+
+    #[inline(always)]
+    fn is_same(&self, other: &Short) -> bool
+        ensures { Decides result (self.now ≡ other.now) }
+    {
+        if self.len != other.len {
+            return false;
+        }
+        is_same(&self.bytes, &other.bytes)
     }
 
     fn copy(&self) -> Short
@@ -290,8 +373,12 @@ impl PartialEq for Text {
 
     ghost laws = { Prim.search (comparing, rules) };
 
+    #[inline(always)]
     fn eq(&self, other: &Text) -> bool {
-        self.as_str() == other.as_str()
+        match (&self.inner, &other.inner) {
+            (Held::Short(one), Held::Short(other)) => one.is_same(other),
+            _ => self.as_str() == other.as_str(),
+        }
     }
 }
 
@@ -318,8 +405,12 @@ impl Ord for Text {
 
     ghost matches_eq = { Prim.search (comparing, rules) };
 
+    #[inline(always)]
     fn cmp(&self, other: &Text) -> Ordering {
-        self.as_str().cmp(other.as_str())
+        match (&self.inner, &other.inner) {
+            (Held::Short(one), Held::Short(other)) => one.order(other),
+            _ => self.as_str().cmp(other.as_str()),
+        }
     }
 }
 
