@@ -21,6 +21,8 @@ use Rattle.value_model.specs.Valid.{IsDocument}
 use Rattle.ejson_value.specs.ChangeLaws.{AllFit, HaveDistinctKeys}
 use Rattle.ejson_value.specs.Rows.{Rows, AreRows, AreDocuments-put}
 use Rattle.ejson_value.specs.Changes.{changes_of, has_new}
+use Rattle.ejson_value.specs.declared.memory.Mem.{Mem}
+use Rattle.std.specs.Prelude.{Result, Ok, IfOk}
 use Rattle.ejson_value.proofs.Places.{lt_of}
 use Rattle.std.proofs.lemmas.List.Elements.{All-head, All-tail}
 
@@ -43,6 +45,19 @@ nothing (Some doc) e there = cc
 -- a document put keeps what contents keep
 pub AreRows-written : (old new : Rows) (key : Key) (doc : Entries) → new ≡ insert_entry key_cmp old key doc → AreRows old → IsDocument doc → AreRows new
 AreRows-written old new key doc is rows one = subst AreRows (sym is) (record { by_key = sorted-put key_order old key doc rows.by_key; documents = AreDocuments-put old key doc rows.documents one })
+
+-- contents with a document put where there was none keep what they kept
+pub AreRows-put_new : (b : Bool) (old new : Rows) (key : Key) (doc : Entries) → new ≡ (if b then insert_entry key_cmp old key doc else old) → AreRows old → IsDocument doc → AreRows new
+AreRows-put_new true old new key doc is rows one = AreRows-written old new key doc is rows one
+AreRows-put_new false old new key doc is rows one = subst AreRows (sym is) rows
+
+-- what is said of a place that was found, or wasn't
+pub told_new : (said : Result Bool Mem) (found : Option Entries) → said ≡ Ok true → found ≡ None → IfOk said (λ new. new ≡ is_none found)
+told_new said found is none = subst (λ (r : Result Bool Mem). IfOk r (λ new. new ≡ is_none found)) (sym is) (ap is_none (sym none))
+
+pub told_there : (said : Result Bool Mem) (found : Option Entries) → said ≡ Ok false → IsSome found → IfOk said (λ new. new ≡ is_none found)
+told_there said (Some doc) is there = subst (λ (r : Result Bool Mem). IfOk r (λ new. new ≡ is_none (Some doc))) (sym is) refl
+told_there said None is there = cc
 
 at_either : (b : Bool) (first second : Rows) (k : Key) (o : Option Entries) → at key_cmp first k ≡ o → at key_cmp (cond b first second) k ≡ cond b o (at key_cmp second k)
 at_either true first second k o e = e

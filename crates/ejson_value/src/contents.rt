@@ -1,5 +1,5 @@
 //! Contents: documents by collection and id, and changes of them.
-ghost use Rattle.std.specs.Prelude.{◌≡◌, ◌==◌, ◌++◌, ◌∷◌, [], length, option_map, Some, None, IsSome, IfOk, OnOk, OnErr};
+ghost use Rattle.std.specs.Prelude.{◌≡◌, ◌==◌, ◌++◌, ◌∷◌, [], length, option_map, is_none, Some, None, IsSome, IfOk, OnOk, OnErr, if◌then◌else◌};
 ghost use Rattle.std.specs.Option.{option_copied};
 ghost use Rattle.std.specs.Map.{keys_of};
 ghost use Rattle.map_model.specs.Maps.{at, set, IsSorted};
@@ -19,7 +19,7 @@ use crate::text::Text;
 use crate::value::{Doc, Value};
 use std::alloc::Global;
 use std::collections::BTreeMap;
-use std::collections::btree_map::{Iter, Range};
+use std::collections::btree_map::{Entry, Iter, Range};
 use std::default::Emptied;
 use std::marker::Model;
 
@@ -130,6 +130,22 @@ impl Contents {
     {
         drop(self.insert(key, doc)?);
         Ok(())
+    }
+
+    /// Puts the document at this key, unless one is there, and says whether it did.
+    pub fn put_new(&mut self, key: Key, doc: Doc) -> Result<bool, Mem>
+        ensures told { IfOk result (λ new. new ≡ is_none (at key_cmp self.old key)) }
+        ensures put { OnOk result (self.new ≡ if is_none (at key_cmp self.old key) then set key_cmp self.old key (Some doc) else self.old) }
+        ensures err { OnErr result (self.new ≡ self.old) }
+    {
+        doc.known();
+        match self.docs.entry(key)? {
+            Entry::Vacant(place) => {
+                place.insert(doc);
+                Ok(true)
+            }
+            Entry::Occupied(_) => Ok(false),
+        }
     }
 
     /// Puts the document in place of the one at this key, which takes no memory.
