@@ -1,3 +1,4 @@
+mod Special
 pub mod Words
 pub mod Walks
 pub mod PutAll

@@ -1,5 +1,5 @@
 //! How large and how deep values are.
-ghost use Rattle.std.specs.Prelude.{◌≡◌, ◌∷◌, [], ◌+◌, ◌≤◌, length, decimal};
+ghost use Rattle.std.specs.Prelude.{◌≡◌, ◌∷◌, [], ◌+◌, ◌≤◌, ◌==◌, length, slice_index, decimal};
 ghost use Rattle.std.specs.Fmt.{signed_decimal};
 ghost use Rattle.value_model.specs.Val.{object, vals_of, fields_of};
 ghost use Rattle.value_model.specs.Depth.{depth, vals_depth, fields_depth};
@@ -92,11 +92,22 @@ impl Doc {
         let Some((first, _)) = fields.next() else {
             return false;
         };
+        if !begins_with_dollar(first.as_str()) {
+            return false;
+        }
         let Some((second, _)) = fields.next() else {
             return is_special_name(first.as_str());
         };
         is_special_pair(first.as_str(), second.as_str())
     }
+}
+
+// The first name of each special form begins with `$`.
+fn begins_with_dollar(name: &str) -> bool
+    ensures { result ≡ (slice_index name.now 0 == 36) }
+{
+    let bytes = name.as_bytes();
+    !bytes.is_empty() && bytes[0] == b'$'
 }
 
 fn is_special_name(name: &str) -> bool
