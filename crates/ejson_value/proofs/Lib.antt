@@ -8,3 +8,4 @@ pub mod Places
 pub mod Moves
 pub mod Replacing
 pub mod Sizes
+pub mod Built

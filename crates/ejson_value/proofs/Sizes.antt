@@ -13,7 +13,7 @@ use Rattle.value_model.specs.Order.{text_cmp}
 use Rattle.value_model.specs.Doc.{get, put, remove}
 use Rattle.value_model.specs.Size.{text_size, size, fields_size}
 use Rattle.ejson_value.specs.Places.{IsBelow}
-use Rattle.ejson_value.specs.Measure.{capped}
+use Rattle.ejson_value.specs.Measure.{capped, Counts}
 
 module _ (name : List ℕ) where
   -- names that are behind a name that is behind this one are behind it
@@ -77,16 +77,19 @@ module _ (name : List ℕ) where
       ]
       is
 
--- counts that stop at the greatest number, of so many bytes of which some go and others come
-pub gone_within : (all left gone before counted : ℕ) → left + gone ≡ all → before ≡ capped all → counted ≡ capped gone → before < 2 ^ 64 - 1 → counted ≤ before
-gone_within all left gone before counted parts is goes less = omega arith
+pub capped_counts : (n count : ℕ) → count ≡ capped n → Counts count n
+capped_counts n count is = λ less. omega (arith, is, less)
 
-pub gone_known : (all left gone before counted : ℕ) → left + gone ≡ all → before ≡ capped all → counted ≡ capped gone → before < 2 ^ 64 - 1 → capped left ≡ capped (before - counted + 0)
-gone_known all left gone before counted parts is goes less = omega arith
+-- counts that stop at the greatest number, where a field goes, or its value does and another comes
+pub field_within : (all left field counted : ℕ) → left + field ≡ all → Counts counted all → counted < 2 ^ 64 - 1 → field ≤ counted
+field_within all left field counted parts known less = omega (arith, known less)
 
-pub part_within : (all left name gone before counted : ℕ) → left + (name + gone) ≡ all → before ≡ capped all → counted ≡ capped gone → before < 2 ^ 64 - 1 → counted ≤ before
-part_within all left name gone before counted parts is goes less = omega arith
+pub field_gone : (all left field before after : ℕ) → left + field ≡ all → Counts before all → (after < 2 ^ 64 - 1 → before < 2 ^ 64 - 1) → (before < 2 ^ 64 - 1 → after + field ≡ before) → Counts after left
+field_gone all left field before after parts known was goes less = omega (arith, known (was less), goes (was less))
 
-pub swap_known : (all left name gone come after before counted added : ℕ) → left + (name + gone) ≡ all → after + gone ≡ all + come
-    → before ≡ capped all → counted ≡ capped gone → added ≡ capped come → before < 2 ^ 64 - 1 → capped after ≡ capped (before - counted + added)
-swap_known all left name gone come after before counted added parts swap is goes comes less = omega arith
+pub value_within : (all left name gone before counted : ℕ) → left + (name + gone) ≡ all → Counts before all → counted ≡ capped gone → before < 2 ^ 64 - 1 → counted ≤ before
+value_within all left name gone before counted parts known goes less = omega (arith, known less)
+
+pub value_swapped : (all left name gone come after before counted added result : ℕ) → left + (name + gone) ≡ all → after + gone ≡ all + come
+    → Counts before all → counted ≡ capped gone → added ≡ capped come → before < 2 ^ 64 - 1 → result ≡ capped (before - counted + added) → Counts result after
+value_swapped all left name gone come after before counted added result parts swap known goes comes known_before is less = omega (arith, known known_before)

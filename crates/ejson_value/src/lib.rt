@@ -2,6 +2,7 @@
 #![tactic(auto)]
 
 mod branches;
+mod building;
 mod bytes;
 mod change;
 mod contents;
@@ -25,6 +26,7 @@ mod value;
 mod whole;
 
 pub use branches::some_branch;
+pub use building::{DocBuilder, ItemsBuilder};
 pub use bytes::Bytes;
 pub use change::{Change, Publish};
 pub use contents::Contents;

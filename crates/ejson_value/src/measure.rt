@@ -168,13 +168,16 @@ pub(crate) fn with_name(name: &Text, bytes: u64) -> u64
     text_size(name).saturating_add(2).saturating_add(bytes)
 }
 
+#[cycle(measuring)]
 pub(crate) fn field_size(name: &Text, value: &Value) -> u64
     ensures { result ≡ capped (2 + text_size name.now + size (view value.now)) }
 {
     with_name(name, size(value))
 }
 
-/// How many bytes the document's EJSON text has, 2^64 - 1 where it has more. It looks at no value.
+/// How many bytes the document's EJSON text has, 2^64 - 1 where it has more. It looks at no value of a document whose
+/// fields are counted.
+#[cycle(measuring)]
 pub fn document_size(doc: &Doc) -> u64
     ensures { result ≡ capped (size (object (fields_of doc.now))) }
 {

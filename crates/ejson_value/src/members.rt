@@ -1,12 +1,12 @@
 //! The fields of a document, in a row or a table, with how many bytes they have.
-ghost use Rattle.std.specs.Prelude.{◌≡◌, ◌+◌, ◌-◌, ◌≤◌, ◌<◌, ◌^◌, [], length, Some, option_map, IfOk, OnOk, OnErr};
+ghost use Rattle.std.specs.Prelude.{◌≡◌, ◌==◌, ◌+◌, ◌-◌, ◌≤◌, ◌<◌, ◌^◌, [], length, Some, option_map, IfOk, OnOk, OnErr};
 ghost use Rattle.std.specs.List.Sorted.{IsStrictlySortedBy};
 ghost use Rattle.std.specs.Map.{keys_of};
 ghost use Rattle.value_model.specs.Val.{fields_of};
 ghost use Rattle.value_model.specs.Valid.{IsDocument};
 ghost use Rattle.value_model.specs.Order.{text_cmp};
 ghost use Rattle.value_model.specs.Doc.{get, put, remove};
-ghost use Rattle.value_model.specs.Size.{fields_size};
+ghost use Rattle.value_model.specs.Size.{text_size, size, fields_size};
 ghost use Rattle.ejson_value.specs.View.{view, entries, held_fields};
 ghost use Rattle.ejson_value.specs.Measure.{capped};
 
@@ -25,6 +25,9 @@ use std::slice;
 // The most fields that stand in a row.
 const MAX_ROW: usize = 64;
 
+// In place of a number of bytes that isn't known.
+const UNKNOWN: u64 = u64::MAX;
+
 // The fields of a document: a row while they are few, for good a table once there were more.
 #[derive(Drop)]
 #[cycle(value)]
@@ -33,8 +36,8 @@ pub(crate) enum Members {
     Many(Table),
 }
 
-// The fields of a document and how many bytes they have as EJSON, each with its colon and a comma, 2^64 - 1 where they
-// have more. A contract sees the fields.
+// The fields of a document and how many bytes they have as EJSON, each with its colon and a comma, 2^64 - 1 where that
+// isn't known: they were never counted, or have more. A contract sees the fields.
 #[derive(Drop)]
 #[cycle(value)]
 pub(crate) struct Measured {
@@ -67,12 +70,12 @@ impl Model for Measured {
 
     ghost use Rattle.value_model.specs.Depth.{fields_depth};
     ghost use Rattle.value_model.specs.Size.{fields_size};
-    ghost use Rattle.ejson_value.specs.Measure.{capped};
+    ghost use Rattle.ejson_value.specs.Measure.{Counts};
     ghost use Rattle.ejson_value.specs.View.{held_fields};
 
     ghost view = { λ a. held_fields a.members };
 
-    ghost invariant = { λ a. a.bytes ≡ capped (fields_size (fields_of (held_fields a.members))) };
+    ghost invariant = { λ a. Counts a.bytes (fields_size (fields_of (held_fields a.members))) };
 
     ghost size = { λ es. 3 * fields_depth (fields_of es) + 2 };
 
@@ -230,6 +233,7 @@ impl Members {
     }
 
     // How many bytes the fields have, counted one by one.
+    #[cycle(measuring)]
     fn counted(&self) -> u64
         ensures { result ≡ capped (fields_size (fields_of (held_fields self.now))) }
     {
@@ -241,17 +245,31 @@ impl Members {
     }
 }
 
-// How many bytes the fields have, which had so many before some went and others came. Where those were too many to be
-// told, the fields are counted anew.
-fn bytes_after(fields: &Members, before: u64, gone: u64, come: u64) -> u64
-    requires within { before < 2 ^ 64 - 1 → gone ≤ before }
-    requires known { before < 2 ^ 64 - 1 → capped (fields_size (fields_of (held_fields fields.now))) ≡ capped (before - gone + come) }
-    ensures { result ≡ capped (fields_size (fields_of (held_fields fields.now))) }
+// How many bytes the value has, which goes.
+fn gone(value: Value) -> u64
+    ensures { result ≡ capped (size (view value)) }
 {
-    if before == u64::MAX {
-        fields.counted()
+    size(&value)
+}
+
+// How many bytes there are, of so many of which some went and others came, 2^64 - 1 where there are more.
+fn bytes_after(before: u64, gone: u64, come: u64) -> u64
+    requires { gone ≤ before }
+    ensures { result ≡ capped (before - gone + come) }
+{
+    (before - gone).saturating_add(come)
+}
+
+// How many bytes are left of so many where this field goes, which has no more, and that isn't known where it wasn't.
+fn bytes_without(bytes: u64, name: &Text, value: &Value) -> u64
+    requires { bytes < 2 ^ 64 - 1 → 2 + text_size name.now + size (view value.now) ≤ bytes }
+    ensures unknown { result < 2 ^ 64 - 1 → bytes < 2 ^ 64 - 1 }
+    ensures left { bytes < 2 ^ 64 - 1 → result + (2 + text_size name.now + size (view value.now)) ≡ bytes }
+{
+    if bytes == UNKNOWN {
+        UNKNOWN
     } else {
-        (before - gone).saturating_add(come)
+        bytes - field_size(name, value)
     }
 }
 
@@ -263,6 +281,16 @@ impl Measured {
         Measured {
             members: Members::Few(Row::new(alloc)),
             bytes: 0,
+        }
+    }
+
+    // No fields. Those that come aren't counted.
+    pub(crate) fn uncounted(alloc: Global) -> Measured
+        ensures { result ≡ [] }
+    {
+        Measured {
+            members: Members::Few(Row::new(alloc)),
+            bytes: UNKNOWN,
         }
     }
 
@@ -285,16 +313,37 @@ impl Measured {
         self.members.iter()
     }
 
+    // How many bytes the fields have, counted where that isn't known.
+    #[cycle(measuring)]
     pub(crate) fn bytes(&self) -> u64
         ensures { result ≡ capped (fields_size (fields_of self.now)) }
     {
-        self.bytes
+        if self.bytes == UNKNOWN {
+            self.members.counted()
+        } else {
+            self.bytes
+        }
+    }
+
+    // Whether it is known how many bytes the fields have.
+    pub(crate) fn is_counted(&self) -> bool {
+        self.bytes != UNKNOWN
+    }
+
+    pub(crate) fn is_empty(&self) -> bool
+        ensures { result ≡ (length self.now == 0) }
+    {
+        self.members.len() == 0
     }
 
     pub(crate) fn put(&mut self, name: Text, value: Value) -> Result<(), Mem>
         ensures ok { OnOk result (self.new ≡ put self.old name (view value)) }
         ensures err { OnErr result (self.new ≡ self.old) }
     {
+        if self.bytes == UNKNOWN {
+            drop(self.members.put(name, value)?);
+            return Ok(());
+        }
         self.members.known();
         let come = size(&value);
         let added = with_name(&name, come);
@@ -305,7 +354,7 @@ impl Measured {
                 Ok(())
             }
             Some(there) => {
-                self.bytes = bytes_after(&self.members, self.bytes, size(&there), come);
+                self.bytes = bytes_after(self.bytes, gone(there), come);
                 Ok(())
             }
         }
@@ -318,7 +367,7 @@ impl Measured {
         match self.members.remove(name) {
             None => None,
             Some(value) => {
-                self.bytes = bytes_after(&self.members, self.bytes, field_size(name, &value), 0);
+                self.bytes = bytes_without(self.bytes, name, &value);
                 Some(value)
             }
         }
@@ -330,23 +379,24 @@ impl Measured {
         self.members.known()
     }
 
-    // Copies of the fields. A row has room for so many more.
+    // Copies of the fields, which are counted. A row has room for so many more.
     pub(crate) fn copies(&self, more: usize) -> Result<Measured, Mem>
         ensures { IfOk result (λ copies. copies ≡ self.now) }
     {
         Ok(Measured {
             members: self.members.copies(more)?,
-            bytes: self.bytes,
+            bytes: self.bytes(),
         })
     }
 
-    // Copies of the fields but for this one. A row has room for just these.
+    // Copies of the fields but for this one, which are counted. A row has room for just these.
     pub(crate) fn without(&self, name: &Text, value: &Value) -> Result<Measured, Mem>
         requires { get self.now name.now ≡ Some (view value.now) }
         ensures { IfOk result (λ copies. copies ≡ remove self.now name.now) }
     {
-        let members = self.members.without(name)?;
-        let bytes = bytes_after(&members, self.bytes, field_size(name, value), 0);
-        Ok(Measured { members, bytes })
+        Ok(Measured {
+            members: self.members.without(name)?,
+            bytes: bytes_without(self.bytes(), name, value),
+        })
     }
 }

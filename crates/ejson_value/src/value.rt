@@ -178,7 +178,7 @@ fn make_room(items: &mut Vec<Value>) -> Result<(), Mem>
 }
 
 // Puts the value behind the others, with room for twice as many where there is none.
-fn put_behind(items: &mut Vec<Value>, value: Value) -> Result<(), Mem>
+pub(crate) fn put_behind(items: &mut Vec<Value>, value: Value) -> Result<(), Mem>
     ensures ok { OnOk result (views items.new.items ≡ views items.old.items ++ view value ∷ []) }
     ensures err { OnErr result (views items.new.items ≡ views items.old.items) }
 {
@@ -222,6 +222,20 @@ impl Items {
         ensures { result ≡ [] }
     {
         Items { alloc, items: None }
+    }
+
+    // A list of these values.
+    pub(crate) fn of(alloc: Global, items: Vec<Value>) -> Result<Items, Mem>
+        requires { AreValues (vals_of (views items.items)) }
+        ensures { IfOk result (λ list. list ≡ views items.items) }
+    {
+        if items.is_empty() {
+            return Ok(Items::new(alloc));
+        }
+        Ok(Items {
+            alloc,
+            items: Some(Arc::new(alloc, items)?),
+        })
     }
 
     /// How many values it has.
@@ -410,7 +424,7 @@ impl Doc {
     }
 
     // A document of these fields.
-    fn of(alloc: Global, fields: Measured) -> Result<Doc, Mem>
+    pub(crate) fn of(alloc: Global, fields: Measured) -> Result<Doc, Mem>
         ensures { IfOk result (λ doc. doc ≡ fields) }
     {
         fields.known();
@@ -448,6 +462,7 @@ impl Doc {
     }
 
     // How many bytes its fields have as EJSON, each with its colon and a comma, 2^64 - 1 where they have more.
+    #[cycle(measuring)]
     pub(crate) fn bytes(&self) -> u64
         ensures { result ≡ capped (fields_size (fields_of self.now)) }
     {
@@ -514,14 +529,26 @@ impl Doc {
         Ok(there)
     }
 
-    /// A copy of this document without the field of this name, in just the room that it needs.
+    /// A document equal to this one, whose bytes are counted for those who ask. It copies the fields only where they
+    /// aren't.
+    pub fn counted(&self) -> Result<Doc, Mem>
+        ensures { IfOk result (λ doc. doc ≡ self.now) }
+    {
+        match &self.fields {
+            None => Ok(Doc::new(self.alloc)),
+            Some(fields) if fields.is_counted() => self.copy(),
+            Some(fields) => Doc::of(self.alloc, fields.copies(0)?),
+        }
+    }
+
+    /// A copy of this document without the field of this name, in just the room that it needs. Its bytes are counted.
     pub fn without(&self, name: &Text) -> Result<Doc, Mem>
         ensures { IfOk result (λ doc. doc ≡ remove self.now name.now) }
     {
         match &self.fields {
             None => Ok(Doc::new(self.alloc)),
             Some(fields) => match fields.get(name) {
-                None => self.copy(),
+                None => self.counted(),
                 Some(value) => Doc::of(self.alloc, fields.without(name, value)?),
             },
         }

@@ -1,4 +1,4 @@
-use Rattle.std.proofs.Common.{Ordering, nat_cmp, is_eq, ◌∙◌, sym, ap, ap₂, arith}
+use Rattle.std.proofs.Common.{Ordering, nat_cmp, ◌∙◌, sym, ap, ap₂, arith}
 use Rattle.std.specs.Ordering.{ordering_then}
 use Rattle.std.specs.Cmp.Lexicographic.{slice_cmp}
 use Rattle.ejson_value.proofs.Words.{filled_up, tied_first, decided_first}

@@ -8,4 +8,4 @@ pub returns-in-None-get : goal.returns-in-None-get
 returns-in-None-get c =
     let held = c.deref.ensures ∙ (ap (λ o. doc_fields o) (sym c.in-Some.is) ∙ c.self.view_is) in
     let none = subst (λ es. get es c.args.name.now ≡ None) held (sym c.in-None-get.ensures) in
-    subst (λ es. IfOk c.copy.result (λ doc. doc ≡ es)) (sym (none_removed c.args.name.now c.args.self.now none)) c.copy.ensures
+    subst (λ es. IfOk c.counted.result (λ doc. doc ≡ es)) (sym (none_removed c.args.name.now c.args.self.now none)) c.counted.ensures

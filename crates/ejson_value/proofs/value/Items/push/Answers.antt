@@ -1,16 +1,10 @@
-use Rattle.std.proofs.Common.{◌≡◌, List, ◌∷◌, [], ◌++◌, Result, Ok, Err, subst, sym}
-use Rattle.value_model.specs.Val.{Val, vals_of}
-use Rattle.value_model.specs.Valid.{AreValues, IsValue}
+use Rattle.std.proofs.Common.{subst, sym}
+use Rattle.value_model.specs.Val.{vals_of}
+use Rattle.value_model.specs.Valid.{AreValues}
 use Rattle.value_model.specs.ValidLaws.{AreValues-append}
-use Rattle.std.specs.Prelude.{OnOk, OnErr}
 use Rattle.ejson_value.specs.View.{view}
+use Rattle.ejson_value.proofs.Built.{pushed}
 use Rattle.ejson_value.proofs.value.Items.push.Goals as goal
-
--- the values of a list that another was put behind, or was not
-pushed : {X E : Type 0} (result : Result X E) (old new : List Val) (v : Val) →
-    OnOk result (new ≡ old ++ v ∷ []) → OnErr result (new ≡ old) → AreValues (vals_of old) → IsValue v → AreValues (vals_of new)
-pushed (Ok x) old new v more same olds one = subst (λ vs. AreValues (vals_of vs)) (sym more) (AreValues-append old _ olds one)
-pushed (Err e) old new v more same olds one = subst (λ vs. AreValues (vals_of vs)) (sym same) olds
 
 pub invariant_of-self : goal.invariant_of-self
 invariant_of-self c =
