@@ -60,7 +60,7 @@ impl DocBuilder {
     {
         DocBuilder {
             alloc,
-            fields: Measured::uncounted(alloc),
+            fields: Measured::new(alloc),
         }
     }
 

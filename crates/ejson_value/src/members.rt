@@ -274,18 +274,8 @@ fn bytes_without(bytes: u64, name: &Text, value: &Value) -> u64
 }
 
 impl Measured {
-    // No fields.
-    pub(crate) fn new(alloc: Global) -> Measured
-        ensures { result ≡ [] }
-    {
-        Measured {
-            members: Members::Few(Row::new(alloc)),
-            bytes: 0,
-        }
-    }
-
     // No fields. Those that come aren't counted.
-    pub(crate) fn uncounted(alloc: Global) -> Measured
+    pub(crate) fn new(alloc: Global) -> Measured
         ensures { result ≡ [] }
     {
         Measured {
