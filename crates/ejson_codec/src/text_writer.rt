@@ -1,5 +1,5 @@
 //! Writing JSON texts, one token after another.
-ghost use Rattle.std.specs.Prelude.{◌≡◌, ◌++◌, ◌∷◌, [], IfOk, OnOk, OnErr};
+ghost use Rattle.std.specs.Prelude.{◌≡◌, ◌++◌, ◌∷◌, [], IsUtf8, IfOk, OnOk, OnErr};
 ghost use Rattle.std.specs.Fmt.{signed_decimal};
 ghost use Rattle.json.specs.Token.{begin_object, end_object, begin_array, end_array, key, string, number, boolean, null};
 ghost use Rattle.json.specs.Print.{print};
@@ -8,6 +8,7 @@ use ejson_value::{Mem, Text};
 use json::Writer;
 use std::alloc::Global;
 use std::marker::Model;
+use std::str;
 
 // A text that fits into so many bytes is written without growing.
 const FIRST_BYTES: usize = 128;
@@ -54,14 +55,37 @@ impl TextWriter {
         })
     }
 
+    /// A text without tokens, written in this room, which loses what it held.
+    pub fn over(mut room: Vec<u8>) -> TextWriter
+        ensures { result ≡ [] }
+    {
+        room.clear();
+        TextWriter {
+            out: Writer::new(room),
+        }
+    }
+
+    // The bytes of the text.
+    fn into_bytes(self) -> Vec<u8>
+        ensures printed { result.items ≡ print self }
+        ensures utf8 { IsUtf8 result.items }
+    {
+        self.out.into_inner()
+    }
+
     /// The text of the tokens.
     pub fn finish(self) -> Text
         ensures { result ≡ print self }
     {
-        match String::from_utf8(self.out.into_inner()) {
-            Ok(text) => Text::from_string(text),
-            Err(_) => unreachable!(),
-        }
+        Text::from_string(unsafe { String::from_utf8_unchecked(self.into_bytes()) })
+    }
+
+    /// The text of the tokens, in just the memory that it takes. What it was written in is left as the room.
+    pub fn finish_with(self, alloc: Global, room: &mut Vec<u8>) -> Result<Text, Mem>
+        ensures { IfOk result (λ text. text ≡ print self) }
+    {
+        *room = self.into_bytes();
+        Text::from_str(alloc, unsafe { str::from_utf8_unchecked(room.as_slice()) })
     }
 
     /// Begins an object.
