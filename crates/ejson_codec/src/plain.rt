@@ -5,14 +5,15 @@
 ghost use Rattle.std.specs.Prelude.{◌≡◌, ◌==◌, ◌<◌, length, slice_index, IsTrue, true, false, IfOk, IfSome, OnOk};
 ghost use Rattle.serde_json.specs.Read.{number_of, number_from};
 ghost use Rattle.value_model.specs.Val.{object as object_value, fields_of};
+ghost use Rattle.value_model.specs.Doc.{put};
 ghost use Rattle.value_model.specs.Size.{is_special, names_of};
 ghost use Rattle.ejson_value.specs.View.{view};
 ghost use Rattle.ejson_codec.specs.Reading.{max_levels};
 ghost use Rattle.ejson_codec.specs.Plain.{NumberRead, ValueRead, ItemsRead, MembersRead, IsValueText};
 
 use crate::fault::PlainFault;
-use crate::reading::{MAX_LEVELS, put_field};
-use ejson_value::{Doc, Items, Mem, Text, Value, Whole};
+use crate::reading::MAX_LEVELS;
+use ejson_value::{Doc, DocBuilder, Items, ItemsBuilder, Mem, Text, Value, Whole};
 use fast_float::Numeral;
 use json::{Reader, Scratch, Token};
 use std::alloc::Global;
@@ -52,6 +53,19 @@ fn whole(text: &str) -> Option<Whole>
         negative(&Numeral::scan(&bytes[1..]))
     } else {
         unsigned(&Numeral::scan(bytes))
+    }
+}
+
+// Puts the value at the key.
+fn put_at(alloc: Global, doc: &mut DocBuilder, key: &str, value: Value) -> Result<(), Mem>
+    ensures { OnOk result (doc.new ≡ put doc.old key.now (view value)) }
+{
+    match Text::from_str(alloc, key) {
+        Ok(name) => doc.put(name, value),
+        Err(fault) => {
+            drop(value);
+            Err(fault)
+        }
     }
 }
 
@@ -95,11 +109,11 @@ fn items(alloc: Global, levels: u8, reader: &mut Reader<'_>) -> Result<Items, Pl
     ensures read { IfOk result (λ items. ItemsRead levels reader.old items reader.new) }
     ensures shorter { OnOk result (length reader.new < length reader.old) }
 {
-    let mut items = Items::new(alloc);
+    let mut items = ItemsBuilder::new(alloc);
     'items: while !reader.take_end_array() {
         items.push(value(alloc, levels, reader)?)?;
     }
-    Ok(items)
+    Ok(items.finish()?)
 }
 
 // The members of an object, and the brace behind them.
@@ -108,11 +122,11 @@ fn fields(alloc: Global, levels: u8, reader: &mut Reader<'_>) -> Result<Doc, Pla
     ensures read { IfOk result (λ doc. MembersRead levels reader.old doc reader.new) }
     ensures shorter { OnOk result (length reader.new < length reader.old) }
 {
-    let mut doc = Doc::new(alloc);
+    let mut doc = DocBuilder::new(alloc);
     'fields: while let Some(key) = reader.next_key()? {
-        put_field(alloc, &mut doc, key, value(alloc, levels, reader)?)?;
+        put_at(alloc, &mut doc, key, value(alloc, levels, reader)?)?;
     }
-    Ok(doc)
+    Ok(doc.finish()?)
 }
 
 /// The value that comes next, with all levels left.

@@ -5,7 +5,7 @@ use Rattle.json.specs.Reads.{token_of}
 use Rattle.json.proofs.Grammar.{read_key-shorter}
 use Rattle.value_model.specs.Val.{null, boolean, int, text, list, vals_of}
 use Rattle.ejson_value.specs.View.{view}
-use Rattle.ejson_codec.specs.Plain.{ValueRead}
+use Rattle.ejson_codec.specs.Plain.{ValueRead, ItemsRead, MembersRead}
 use Rattle.ejson_codec.proofs.PlainTurns.{begins, null_read, boolean_read, string_read, number_read, item_more, items_all, list_read, no_member_yet, member_more, members_all, object_found}
 use Rattle.ejson_codec.proofs.plain.+plain.Goals as goal
 
@@ -20,14 +20,15 @@ fields-fields-preserved t c =
     let less = read_key-shorter c.fields.reader (Some k) inner named in
     let done = c.in_ok-value.ensures in
     let shorter = done.shorter in (
-      member_more c.args.levels c.args.reader.now c.fields.reader inner c.value.new.reader k c.fields.doc c.put_field.new.doc (view c.in_ok-value.field-0) named done.read shorter c.in_ok-put_field.ensures c.fields.invariant.0,
+      member_more c.args.levels c.args.reader.now c.fields.reader inner c.value.new.reader k c.fields.doc c.put_at.new.doc (view c.in_ok-value.field-0) named done.read shorter c.in_ok-put_at.ensures c.fields.invariant.0,
       omega (arith, shorter, less, c.fields.invariant.1),
     )
 
 pub fields-returns-clause-read : goal.fields-returns-clause-read
 fields-returns-clause-read t c =
     let over : read_key c.fields.reader ≡ Some (None, c.next_key.new.self) = grind arith in
-    members_all c.args.levels c.args.reader.now c.fields.reader c.next_key.new.self c.fields.doc over c.fields.invariant.0
+    subst (λ es. MembersRead c.args.levels c.args.reader.now es c.next_key.new.self) (sym c.in_ok-finish.ensures)
+    (members_all c.args.levels c.args.reader.now c.fields.reader c.next_key.new.self c.fields.doc over c.fields.invariant.0)
 
 pub items-items-preserved : goal.items-items-preserved
 items-items-preserved t c =
@@ -43,7 +44,8 @@ items-items-preserved t c =
 pub items-returns-clause-read : goal.items-returns-clause-read
 items-returns-clause-read t c =
     let over : after_end_array c.items.reader ≡ Some c.take_end_array.new.self = grind arith in
-    items_all c.args.levels c.args.reader.now c.items.reader c.take_end_array.new.self c.items.items over c.items.invariant.0
+    subst (λ vs. ItemsRead c.args.levels c.args.reader.now vs c.take_end_array.new.self) (sym c.in_ok-finish.ensures)
+    (items_all c.args.levels c.args.reader.now c.items.reader c.take_end_array.new.self c.items.items over c.items.invariant.0)
 
 pub value-returns-in-Null-clause-read : goal.value-returns-in-Null-clause-read
 value-returns-in-Null-clause-read t c =
