@@ -42,19 +42,6 @@ impl TextWriter {
         })
     }
 
-    /// A text without tokens, that can have so many bytes without growing.
-    pub fn with_room(alloc: Global, bytes: u64) -> Result<TextWriter, Mem>
-        ensures { IfOk result (λ out. out ≡ []) }
-    {
-        // A comma may stand before each token, as far as room is made for it.
-        let Ok(room) = usize::try_from(bytes.saturating_add(1)) else {
-            return Err(Mem);
-        };
-        Ok(TextWriter {
-            out: Writer::new(Vec::with_capacity(alloc, room)?),
-        })
-    }
-
     /// A text without tokens, written in this room, which loses what it held.
     pub fn over(mut room: Vec<u8>) -> TextWriter
         ensures { result ≡ [] }

@@ -9,8 +9,8 @@ ghost use Rattle.history_model.specs.History.{call_bytes};
 
 use ejson_value::{Changes, Doc, Items, Value, document_size, size};
 
-/// The bytes of the values as a list.
-pub(crate) fn list_size(values: &[Value]) -> u64
+// The bytes of the values as a list.
+fn list_size(values: &[Value]) -> u64
     ensures { result ≡ capped (size (list (vals_of (views values.now)))) }
 {
     let mut inside = 0u64;

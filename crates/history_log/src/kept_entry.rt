@@ -103,11 +103,11 @@ fn may_have_line(entry: &Entry) -> bool
 }
 
 // The entry's line, None where the entry isn't kept as its line.
-fn line_told(alloc: Global, entry: &Entry) -> Result<Option<Text>, Mem>
+fn line_told(alloc: Global, room: &mut Vec<u8>, entry: &Entry) -> Result<Option<Text>, Mem>
     ensures { IfOk result (λ told. IfSome told (λ line. Says line (entry_value entry.now))) }
 {
     if may_have_line(entry) {
-        Ok(Some(entry_line(alloc, entry)?))
+        Ok(Some(entry_line(alloc, room, entry)?))
     } else {
         Ok(None)
     }
@@ -133,34 +133,34 @@ fn without_line(alloc: Global, entry: Entry) -> Result<Form, Mem>
     }
 }
 
-fn form_of(alloc: Global, entry: Entry) -> Result<Form, Mem>
+fn form_of(alloc: Global, room: &mut Vec<u8>, entry: Entry) -> Result<Form, Mem>
     ensures { IfOk result (λ form. Keeps form entry) }
 {
-    match line_told(alloc, &entry)? {
+    match line_told(alloc, room, &entry)? {
         Some(line) => Ok(with_line(entry, line)),
         None => without_line(alloc, entry),
     }
 }
 
 impl KeptEntry {
-    /// Keeps the entry.
-    pub(crate) fn of(alloc: Global, entry: Entry) -> Result<KeptEntry, Mem>
+    /// Keeps the entry, whose line is written in the room.
+    pub(crate) fn of(alloc: Global, room: &mut Vec<u8>, entry: Entry) -> Result<KeptEntry, Mem>
         ensures { IfOk result (λ kept. kept ≡ entry) }
     {
         Ok(KeptEntry {
-            form: form_of(alloc, entry)?,
+            form: form_of(alloc, room, entry)?,
         })
     }
 
-    /// The line that is printed of the entry.
-    pub(crate) fn line(&self, alloc: Global) -> Result<Text, Mem>
+    /// The line that is printed of the entry. What isn't kept as its line is written in the room.
+    pub(crate) fn line(&self, alloc: Global, room: &mut Vec<u8>) -> Result<Text, Mem>
         ensures { IfOk result (λ line. line ≡ line_of (entry_value self.now)) }
     {
         match &self.form {
-            Form::Step { session, k } => step_line(alloc, *session, *k),
+            Form::Step { session, k } => step_line(alloc, room, *session, *k),
             Form::Begin { line, .. } => line.copy(),
             Form::Admin { line } => line.copy(),
-            Form::Whole(entry) => entry_line(alloc, entry.as_ref()),
+            Form::Whole(entry) => entry_line(alloc, room, entry.as_ref()),
         }
     }
 }

@@ -7,7 +7,6 @@ mod kept;
 mod kept_entry;
 mod lines;
 mod log;
-mod room;
 
 pub use batch::Batch;
 pub use history_model::entry::Entry;

@@ -9,11 +9,18 @@ ghost use Rattle.history_log.specs.Log.{entries_in};
 ghost use Rattle.history_log.specs.Lines.{worded, number, session_text, doc_value, entry_value, line_of};
 
 use crate::log::Logged;
-use crate::room::{doc_room, entry_room};
 use ejson_codec::{Lines, TextWriter, put_document, put_items, put_value};
 use ejson_value::{Contents, Doc, Items, Key, Mem, Text, Value};
 use history_model::entry::Entry;
 use std::alloc::Global;
+use std::mem;
+
+// A line without tokens, written in the room, which is empty meanwhile.
+fn line_in(alloc: Global, room: &mut Vec<u8>) -> TextWriter
+    ensures { result ≡ [] }
+{
+    TextWriter::over(mem::replace(room, Vec::new(alloc)))
+}
 
 // Begins a line with its word.
 fn begin_line(out: &mut TextWriter, word: &str) -> Result<(), Mem>
@@ -69,20 +76,21 @@ fn put_doc(alloc: Global, out: &mut TextWriter, key: &Key, doc: &Doc) -> Result<
     out.end_array()
 }
 
-fn doc_line(alloc: Global, key: &Key, doc: &Doc) -> Result<Text, Mem>
+fn doc_line(alloc: Global, room: &mut Vec<u8>, key: &Key, doc: &Doc) -> Result<Text, Mem>
     ensures { IfOk result (λ line. line ≡ line_of (doc_value (key.now, doc.now))) }
 {
-    let mut out = TextWriter::with_room(alloc, doc_room(key, doc))?;
+    let mut out = line_in(alloc, room);
     put_doc(alloc, &mut out, key, doc)?;
-    Ok(out.finish())
+    out.finish_with(alloc, room)
 }
 
 /// A line for each document.
 pub(crate) fn push_docs(alloc: Global, lines: &mut Lines, rows: &Contents) -> Result<(), Mem>
     ensures { OnOk result (lines.new ≡ lines.old ++ map line_of (map doc_value rows.now)) }
 {
+    let mut room = Vec::new(alloc);
     for (key, doc) in rows.iter() {
-        lines.push(doc_line(alloc, key, doc)?)?;
+        lines.push(doc_line(alloc, &mut room, key, doc)?)?;
     }
     Ok(())
 }
@@ -158,30 +166,36 @@ fn put_entry(alloc: Global, out: &mut TextWriter, entry: &Entry) -> Result<(), M
     }
 }
 
-/// The line of an entry.
-pub(crate) fn entry_line(alloc: Global, entry: &Entry) -> Result<Text, Mem>
+/// The line of an entry, written in the room.
+pub(crate) fn entry_line(alloc: Global, room: &mut Vec<u8>, entry: &Entry) -> Result<Text, Mem>
     ensures { IfOk result (λ line. line ≡ line_of (entry_value entry.now)) }
 {
-    let mut out = TextWriter::with_room(alloc, entry_room(entry))?;
+    let mut out = line_in(alloc, room);
     put_entry(alloc, &mut out, entry)?;
-    Ok(out.finish())
+    out.finish_with(alloc, room)
 }
 
-/// The line of a step.
-pub(crate) fn step_line(alloc: Global, session: u32, k: u64) -> Result<Text, Mem>
+/// The line of a step, written in the room.
+pub(crate) fn step_line(
+    alloc: Global,
+    room: &mut Vec<u8>,
+    session: u32,
+    k: u64,
+) -> Result<Text, Mem>
     ensures { IfOk result (λ line. line ≡ line_of (entry_value (Step session k))) }
 {
-    let mut out = TextWriter::new(alloc)?;
+    let mut out = line_in(alloc, room);
     put_step(alloc, &mut out, session, k)?;
-    Ok(out.finish())
+    out.finish_with(alloc, room)
 }
 
 /// A line for each entry.
 pub(crate) fn push_entries(alloc: Global, lines: &mut Lines, logged: &[Logged]) -> Result<(), Mem>
     ensures { OnOk result (lines.new ≡ lines.old ++ map line_of (map entry_value (entries_in logged.now))) }
 {
+    let mut room = Vec::new(alloc);
     for one in logged {
-        lines.push(one.entry.line(alloc)?)?;
+        lines.push(one.entry.line(alloc, &mut room)?)?;
     }
     Ok(())
 }

@@ -25,6 +25,8 @@ pub struct Logged {
 #[derive(Drop)]
 pub struct Log {
     logged: Vec<Logged>,
+    // Where the lines of entries are written before they are kept.
+    room: Vec<u8>,
 }
 
 impl Model for Log {
@@ -47,6 +49,7 @@ impl Log {
     {
         Log {
             logged: Vec::new(alloc),
+            room: Vec::new(alloc),
         }
     }
 
@@ -67,8 +70,9 @@ impl Log {
         ensures ok { OnOk result (self.new ≡ self.old ++ record { entry = entry; changes = [] } ∷ []) }
         ensures err { OnErr result (self.new ≡ self.old) }
     {
-        let entry = KeptEntry::of(self.allocator(), entry)?;
-        let changes = Changes::new(self.allocator());
+        let alloc = self.allocator();
+        let entry = KeptEntry::of(alloc, &mut self.room, entry)?;
+        let changes = Changes::new(alloc);
         self.logged.push(Logged { entry, changes })?;
         Ok(())
     }
