@@ -1,13 +1,24 @@
 -- Lemmas of selectors that are read part by part.
-use Rattle.std.proofs.Common.{◌≡◌, ◌==◌, false, length, List, [], ◌∷◌, Ok, Err, refl, ap}
+use Rattle.std.proofs.Common.{◌≡◌, ◌==◌, ℕ, Bool, true, false, codes, length, List, [], ◌∷◌, Ok, Err, refl, ap, ap₂}
 use Rattle.std.specs.Prelude.{if◌then◌else◌}
 use Rattle.std.specs.List.{list_all}
-use Rattle.value_model.specs.Val.{Val, list, vals_of}
+use Rattle.std.specs.Ordering.{is_eq}
+use Rattle.std.proofs.lemmas.Map.Lookups.{exact_bytes}
+use Rattle.value_model.specs.TruthLaws.{equal_of}
+use Rattle.value_model.specs.Order.{text_cmp}
+use Rattle.value_model.specs.Val.{Val, text, list, vals_of}
 use Rattle.value_model.specs.ValLaws.{list_of-vals_of}
 use Rattle.ejson_value.specs.Results.{after}
 use Rattle.selector_match.specs.declared.fault.SelectorFault.TheVariants.{BadOperand}
 use Rattle.selector_match.specs.Query.{Query, no_clauses, clause, Clause, query_of, no_queries, query, queries_of, no_predicates, predicate, Predicate, predicates_of}
-use Rattle.selector_match.specs.Reading.{is_literal, list_operand, literals_operand, some_queries_reading, more_queries_reading}
+use Rattle.selector_match.specs.Named.{has_id}
+use Rattle.selector_match.specs.Reading.{clause_made, queries_reading, condition_reading, is_literal, list_operand, literals_operand, some_queries_reading, more_queries_reading}
+
+-- the condition that `_id` is a text
+pub id_clause : (top : Bool) (n : List ℕ) (v : Val) (id : List ℕ) → is_eq (text_cmp n (codes "_id")) ≡ true → v ≡ text id → clause_made top n (queries_reading v) (condition_reading v) ≡ Ok (has_id id)
+id_clause top n v id named is =
+    let same = exact_bytes n (codes "_id") (equal_of (text_cmp n (codes "_id")) named) in
+    ap₂ (λ m w. clause_made top m (queries_reading w) (condition_reading w)) same is
 
 pub after-query : (cs : List Clause) → after clause cs no_clauses ≡ query_of cs
 after-query [] = refl

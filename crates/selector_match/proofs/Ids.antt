@@ -1,7 +1,8 @@
 -- A document with its id as a field.
-use Rattle.std.proofs.Common.{◌≡◌, ◌==◌, ℕ, true, false, cond, List, [], ◌∷◌, length, Some, None, refl, ap, sym, ◌∙◌, codes}
+use Rattle.std.proofs.Common.{◌≡◌, ◌==◌, ◌&&◌, ◌||◌, ℕ, Bool, true, false, cond, List, [], ◌∷◌, length, Option, Some, None, refl, ap, sym, ◌∙◌, codes}
 use Rattle.std.specs.declared.cmp.Ordering.{Ordering}
 use Rattle.std.specs.declared.cmp.Ordering.TheVariants.{Less, Equal, Greater}
+use Rattle.std.specs.List.{list_any}
 use Rattle.std.specs.Ordering.{match_ordering, is_eq}
 use Rattle.std.proofs.Common.{arith}
 use Rattle.std.proofs.lemmas.Bool.Decides.{nat_tests}
@@ -14,7 +15,10 @@ use Rattle.value_model.specs.Order.{text_cmp}
 use Rattle.value_model.specs.OrderLaws.{own_reverse_ties}
 use Rattle.value_model.specs.Doc.{get, put}
 use Rattle.value_model.specs.Branches.{branches}
-use Rattle.selector_match.specs.Holds.{with_id}
+use Rattle.ejson_value.proofs.Branching.{list_any-flat_map}
+use Rattle.selector_match.specs.Query.{no_predicates, predicate, equal}
+use Rattle.selector_match.specs.Named.{has_id}
+use Rattle.selector_match.specs.Holds.{with_id, equals, branch_candidates, clause_holds, predicates_hold}
 
 ties : (k : List ℕ) → text_cmp k k ≡ Equal
 ties k = own_reverse_ties (text_cmp k k) (nat_list_cmp_total.antisymm k k)
@@ -67,3 +71,21 @@ through_text (part ∷ rest) id filled = refl
 pub no_parts : (rest : List (List ℕ)) → (length rest == 0) ≡ true → rest ≡ []
 no_parts [] e = refl
 no_parts (part ∷ rest) e = grind (arith, nat_tests, e)
+
+or_and : (a : Bool) → a ≡ ((a || false) && true)
+or_and true = refl
+or_and false = refl
+
+-- the condition on an id, of a document with an id
+pub has_id-given : (wanted id : List ℕ) (doc : Entries) → is_eq (text_cmp id wanted) ≡ clause_holds (has_id wanted) (with_id id doc)
+has_id-given wanted id doc =
+    or_and (is_eq (text_cmp id wanted))
+    ∙ ap (λ bs. predicates_hold (predicate (equal (text wanted)) no_predicates) bs) (at_id (codes "_id") [] id doc refl)
+
+-- and of an object, by its field
+pub has_id-field : (wanted : List ℕ) (doc : Entries) (o : Option Val) → o ≡ get doc (codes "_id") →
+    list_any (λ c. equals (text wanted) c) (branch_candidates (o, false)) ≡ clause_holds (has_id wanted) (fields_of doc)
+has_id-field wanted doc o is =
+    or_and (list_any (λ c. equals (text wanted) c) (branch_candidates (o, false)))
+    ∙ (ap (λ a. a && true) (sym (list_any-flat_map (λ c. equals (text wanted) c) branch_candidates ((o, false) ∷ [])))
+    ∙ ap (λ x. predicates_hold (predicate (equal (text wanted)) no_predicates) ((x, false) ∷ [])) (is ∙ ap (λ es. get es (codes "_id")) (sym (entries_of-fields_of doc))))

@@ -27,6 +27,7 @@ relates relation.AtMost v c = compares is_le v c
 abbrev pub meets : Criterion → Option Val → Bool
 meets (criterion.Relates r v) c = relates r (view v.now) c
 meets (criterion.Among vs) c = list_any (λ v. equals v c) vs.now
+meets (criterion.IsText t) c = equals (text t.now) c
 
 -- what a question says of one branch
 abbrev pub asked : Question → Option Val → Bool → Bool

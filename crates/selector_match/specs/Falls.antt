@@ -18,6 +18,7 @@ most_le-query_height (condition.All qs ∷ cs) = omega (arith, most_le-query_hei
 most_le-query_height (condition.Any qs ∷ cs) = omega (arith, most_le-query_height cs)
 most_le-query_height (condition.Neither qs ∷ cs) = omega (arith, most_le-query_height cs)
 most_le-query_height (condition.AtPath path ps ∷ cs) = omega (arith, most_le-query_height cs)
+most_le-query_height (condition.HasId id ∷ cs) = omega (arith, most_le-query_height cs)
 
 pub most_le-queries_height : (qs : List Query) → most (λ q. query_height q + 1) qs ≤ queries_height (queries_of qs)
 most_le-queries_height [] = omega arith

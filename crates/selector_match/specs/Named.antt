@@ -5,6 +5,13 @@ use Rattle.value_model.specs.Val.{Val, text}
 use Rattle.value_model.specs.Order.{text_cmp}
 use Rattle.selector_match.specs.Query.{Query, no_clauses, clause, Clause, at_path, Predicates, no_predicates, predicate, Predicate, equal}
 
+-- the condition that a document has this id, and the selector of it alone
+abbrev pub has_id : List ℕ → Clause
+has_id id = at_path (codes "_id" ∷ []) (predicate (equal (text id)) no_predicates)
+
+abbrev pub by_id : List ℕ → Query
+by_id id = clause (has_id id) no_clauses
+
 abbrev pub first_of_both : {X : Type 0} → Option X → Option X → Option X
 first_of_both None b = b
 first_of_both (Some x) b = Some x

@@ -2,6 +2,7 @@
 use Rattle.std.specs.Prelude.{List, map}
 use Rattle.ejson_value.specs.View.{view}
 use Rattle.selector_match.specs.Query.{Query, Clause, all_of, any_of, none_of, at_path, Predicate, equal, not_equal, among, not_among, greater, at_least, less, at_most, present, sized, has_all, has_element, negated, ElementTest, by_predicates, by_query, Predicates, query_of, predicates_of}
+use Rattle.selector_match.specs.Named.{has_id}
 use Rattle.selector_match.specs.declared.selector.Condition.{Condition}
 use Rattle.selector_match.specs.declared.selector.Condition.TheVariants as condition
 use Rattle.selector_match.specs.declared.selector.Plain.{Plain}
@@ -16,6 +17,7 @@ clause_view (condition.All qs) = all_of qs
 clause_view (condition.Any qs) = any_of qs
 clause_view (condition.Neither qs) = none_of qs
 clause_view (condition.AtPath path ps) = at_path path ps
+clause_view (condition.HasId id) = has_id id
 
 abbrev pub plain_view : Plain → Predicate
 plain_view (plain.Equal v) = equal (view v)

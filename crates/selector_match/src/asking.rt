@@ -4,17 +4,20 @@ ghost use Rattle.std.specs.List.{list_any};
 ghost use Rattle.std.specs.Ordering.{is_eq};
 ghost use Rattle.value_model.specs.Val.{null, object, vals_of};
 ghost use Rattle.value_model.specs.Order.{kind, text_cmp};
+ghost use Rattle.value_model.specs.Doc.{get};
 ghost use Rattle.value_model.specs.Branches.{branches};
 ghost use Rattle.ejson_value.specs.View.{view, views};
 ghost use Rattle.selector_match.specs.View.{plain_view};
-ghost use Rattle.selector_match.specs.Holds.{branch_candidates, candidates, has_equal, predicate_holds};
+ghost use Rattle.selector_match.specs.Holds.{branch_candidates, candidates, has_equal, clause_holds, predicate_holds};
+ghost use Rattle.selector_match.specs.Named.{has_id};
 ghost use Rattle.selector_match.specs.Reached.{reached_view};
 ghost use Rattle.selector_match.specs.Asked.{relates, meets, asked, subject_branches, fields_seen};
 
 use crate::marking::equals_each;
 use crate::operands::Operands;
 use crate::reached::{
-    Reached, is_of_kind, is_present, order_to, reached_by, reached_has_length, reached_list,
+    Reached, is_of_kind, is_present, order_to, reached_by, reached_has_length, reached_is_text,
+    reached_list,
 };
 use crate::selector::Plain;
 use ejson_value::{Doc, Path, Text, Value, some_branch};
@@ -28,11 +31,12 @@ pub(crate) enum Relation {
     AtMost,
 }
 
-// What a candidate has to meet: so to relate to an operand, or to equal one of several.
+// What a candidate has to meet: so to relate to an operand, to equal one of several, or to be a text.
 #[derive(Clone, Copy)]
 pub(crate) enum Criterion<'a> {
     Relates(Relation, &'a Value),
     Among(&'a Operands),
+    IsText(&'a Text),
 }
 
 // What an operator asks of each branch.
@@ -72,6 +76,7 @@ fn meets(criterion: Criterion, reached: Reached) -> bool
     match criterion {
         Criterion::Relates(relation, operand) => relates(relation, reached, operand),
         Criterion::Among(operands) => operands.has(reached),
+        Criterion::IsText(text) => reached_is_text(reached, text),
     }
 }
 
@@ -185,6 +190,28 @@ pub(crate) fn subject_at<'a>(id: Option<&'a Text>, doc: &'a Doc, path: &'a Path)
                 Subject::Nothing
             }
         }
+    }
+}
+
+// What stands in the field `_id`.
+fn id_field(doc: &Doc) -> Option<&Value>
+    ensures { option_map (λ v. view v.now) result ≡ get doc.now (codes "_id") }
+{
+    for (name, value) in doc.iter() {
+        if "_id".cmp(name.as_str()).is_eq() {
+            return Some(value);
+        }
+    }
+    None
+}
+
+// Whether the document has this id, where `_id` is the id if one is given.
+pub(crate) fn has_id(wanted: &Text, id: Option<&Text>, doc: &Doc) -> bool
+    ensures { result ≡ clause_holds (has_id wanted.now) (fields_seen id.entry doc.now) }
+{
+    match id {
+        Some(id) => id.cmp(wanted).is_eq(),
+        None => some_candidate_meets(Criterion::IsText(wanted), reached_by(id_field(doc)), false),
     }
 }
 

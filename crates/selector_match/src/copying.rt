@@ -17,6 +17,7 @@ fn copy_condition(condition: &Condition) -> Result<Condition, Mem>
             path.copy()?,
             copy_operators(operators)?,
         )),
+        Condition::HasId(id) => id.copy().map(Condition::HasId),
     }
 }
 

@@ -7,7 +7,7 @@ ghost use Rattle.selector_match.specs.Holds.{elements, query_holds, clause_holds
 ghost use Rattle.selector_match.specs.Reached.{reached_view};
 ghost use Rattle.selector_match.specs.Asked.{subject_branches, fields_seen};
 
-use crate::asking::{Subject, plain_holds, subject_at};
+use crate::asking::{Subject, has_id, plain_holds, subject_at};
 use crate::reached::{Reached, reached_by, reached_list};
 use crate::selector::{Condition, Operator, Operators, Selector, Selectors, Test, TestKind};
 use crate::steps::Steps;
@@ -108,6 +108,7 @@ fn condition_holds(condition: &Condition, id: Option<&Text>, doc: &Doc) -> bool
         Condition::Any(selectors) => some_holds(selectors, id, doc),
         Condition::Neither(selectors) => !some_holds(selectors, id, doc),
         Condition::AtPath(path, operators) => operators_hold(operators, subject_at(id, doc, path)),
+        Condition::HasId(wanted) => has_id(wanted, id, doc),
     }
 }
 

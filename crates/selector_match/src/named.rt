@@ -1,15 +1,16 @@
 //! The id that a selector names.
-ghost use Rattle.std.specs.Prelude.{◌≡◌, ℕ, List, true, IfSome};
+ghost use Rattle.std.specs.Prelude.{◌≡◌, ℕ, List, true, IfOk, IfSome};
 ghost use Rattle.std.specs.Option.{option_copied};
 ghost use Rattle.value_model.specs.Val.{Entries};
 ghost use Rattle.ejson_value.specs.View.{view};
 ghost use Rattle.selector_match.specs.View.{clause_view, plain_view, predicate_view};
 ghost use Rattle.selector_match.specs.Holds.{holds};
-ghost use Rattle.selector_match.specs.Named.{text_in, named_by_predicate, named_by_predicates, is_id_path, named_by_clause, named_id};
+ghost use Rattle.selector_match.specs.Named.{text_in, named_by_predicate, named_by_predicates, is_id_path, named_by_clause, named_id, by_id};
 
 use crate::asking::is_id;
 use crate::selector::{Condition, Operator, Operators, Plain, Selector};
-use ejson_value::{Path, Text, Value};
+use ejson_value::{Mem, Path, Text, Value};
+use std::alloc::Global;
 
 fn text_in(value: &Value) -> Option<&Text>
     ensures { option_copied result ≡ text_in (view value.now) }
@@ -86,11 +87,21 @@ fn named_by_condition(condition: &Condition) -> Option<&Text>
                 None
             }
         }
+        Condition::HasId(id) => Some(id),
         Condition::All(_) | Condition::Any(_) | Condition::Neither(_) => None,
     }
 }
 
 impl Selector {
+    /// The selector of the document with this id.
+    pub fn by_id(alloc: Global, id: Text) -> Result<Selector, Mem>
+        ensures { IfOk result (λ q. q ≡ by_id id) }
+    {
+        let mut conditions = Vec::with_capacity(alloc, 1)?;
+        conditions.push(Condition::HasId(id))?;
+        Ok(Selector { conditions })
+    }
+
     /// The text that `_id` must equal by one of the conditions, if there is such a condition. A
     /// query then has to look at the document with this id alone.
     pub fn named_id(&self) -> Option<&Text>

@@ -5,7 +5,7 @@ ghost use Rattle.value_model.specs.Val.{null, text, vals_of};
 ghost use Rattle.value_model.specs.Order.{kind, compare};
 ghost use Rattle.value_model.specs.Branches.{is_list};
 ghost use Rattle.ejson_value.specs.View.{view};
-ghost use Rattle.selector_match.specs.Holds.{list_in, has_length};
+ghost use Rattle.selector_match.specs.Holds.{list_in, equals, has_length};
 ghost use Rattle.selector_match.specs.Reached.{reached_view};
 
 use ejson_value::{Items, Text, Value, compare, kind};
@@ -52,6 +52,27 @@ pub(crate) fn order_from(value: &Value, reached: Reached) -> Ordering
     ensures { result ≡ compare (view value.now) (unwrap_or (reached_view reached.entry) null) }
 {
     order_to(reached, value).reverse()
+}
+
+// Whether it is this text.
+pub(crate) fn reached_is_text(reached: Reached, wanted: &Text) -> bool
+    ensures { result ≡ equals (text wanted.now) (reached_view reached.entry) }
+{
+    match reached {
+        Reached::Nothing => false,
+        Reached::Id(id) => id.cmp(wanted).is_eq(),
+        Reached::Value(value) => match value {
+            Value::Text(text) => text.cmp(wanted).is_eq(),
+            Value::Null
+            | Value::Bool(_)
+            | Value::Int(_)
+            | Value::Date(_)
+            | Value::Bytes(_)
+            | Value::List(_)
+            | Value::Object(_)
+            | Value::User { .. } => false,
+        },
+    }
 }
 
 // Whether something was reached, and of the kind of the value.

@@ -1,11 +1,14 @@
 //! Reading values as selectors.
-ghost use Rattle.std.specs.Prelude.{◌≡◌, Ok, IfOk};
+ghost use Rattle.std.specs.Prelude.{◌≡◌, true, codes, Ok, IfOk, IfSome};
 ghost use Rattle.std.specs.List.{list_all};
-ghost use Rattle.value_model.specs.Val.{fields_of, vals_of};
+ghost use Rattle.std.specs.Ordering.{is_eq};
+ghost use Rattle.value_model.specs.Val.{text, fields_of, vals_of};
+ghost use Rattle.value_model.specs.Order.{text_cmp};
 ghost use Rattle.ejson_value.specs.View.{view, views};
 ghost use Rattle.selector_match.specs.View.{clause_view, plain_view, predicate_view};
 ghost use Rattle.selector_match.specs.Reading.{Gives, reading, clauses_reading, clause_made, path_reading, joined, queries_reading, more_queries_reading, condition_reading, predicates_reading, plain_made, predicate_made, operator_named, literal, is_literal, list_operand, compared_operand, boolean_operand, size_operand, literals_operand, element_operand, set_operand, test_reading};
 
+use crate::asking::is_id;
 use crate::fault::SelectorFault;
 use crate::names::{
     Connective, OperatorName, PlainName, begins_with_dollar, connective_named, has_operator,
@@ -128,6 +131,27 @@ fn literals_operand(alloc: Global, value: &Value) -> Result<Operands, SelectorFa
     }
 }
 
+// The id that a field asks for, where it is `_id` with a text.
+fn id_asked<'a>(name: &Text, value: &'a Value) -> Option<&'a Text>
+    ensures name { IfSome result (λ id. is_eq (text_cmp name.now (codes "_id")) ≡ true) }
+    ensures value { IfSome result (λ id. view value.now ≡ text id.now) }
+{
+    if !is_id(name) {
+        return None;
+    }
+    match value {
+        Value::Text(id) => Some(id),
+        Value::Null
+        | Value::Bool(_)
+        | Value::Int(_)
+        | Value::Date(_)
+        | Value::Bytes(_)
+        | Value::List(_)
+        | Value::Object(_)
+        | Value::User { .. } => None,
+    }
+}
+
 // The operator `$eq` alone, which a literal stands for.
 fn literal(alloc: Global, value: &Value) -> Result<Operators, SelectorFault>
     ensures { Gives (λ ps. ps) result (Ok (literal (view value.now))) }
@@ -187,6 +211,10 @@ fn read_condition(
 ) -> Result<Condition, SelectorFault>
     ensures { Gives clause_view result (clause_made top name.now (queries_reading (view value.now)) (condition_reading (view value.now))) }
 {
+    if let Some(id) = id_asked(name, value) {
+        let copied = id.copy()?;
+        return Ok(Condition::HasId(copied));
+    }
     if begins_with_dollar(name) {
         if !top {
             return Err(SelectorFault::UnknownOperator);

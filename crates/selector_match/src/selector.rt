@@ -1,6 +1,6 @@
 //! Selectors in memory.
 use crate::operands::Operands;
-use ejson_value::{Path, Value};
+use ejson_value::{Path, Text, Value};
 use std::marker::Model;
 
 /// A selector: conditions on a document, all of which must hold.
@@ -10,7 +10,7 @@ pub struct Selector {
     pub(crate) conditions: Vec<Condition>,
 }
 
-// One condition: `$and`, `$or` and `$nor` of selectors, or operators at a path.
+// One condition: `$and`, `$or` and `$nor` of selectors, operators at a path, or `_id` with a text.
 #[derive(Drop)]
 #[cycle(selector)]
 pub(crate) enum Condition {
@@ -18,6 +18,7 @@ pub(crate) enum Condition {
     Any(Selectors),
     Neither(Selectors),
     AtPath(Path, Operators),
+    HasId(Text),
 }
 
 #[derive(Drop)]

@@ -5,11 +5,12 @@ use Rattle.value_model.specs.Val.{fields_of, vals_of}
 use Rattle.ejson_value.specs.View.{view, views, entries}
 use Rattle.ejson_value.proofs.Walks.{item_depth, field_depth}
 use Rattle.selector_match.specs.Query.{Query, clause, query, predicate}
+use Rattle.selector_match.specs.Named.{has_id}
 use Rattle.selector_match.specs.View.{clause_view, predicate_view}
 use Rattle.selector_match.specs.Reading.{Gives, reading, clauses_reading, clause_made, queries_reading, condition_reading, more_queries_reading, predicates_reading, predicate_made, operator_named, element_operand, set_operand}
 use Rattle.ejson_value.specs.Results.{made, after}
 use Rattle.ejson_value.specs.ResultLaws.{made_more}
-use Rattle.selector_match.proofs.Front.{after-query, after-queries, after-predicates, some_queries}
+use Rattle.selector_match.proofs.Front.{id_clause, after-query, after-queries, after-predicates, some_queries}
 use Rattle.selector_match.proofs.reading.+reading.Goals as goal
 
 pub read_conditions-read_condition-requires : goal.read_conditions-read_condition-requires
@@ -43,6 +44,11 @@ read_conditions-returns t c =
     ∙ (c.loop-name.invariant.3
     ∙ (ap (λ it. made (λ q. after clause made_so_far q) (clauses_reading c.args.top (fields_of (entries it)))) c.in-None.ensures.steps.0
     ∙ ap (λ q. Ok q) (after-query made_so_far)))
+
+pub read_condition-returns-in-Some : goal.read_condition-returns-in-Some
+read_condition-returns-in-Some t c =
+    id_clause c.args.top c.args.name.now (view c.args.value.now) c.in-Some.id.now c.in-Some.ensures.name c.in-Some.ensures.value
+    ∙ ap (λ id. Ok (has_id id)) (sym c.in_ok-copied.ensures)
 
 pub read_operators-read_operator-requires : goal.read_operators-read_operator-requires
 read_operators-read_operator-requires t c =
