@@ -76,7 +76,7 @@ module _ {X : Type 0} where
     split_keys : IsStrictlySortedBy key_cmp (keys_of rest ++ key ∷ [])
     split_keys = subst (IsStrictlySortedBy key_cmp) (map-append (λ (e : Key × X). e.0) rest ((key, x) ∷ [])) (subst (λ m. IsSorted key_cmp m) split sorted)
 
-    last_above : IsAbove key_cmp key (keys_of rest)
+    pub last_above : IsAbove key_cmp key (keys_of rest)
     last_above = IsAbove-from_sorted key_order.total (keys_of rest) key [] split_keys
 
     last_put : (k : Key) → at key_cmp all k ≡ cond (eq_by_cmp key_cmp k key) (Some x) (at key_cmp rest k)

@@ -18,7 +18,8 @@ use Rattle.kept_document.proofs.Places.{same_change, held_same, merged_same, non
 use Rattle.kept_document.proofs.Puts.{put_grows, put_or}
 use Rattle.kept_document.proofs.Telling.{no_claims}
 use Rattle.merge_box.specs.State.{KeptDocs}
-use Rattle.merge_box.specs.Inside.{Changes, claimed_fields, published_doc, docs_of, carried_out, with_change_if, after_at, IsGrown}
+use Rattle.merge_box.specs.Slots.{SlotState}
+use Rattle.merge_box.specs.Inside.{Changes, claimed_fields, published_doc, docs_of, carried_out, with_change_if, after_at, IsGrown, HasGrown}
 
 -- ---- without places
 unless_of : (x : Option (List (ℕ × Val))) → option_and_then (λ claims. unless_empty claims) x ≡ unless_empty (unwrap_or x [])
@@ -129,3 +130,9 @@ grown_at old new key e grown value change grows = record {
         | false ↦ λ _. grown_itself (kept_at key_cmp old k)
       ] refl);
 }
+
+pub HasGrown-itself : (s : SlotState) → HasGrown s s
+HasGrown-itself s = record { docs = IsGrown-itself s.docs; names = λ slot k h. h }
+
+pub HasGrown-on : (a b c : SlotState) → HasGrown a b → HasGrown b c → HasGrown a c
+HasGrown-on a b c p q = record { docs = IsGrown-on a.docs b.docs c.docs p.docs q.docs; names = λ slot k h. q.names slot k (p.names slot k h) }

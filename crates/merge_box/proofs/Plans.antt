@@ -148,7 +148,7 @@ message_added messages message k w is =
     keyed_is None = refl
     keyed_is (Some step) = refl
 
-other_key : (key k : Key) → key_cmp key k ≡ Greater → eq_by_cmp key_cmp k key ≡ false
+pub other_key : (key k : Key) → key_cmp key k ≡ Greater → eq_by_cmp key_cmp k key ≡ false
 other_key key k above = sym (either_way key k) ∙ ap is_eq above
 
 -- what is told of documents below a key, where no other document changes

@@ -1,5 +1,6 @@
 -- What a box keeps inside: documents with places for what a plan brings, and the changes of the last plan.
-use Rattle.std.specs.Prelude.{◌≡◌, ◌++◌, ℕ, true, List, [], Option, Some, None, IsSome, if◌then◌else◌}
+use Rattle.std.specs.Prelude.{◌≡◌, ◌++◌, ℕ, true, false, List, [], ◌∷◌, map, Option, Some, None, IsSome, if◌then◌else◌}
+use Rattle.std.specs.Ordering.{eq_by_cmp}
 use Rattle.std.specs.Option.{option_flatten}
 use Rattle.map_model.specs.Maps.{at, keyed, IsSorted, union, filter_map_entries}
 use Rattle.map_model.specs.Differences.{Step, between}
@@ -10,10 +11,12 @@ use Rattle.merge_model.specs.Box.{unless_empty}
 use Rattle.ejson_value.specs.declared.key.Key.{Key}
 use Rattle.ejson_value.specs.Key.{key_cmp}
 use Rattle.kept_document.specs.declared.held.Change.{Change}
-use Rattle.kept_document.specs.Held.{KeptDoc, same_value, IsHeld, IsDocGrown}
+use Rattle.kept_document.specs.Held.{KeptDoc, same_value, IsHeld, SameDoc, IsDocGrown}
 use Rattle.kept_document.specs.Changes.{held_in, with_change, IsChange, HasPlaces}
 use Rattle.merge_box.specs.Index.{Lists, is_listed}
+use Rattle.merge_box.specs.declared.plan.Planned.{Planned}
 use Rattle.merge_box.specs.State.{KeptDocs, Told}
+use Rattle.merge_box.specs.Slots.{SlotState, named, key_in, IsNamed}
 
 -- the fields with claims
 abbrev pub claimed_fields : List (List ℕ × List (ℕ × Val)) → List (List ℕ × List (ℕ × Val))
@@ -30,6 +33,15 @@ docs_of kept = filter_map_entries (λ k e. published_doc e) kept
 -- what changes of documents, by key
 abbrev pub Changes : Type 0
 Changes = List (Key × Change)
+
+-- the same of changes by slot
+abbrev pub changes_of : List (Option Key) → List Planned → Changes
+changes_of keys plan = map (λ p. (key_in keys p.slot, p.change)) plan
+
+-- each is of a slot with a document
+abbrev pub AreNamed : List (Option Key) → List Planned → Type 0
+AreNamed keys [] = Unit {0}
+AreNamed keys (p ∷ plan) = IsNamed keys p.slot × AreNamed keys plan
 
 -- what is kept once the changes are carried out
 abbrev pub carried_out : Changes → KeptDocs → KeptDocs
@@ -48,11 +60,23 @@ pub record IsGrown (old new : KeptDocs) : Type 0 where
   pub keys : (k : Key) → IsSome (at key_cmp old k) → IsSome (at key_cmp new k)
   pub docs : (k : Key) → IsDocGrown (kept_at key_cmp old k) (kept_at key_cmp new k)
 
+-- and each document stays in its slot
+pub record HasGrown (old new : SlotState) : Type 0 where
+  pub docs : IsGrown old.docs new.docs
+  pub names : (slot : ℕ) (k : Key) → named old.keys slot ≡ Some k → named new.keys slot ≡ Some k
+
 -- the change of a document can be carried out, with no memory
 pub record IsReady (kept : KeptDocs) (k : Key) (change : Change) : Type 0 where
   pub place : IsSome (at key_cmp kept k)
   pub places : HasPlaces (kept_at key_cmp kept k) change
   pub held : IsHeld (with_change (kept_at key_cmp kept k) change)
+
+-- the change of the document at the key is carried out, and every other document stays as it is, in its slot
+pub record IsTaken (old new : SlotState) (key : Key) (change : Change) : Type 0 where
+  pub same : SameDoc (with_change (kept_at key_cmp old.docs key) change) (kept_at key_cmp new.docs key)
+  pub held : IsHeld (kept_at key_cmp new.docs key)
+  pub others : (k : Key) → eq_by_cmp key_cmp k key ≡ false → at key_cmp new.docs k ≡ at key_cmp old.docs k
+  pub names : (slot : ℕ) (k : Key) → eq_by_cmp key_cmp k key ≡ false → named old.keys slot ≡ Some k → named new.keys slot ≡ Some k
 
 -- each document is kept whole and is listed under its publishers, and the changes can be carried out
 pub record IsInside (kept : KeptDocs) (changes : Changes) (lists : Lists) : Type 0 where

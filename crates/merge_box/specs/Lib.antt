@@ -1,4 +1,5 @@
 pub mod Index
 pub mod State
+pub mod Slots
 pub mod Inside
 pub mod StateCoding

@@ -1,12 +1,14 @@
 -- Boxes and messages are stored as lists and pairs.
-use Rattle.std.specs.Prelude.{◌≡◌, ℕ, zero, suc, List, [], refl}
-use Rattle.std.specs.Coded.{Coded, code_by, coded×, coded_list, coded_ℕ}
+use Rattle.std.specs.Prelude.{◌≡◌, ℕ, zero, suc, List, [], Option, refl}
+use Rattle.std.specs.Coded.{Coded, code_by, coded×, coded_list, coded_option, coded_ℕ}
 use Rattle.map_model.specs.Differences.{Step, added, changed, removed}
 use Rattle.value_model.specs.Val.{Val, Entries}
 use Rattle.value_model.specs.Coding.{entries_code}
+use Rattle.ejson_value.specs.declared.key.Key.{Key}
 use Rattle.ejson_value.specs.Key.{key_code}
 use Rattle.kept_document.specs.Held.{kept_code}
 use Rattle.merge_box.specs.State.{KeptDocs, Told, BoxState}
+use Rattle.merge_box.specs.Slots.{SlotState}
 
 abbrev pub step_to : Step (List ℕ) Val → ℕ × Entries × List (List ℕ)
 step_to (added d) = (0, d, [])
@@ -34,3 +36,6 @@ told_code = coded_list (coded× key_code step_code)
 
 abbrev pub box_code : Coded BoxState
 box_code = code_by (KeptDocs × KeptDocs) (coded× kept_docs_code kept_docs_code) (λ b. (b.kept, b.planned)) (λ p. record { kept = p.0; planned = p.1 }) (λ _. refl)
+
+abbrev pub slots_code : Coded SlotState
+slots_code = code_by (KeptDocs × List (Option Key)) (coded× kept_docs_code (coded_list (coded_option key_code))) (λ s. (s.docs, s.keys)) (λ p. record { docs = p.0; keys = p.1 }) (λ _. refl)

@@ -9,8 +9,9 @@ ghost use Rattle.ejson_value.specs.Changes.{news_of};
 ghost use Rattle.merge_box.specs.State.{shared_count, IsBoxAfter, Tells, Answers, IsPlan, IsBox};
 
 use crate::index::{Index, forget_unlisted};
+use crate::kept::KeptMap;
 use crate::news::{is_by_key, last_by_key};
-use crate::plan::{ChangeList, KeptMap, plan_news, removals, take_all};
+use crate::plan::{ChangeList, plan_news, removals, take_all};
 use ejson_value::{DataList, Doc, Key, Mem, Publish, Publishes};
 use std::alloc::Global;
 use std::collections::BTreeMap;
@@ -39,15 +40,20 @@ impl Model for MergeBox {
     ghost use Rattle.merge_box.specs.State.{BoxState, shared_count};
     ghost use Rattle.merge_box.specs.StateCoding.{box_code};
     ghost use Rattle.merge_box.specs.Index.{lists_of};
-    ghost use Rattle.merge_box.specs.Inside.{docs_of, carried_out, IsInside};
+    ghost use Rattle.merge_box.specs.Inside.{docs_of, changes_of, carried_out, IsInside, AreNamed};
 
     ghost Value = { BoxState };
 
     ghost coded = { box_code };
 
-    ghost view = { λ a. record { kept = docs_of a.kept.entries; planned = docs_of (carried_out a.changes.items a.kept.entries) } };
+    ghost view = { λ a. record {
+      kept = docs_of a.kept.docs;
+      planned = docs_of (carried_out (changes_of a.kept.keys a.changes.items) a.kept.docs);
+    } };
 
-    ghost invariant = { λ a. IsInside a.kept.entries a.changes.items (lists_of a.index.entries) × (a.listed ≡ shared_count a.kept.entries) };
+    ghost invariant = { λ a. IsInside a.kept.docs (changes_of a.kept.keys a.changes.items) (lists_of a.index.entries)
+        × AreNamed a.kept.keys a.changes.items
+        × (a.listed ≡ shared_count a.kept.docs) };
 }
 
 /// What a planned call answers once it is carried out. What it changes waits in the box, with all
@@ -72,7 +78,7 @@ impl Model for MergePlan {
 
 // The document as the client sees it.
 fn merged_at(kept: &KeptMap, alloc: Global, key: &Key) -> Result<Option<Doc>, Mem>
-    ensures { IfOk result (λ doc. doc ≡ merged_doc (kept_at key_cmp kept.now.entries key.now)) }
+    ensures { IfOk result (λ doc. doc ≡ merged_doc (kept_at key_cmp kept.now.docs key.now)) }
 {
     match kept.get(key) {
         None => Ok(None),
@@ -102,7 +108,7 @@ impl MergeBox {
     {
         MergeBox {
             alloc,
-            kept: BTreeMap::new(alloc),
+            kept: KeptMap::new(alloc),
             listed: 0,
             index: BTreeMap::new(alloc),
             sub: 0,

@@ -3,6 +3,7 @@
 
 mod boxes;
 mod index;
+mod kept;
 mod news;
 mod plan;
 

@@ -1,7 +1,6 @@
 //! What becomes of each document that a call changes.
 ghost use Rattle.std.specs.Prelude.{◌≡◌, ◌==◌, ◌∷◌, ◌++◌, ◌+◌, ◌<◌, ◌≤◌, ◌^◌, ℕ, true, false, [], map, option_to_list, Some, None, IsSome, IfOk, OnOk, if◌then◌else◌};
 ghost use Rattle.std.specs.Ordering.{eq_by_cmp};
-ghost use Rattle.std.specs.BTreeMap.{get};
 ghost use Rattle.map_model.specs.Maps.{at, keyed, IsSorted};
 ghost use Rattle.merge_model.specs.Publishing.{last_news};
 ghost use Rattle.merge_model.specs.Kept.{has, kept_at, publishers_at};
@@ -13,19 +12,25 @@ ghost use Rattle.merge_box.specs.Index.{lists_of, is_listed};
 ghost use Rattle.merge_box.specs.State.{shared_count};
 ghost use Rattle.ejson_value.specs.Messages.{said};
 ghost use Rattle.ejson_value.specs.Changes.{news_of};
-ghost use Rattle.merge_box.specs.Inside.{step_of, told_of, after_at, IsGrown, IsReady, IsInside, IsPlannedAt, IsNext, IsPublished};
+ghost use Rattle.merge_box.specs.Slots.{named, key_in, IsNamed};
+ghost use Rattle.merge_box.specs.Inside.{changes_of, step_of, told_of, after_at, AreNamed, HasGrown, IsReady, IsInside, IsPlannedAt, IsNext, IsTaken, IsPublished};
 
 use crate::index::{Index, list, unlist};
+use crate::kept::KeptMap;
 use ejson_value::{DataList, DataMsg, Key, Mem, Publish, Publishes};
 use kept_document::{Change, Held, told};
 use std::alloc::Global;
-use std::collections::{BTreeMap, BTreeSet};
+use std::collections::BTreeSet;
 
-/// What is kept of documents, by key.
-pub(crate) type KeptMap = BTreeMap<Key, Held>;
+/// What changes of the document in a slot.
+#[derive(Drop)]
+pub(crate) struct Planned {
+    pub(crate) slot: usize,
+    pub(crate) change: Change,
+}
 
 /// What changes of documents, by rising key.
-pub(crate) type ChangeList = Vec<(Key, Change)>;
+pub(crate) type ChangeList = Vec<Planned>;
 
 // Lists the key under the subscription, where it publishes the document from now on.
 fn list_published(
@@ -95,33 +100,33 @@ fn plan_held(
     Ok(change)
 }
 
-// The same of a document that has no place yet.
-fn plan_new(
+// The same of the document in a slot.
+fn plan_at(
     kept: &mut KeptMap,
+    slot: usize,
     messages: &mut DataList,
     index: &mut Index,
     alloc: Global,
     sub: u64,
     publish: &Publish,
 ) -> Result<Change, Mem>
-    requires { get key_cmp kept.old publish.now.key ≡ None }
-    ensures grown { IsGrown kept.old.entries kept.new.entries }
+    requires slot { named kept.old.keys slot ≡ Some publish.now.key }
+    requires listed { has sub (publishers_at key_cmp kept.old.docs publish.now.key) ≡ true →
+        is_listed (lists_of index.old.entries) sub publish.now.key ≡ true }
+    ensures grown { HasGrown kept.old kept.new }
     ensures others { (k : Key) → eq_by_cmp key_cmp k publish.now.key ≡ false →
-        at key_cmp kept.new.entries k ≡ at key_cmp kept.old.entries k }
+        at key_cmp kept.new.docs k ≡ at key_cmp kept.old.docs k }
     ensures listed { (s : ℕ) (k : Key) → is_listed (lists_of index.old.entries) s k ≡ true →
         is_listed (lists_of index.new.entries) s k ≡ true }
-    ensures room { OnOk result (IsSome (at key_cmp kept.new.entries publish.now.key)) }
     ensures planned { IfOk result (λ change.
-        IsNext sub publish.now.key publish.now.new (kept_at key_cmp kept.new.entries publish.now.key)
+        IsNext sub publish.now.key publish.now.new (kept_at key_cmp kept.new.docs publish.now.key)
         (lists_of index.new.entries) (map said messages.old) (map said messages.new) change) }
 {
-    let mut held = Held::new();
-    let change = plan_held(&mut held, messages, index, alloc, sub, publish)?;
-    drop(kept.insert(publish.key.copy()?, held)?);
-    Ok(change)
+    let slot = &mut kept.slots[slot];
+    plan_held(&mut slot.held, messages, index, alloc, sub, publish)
 }
 
-// Plans what becomes of one document.
+// Plans what becomes of one document. Its key is looked up here, and nowhere else.
 fn plan_publish(
     kept: &mut KeptMap,
     messages: &mut DataList,
@@ -129,31 +134,23 @@ fn plan_publish(
     alloc: Global,
     sub: u64,
     publish: &Publish,
-) -> Result<Change, Mem>
-    requires { has sub (publishers_at key_cmp kept.old.entries publish.now.key) ≡ true →
+) -> Result<Planned, Mem>
+    requires { has sub (publishers_at key_cmp kept.old.docs publish.now.key) ≡ true →
         is_listed (lists_of index.old.entries) sub publish.now.key ≡ true }
-    ensures grown { IsGrown kept.old.entries kept.new.entries }
+    ensures grown { HasGrown kept.old kept.new }
     ensures others { (k : Key) → eq_by_cmp key_cmp k publish.now.key ≡ false →
-        at key_cmp kept.new.entries k ≡ at key_cmp kept.old.entries k }
+        at key_cmp kept.new.docs k ≡ at key_cmp kept.old.docs k }
     ensures listed { (s : ℕ) (k : Key) → is_listed (lists_of index.old.entries) s k ≡ true →
         is_listed (lists_of index.new.entries) s k ≡ true }
-    ensures room { OnOk result (IsSome (at key_cmp kept.new.entries publish.now.key)) }
-    ensures planned { IfOk result (λ change.
-        IsNext sub publish.now.key publish.now.new (kept_at key_cmp kept.new.entries publish.now.key)
-        (lists_of index.new.entries) (map said messages.old) (map said messages.new) change) }
+    ensures named { IfOk result (λ planned. named kept.new.keys planned.slot ≡ Some publish.now.key) }
+    ensures room { OnOk result (IsSome (at key_cmp kept.new.docs publish.now.key)) }
+    ensures planned { IfOk result (λ planned.
+        IsNext sub publish.now.key publish.now.new (kept_at key_cmp kept.new.docs publish.now.key)
+        (lists_of index.new.entries) (map said messages.old) (map said messages.new) planned.change) }
 {
-    match kept.get_mut(&publish.key) {
-        None => plan_new(kept, messages, index, alloc, sub, publish),
-        Some(held) => plan_held(held, messages, index, alloc, sub, publish),
-    }
-}
-
-// Adds the change of the document at the key.
-fn push_change(plan: &mut ChangeList, key: &Key, change: Change) -> Result<(), Mem>
-    ensures { OnOk result (plan.new.items ≡ plan.old.items ++ (key.now, change) ∷ []) }
-{
-    plan.push((key.copy()?, change))?;
-    Ok(())
+    let slot = kept.slot_for(&publish.key)?;
+    let change = plan_at(kept, slot, messages, index, alloc, sub, publish)?;
+    Ok(Planned { slot, change })
 }
 
 /// Plans what becomes of each document of the news, which stand by rising key, with the messages about
@@ -167,23 +164,27 @@ pub(crate) fn plan_news(
     news: &[Publish],
 ) -> Result<ChangeList, Mem>
     requires by_key { IsSorted key_cmp (news_of news.now) }
-    requires listed { (k : Key) → has sub (publishers_at key_cmp kept.old.entries k) ≡ true →
+    requires listed { (k : Key) → has sub (publishers_at key_cmp kept.old.docs k) ≡ true →
         is_listed (lists_of index.old.entries) sub k ≡ true }
-    ensures grown { IsGrown kept.old.entries kept.new.entries }
+    ensures grown { HasGrown kept.old kept.new }
     ensures listed { (s : ℕ) (k : Key) → is_listed (lists_of index.old.entries) s k ≡ true →
         is_listed (lists_of index.new.entries) s k ≡ true }
-    ensures by_key { IfOk result (λ plan. IsSorted key_cmp plan.items) }
+    ensures named { IfOk result (λ plan. AreNamed kept.new.keys plan.items) }
+    ensures by_key { IfOk result (λ plan. IsSorted key_cmp (changes_of kept.new.keys plan.items)) }
     ensures planned { IfOk result (λ plan. (k : Key) →
-        IsPlannedAt sub (last_news key_cmp (news_of news.now) k) (kept_at key_cmp kept.new.entries k) (at key_cmp plan.items k)) }
-    ensures room { IfOk result (λ plan. (k : Key) → IsSome (at key_cmp plan.items k) → IsSome (at key_cmp kept.new.entries k)) }
+        IsPlannedAt sub (last_news key_cmp (news_of news.now) k) (kept_at key_cmp kept.new.docs k)
+        (at key_cmp (changes_of kept.new.keys plan.items) k)) }
+    ensures room { IfOk result (λ plan. (k : Key) → IsSome (at key_cmp (changes_of kept.new.keys plan.items) k) →
+        IsSome (at key_cmp kept.new.docs k)) }
     ensures listed_here { IfOk result (λ plan. (k : Key) → IsPublished (last_news key_cmp (news_of news.now) k) →
         is_listed (lists_of index.new.entries) sub k ≡ true) }
-    ensures told { IfOk result (λ plan. map said messages.new ≡ map said messages.old ++ told_of kept.new.entries plan.items) }
+    ensures told { IfOk result (λ plan.
+        map said messages.new ≡ map said messages.old ++ told_of kept.new.docs (changes_of kept.new.keys plan.items)) }
 {
     let mut plan = Vec::with_capacity(alloc, news.len())?;
     for publish in news {
-        let change = plan_publish(kept, messages, index, alloc, sub, publish)?;
-        push_change(&mut plan, &publish.key, change)?;
+        let planned = plan_publish(kept, messages, index, alloc, sub, publish)?;
+        plan.push(planned)?;
     }
     Ok(plan)
 }
@@ -200,7 +201,7 @@ fn unlist_unpublished(index: &mut Index, sub: u64, key: &Key, change: &Change)
 
 // Carries out the change of one document that stays published, and answers whether two or more
 // subscriptions published it before.
-fn take_at(held: &mut Held, change: Change) -> bool
+fn take(held: &mut Held, change: Change) -> bool
     requires places { HasPlaces held.old change }
     requires held { IsHeld (with_change held.old change) }
     ensures was { result ≡ is_shared held.old.publishers }
@@ -212,35 +213,29 @@ fn take_at(held: &mut Held, change: Change) -> bool
     was
 }
 
-// Takes a document's place away, and answers whether two or more subscriptions published it.
-fn trim(kept: &mut KeptMap, key: &Key) -> bool
-    ensures was { result ≡ is_shared (publishers_at key_cmp kept.old.entries key.now) }
-    ensures gone { at key_cmp kept.new.entries key.now ≡ None }
-    ensures others { (k : Key) → eq_by_cmp key_cmp k key.now ≡ false →
-        at key_cmp kept.new.entries k ≡ at key_cmp kept.old.entries k }
+// The same of the document in a slot.
+fn take_at(kept: &mut KeptMap, slot: usize, change: Change) -> bool
+    requires slot { IsNamed kept.old.keys slot }
+    requires ready { IsReady kept.old.docs (key_in kept.old.keys slot) change }
+    ensures was { result ≡ is_shared (publishers_at key_cmp kept.old.docs (key_in kept.old.keys slot)) }
+    ensures taken { IsTaken kept.old kept.new (key_in kept.old.keys slot) change }
 {
-    match kept.remove(key) {
-        None => false,
-        Some(held) => held.is_shared(),
-    }
+    let slot = &mut kept.slots[slot];
+    take(&mut slot.held, change)
 }
 
-// Carries out the change of one document, takes its place away where nobody publishes it any more, and
-// answers whether two or more subscriptions published it before.
-fn take_or_trim(kept: &mut KeptMap, key: &Key, change: Change) -> bool
-    requires { IsReady kept.old.entries key.now change }
-    ensures was { result ≡ is_shared (publishers_at key_cmp kept.old.entries key.now) }
-    ensures same { SameDoc (with_change (kept_at key_cmp kept.old.entries key.now) change) (kept_at key_cmp kept.new.entries key.now) }
-    ensures held { IsHeld (kept_at key_cmp kept.new.entries key.now) }
-    ensures others { (k : Key) → eq_by_cmp key_cmp k key.now ≡ false →
-        at key_cmp kept.new.entries k ≡ at key_cmp kept.old.entries k }
+// Carries out the change of the document in the slot, which is taken away where nobody publishes the
+// document any more, and answers whether two or more subscriptions published it before.
+fn take_or_trim(kept: &mut KeptMap, slot: usize, change: Change) -> bool
+    requires slot { IsNamed kept.old.keys slot }
+    requires ready { IsReady kept.old.docs (key_in kept.old.keys slot) change }
+    ensures was { result ≡ is_shared (publishers_at key_cmp kept.old.docs (key_in kept.old.keys slot)) }
+    ensures taken { IsTaken kept.old kept.new (key_in kept.old.keys slot) change }
 {
-    if !change.is_published() {
-        return trim(kept, key);
-    }
-    match kept.get_mut(key) {
-        None => false,
-        Some(held) => take_at(held, change),
+    if change.is_published() {
+        take_at(kept, slot, change)
+    } else {
+        kept.trim(slot)
     }
 }
 
@@ -257,19 +252,18 @@ fn counted(count: u64, was: bool, is: bool) -> u64
     }
 }
 
-// Carries out the change of one document, where so many were published by two or more subscriptions, and answers how many are.
-fn take_counted(kept: &mut KeptMap, count: u64, key: &Key, change: Change) -> u64
-    requires ready { IsReady kept.old.entries key.now change }
-    requires count { count ≡ shared_count kept.old.entries }
-    ensures same { SameDoc (with_change (kept_at key_cmp kept.old.entries key.now) change) (kept_at key_cmp kept.new.entries key.now) }
-    ensures held { IsHeld (kept_at key_cmp kept.new.entries key.now) }
-    ensures others { (k : Key) → eq_by_cmp key_cmp k key.now ≡ false →
-        at key_cmp kept.new.entries k ≡ at key_cmp kept.old.entries k }
-    ensures count { result ≡ shared_count kept.new.entries }
+// Carries out the change of the document in the slot, where so many were published by two or more
+// subscriptions, and answers how many are.
+fn take_counted(kept: &mut KeptMap, count: u64, slot: usize, change: Change) -> u64
+    requires slot { IsNamed kept.old.keys slot }
+    requires ready { IsReady kept.old.docs (key_in kept.old.keys slot) change }
+    requires count { count ≡ shared_count kept.old.docs }
+    ensures taken { IsTaken kept.old kept.new (key_in kept.old.keys slot) change }
+    ensures count { result ≡ shared_count kept.new.docs }
 {
     let _before = kept.len();
     let is = change.is_shared();
-    let was = take_or_trim(kept, key, change);
+    let was = take_or_trim(kept, slot, change);
     let _after = kept.len();
     counted(count, was, is)
 }
@@ -283,19 +277,21 @@ pub(crate) fn take_all(
     changes: ChangeList,
     count: u64,
 ) -> u64
-    requires inside { IsInside kept.old.entries changes.items (lists_of index.old.entries) }
-    requires count { count ≡ shared_count kept.old.entries }
-    ensures same { (k : Key) → SameDoc (after_at changes.items kept.old.entries k) (kept_at key_cmp kept.new.entries k) }
-    ensures held { (k : Key) → IsHeld (kept_at key_cmp kept.new.entries k) }
-    ensures listed { (k : Key) (s : ℕ) → has s (publishers_at key_cmp kept.new.entries k) ≡ true →
+    requires inside { IsInside kept.old.docs (changes_of kept.old.keys changes.items) (lists_of index.old.entries) }
+    requires named { AreNamed kept.old.keys changes.items }
+    requires count { count ≡ shared_count kept.old.docs }
+    ensures same { (k : Key) →
+        SameDoc (after_at (changes_of kept.old.keys changes.items) kept.old.docs k) (kept_at key_cmp kept.new.docs k) }
+    ensures held { (k : Key) → IsHeld (kept_at key_cmp kept.new.docs k) }
+    ensures listed { (k : Key) (s : ℕ) → has s (publishers_at key_cmp kept.new.docs k) ≡ true →
         is_listed (lists_of index.new.entries) s k ≡ true }
-    ensures count { result ≡ shared_count kept.new.entries }
+    ensures count { result ≡ shared_count kept.new.docs }
 {
     let mut changes = changes;
     let mut count = count;
-    while let Some((key, change)) = changes.pop() {
-        unlist_unpublished(index, sub, &key, &change);
-        count = take_counted(kept, count, &key, change);
+    while let Some(Planned { slot, change }) = changes.pop() {
+        unlist_unpublished(index, sub, kept.key(slot), &change);
+        count = take_counted(kept, count, slot, change);
     }
     count
 }

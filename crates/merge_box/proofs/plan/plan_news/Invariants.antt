@@ -8,17 +8,18 @@ use Rattle.ejson_value.specs.Key.{key_cmp}
 use Rattle.ejson_value.specs.Changes.{news_of}
 use Rattle.ejson_value.specs.Messages.{said}
 use Rattle.merge_box.specs.Index.{lists_of, is_listed}
-use Rattle.merge_box.specs.Inside.{told_of, IsGrown, IsPlannedAt, IsPublished}
+use Rattle.merge_box.specs.Inside.{changes_of, told_of, AreNamed, HasGrown, IsPlannedAt, IsPublished}
 use Rattle.merge_box.proofs.plan.plan_news.Given as goal
 
 abbrev pub invariant-loop-publish : goal.invariant-loop-publish
 invariant-loop-publish l = record {
-  grown : IsGrown l.initial.kept.entries l.kept.entries;
+  grown : HasGrown l.initial.kept l.kept;
   listed : (s : ℕ) (k : Key) → is_listed (lists_of l.initial.index.entries) s k ≡ true → is_listed (lists_of l.index.entries) s k ≡ true;
-  keys : keys_of l.plan.items ≡ keys_of (news_of (take l.publish-index l.news));
-  by_key : IsSorted key_cmp l.plan.items;
-  planned : (k : Key) → IsPlannedAt l.sub (last_news key_cmp (news_of (take l.publish-index l.news)) k) (kept_at key_cmp l.kept.entries k) (at key_cmp l.plan.items k);
-  room : (k : Key) → IsSome (at key_cmp l.plan.items k) → IsSome (at key_cmp l.kept.entries k);
+  named : AreNamed l.kept.keys l.plan.items;
+  keys : keys_of (changes_of l.kept.keys l.plan.items) ≡ keys_of (news_of (take l.publish-index l.news));
+  by_key : IsSorted key_cmp (changes_of l.kept.keys l.plan.items);
+  planned : (k : Key) → IsPlannedAt l.sub (last_news key_cmp (news_of (take l.publish-index l.news)) k) (kept_at key_cmp l.kept.docs k) (at key_cmp (changes_of l.kept.keys l.plan.items) k);
+  room : (k : Key) → IsSome (at key_cmp (changes_of l.kept.keys l.plan.items) k) → IsSome (at key_cmp l.kept.docs k);
   listed_here : (k : Key) → IsPublished (last_news key_cmp (news_of (take l.publish-index l.news)) k) → is_listed (lists_of l.index.entries) l.sub k ≡ true;
-  told : map said l.messages ≡ map said l.initial.messages ++ told_of l.kept.entries l.plan.items;
+  told : map said l.messages ≡ map said l.initial.messages ++ told_of l.kept.docs (changes_of l.kept.keys l.plan.items);
 }

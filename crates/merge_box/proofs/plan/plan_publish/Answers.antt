@@ -1,27 +1,28 @@
-use Rattle.std.proofs.Common.{Some, unwrap_or, is_some, ap, sym, subst, map, IfOk}
-use Rattle.merge_model.specs.Kept.{nothing_kept}
-use Rattle.ejson_value.specs.Key.{key_order}
-use Rattle.ejson_value.specs.Messages.{said}
-use Rattle.kept_document.proofs.Puts.{put_here, put_others}
-use Rattle.merge_box.specs.Index.{lists_of}
-use Rattle.merge_box.specs.Inside.{IsNext}
-use Rattle.merge_box.proofs.Places.{grown_at}
+use Rattle.std.proofs.Common.{ap, sym, ◌∙◌}
+use Rattle.merge_model.specs.Kept.{has}
+use Rattle.merge_box.proofs.Places.{HasGrown-on}
 use Rattle.merge_box.proofs.plan.plan_publish.Goals as goal
 
-pub returns-in-Some-clause-grown : goal.returns-in-Some-clause-grown
-returns-in-Some-clause-grown c =
-    let held = c.plan_held.new.held in
-    grown_at c.args.kept.now.entries (c.get_mut.follows.lender held).entries c.args.publish.now.key c.in-Some.held.now held (ap (λ x. unwrap_or x nothing_kept) (sym c.in-Some.ensures.value))
-    ((c.get_mut.follows.holds held).3 (ap is_some (sym c.in-Some.ensures.value))).0 c.plan_held.ensures.grown
+pub plan_at-requires-clause-listed : goal.plan_at-requires-clause-listed
+plan_at-requires-clause-listed c = λ there. c.requires (ap (has c.args.sub) (sym (c.slot_for.ensures.grown.docs.docs c.args.publish.now.key).same.publishers) ∙ there)
 
-pub returns-in-Some-clause-others : goal.returns-in-Some-clause-others
-returns-in-Some-clause-others c =
-    let held = c.plan_held.new.held in
-    put_others key_order c.args.kept.now.entries (c.get_mut.follows.lender held).entries c.args.publish.now.key (Some held) ((c.get_mut.follows.holds held).3 (ap is_some (sym c.in-Some.ensures.value))).0
+pub returns-in_err-change-clause-grown : goal.returns-in_err-change-clause-grown
+returns-in_err-change-clause-grown c = HasGrown-on c.args.kept.now c.slot_for.new.self c.plan_at.new.kept c.slot_for.ensures.grown c.plan_at.ensures.grown
 
-pub returns-in-Some-clause-planned : goal.returns-in-Some-clause-planned
-returns-in-Some-clause-planned c =
-    let held = c.plan_held.new.held in
-    let here = put_here key_order c.args.kept.now.entries (c.get_mut.follows.lender held).entries c.args.publish.now.key (Some held) ((c.get_mut.follows.holds held).3 (ap is_some (sym c.in-Some.ensures.value))).0 in
-    subst (λ e. IfOk c.plan_held.result (IsNext c.args.sub c.args.publish.now.key c.args.publish.now.new e (lists_of c.plan_held.new.index.entries) (map said c.args.messages.now) (map said c.plan_held.new.messages)))
-    (sym (ap (λ x. unwrap_or x nothing_kept) here)) c.plan_held.ensures.planned
+pub returns-in_err-change-clause-others : goal.returns-in_err-change-clause-others
+returns-in_err-change-clause-others c = λ k other. c.plan_at.ensures.others k other ∙ c.slot_for.ensures.others k other
+
+pub returns-clause-grown : goal.returns-clause-grown
+returns-clause-grown c = HasGrown-on c.args.kept.now c.slot_for.new.self c.plan_at.new.kept c.slot_for.ensures.grown c.plan_at.ensures.grown
+
+pub returns-clause-others : goal.returns-clause-others
+returns-clause-others c = λ k other. c.plan_at.ensures.others k other ∙ c.slot_for.ensures.others k other
+
+pub returns-clause-named : goal.returns-clause-named
+returns-clause-named c = c.plan_at.ensures.grown.names c.in_ok-slot.slot c.args.publish.now.key c.in_ok-slot.ensures.named
+
+pub returns-clause-room : goal.returns-clause-room
+returns-clause-room c = c.plan_at.ensures.grown.docs.keys c.args.publish.now.key c.in_ok-slot.ensures.room
+
+pub returns-clause-planned : goal.returns-clause-planned
+returns-clause-planned c = c.in_ok-change.ensures.planned

@@ -8,19 +8,20 @@ use Rattle.kept_document.specs.Held.{IsHeld, SameDoc}
 use Rattle.kept_document.specs.Changes.{held_in}
 use Rattle.merge_box.specs.Index.{lists_of, is_listed}
 use Rattle.merge_box.specs.State.{shared_count}
-use Rattle.merge_box.specs.Inside.{after_at, IsReady}
+use Rattle.merge_box.specs.Inside.{changes_of, after_at, AreNamed, IsReady}
 use Rattle.merge_box.proofs.plan.take_all.Given as goal
 
-abbrev pub invariant-loop-key : goal.invariant-loop-key
-invariant-loop-key l = record {
-  same : (k : Key) → SameDoc (after_at l.initial.changes.items l.initial.kept.entries k) (after_at l.changes.items l.kept.entries k);
-  held : (k : Key) → IsHeld (kept_at key_cmp l.kept.entries k);
-  listed : (k : Key) (s : ℕ) → has s (publishers_at key_cmp l.kept.entries k) ≡ true → is_listed (lists_of l.index.entries) s k ≡ true;
-  ready : (k : Key) (change : Change) → at key_cmp l.changes.items k ≡ Some change → IsReady l.kept.entries k change;
-  by_key : IsSorted key_cmp l.changes.items;
-  count : l.count ≡ shared_count l.kept.entries;
-  will_list : (k : Key) (change : Change) (s : ℕ) → at key_cmp l.changes.items k ≡ Some change → has s (held_in change).publishers ≡ true → is_listed (lists_of l.index.entries) s k ≡ true;
+abbrev pub invariant-loop-slot : goal.invariant-loop-slot
+invariant-loop-slot l = record {
+  same : (k : Key) → SameDoc (after_at (changes_of l.initial.kept.keys l.initial.changes.items) l.initial.kept.docs k) (after_at (changes_of l.kept.keys l.changes.items) l.kept.docs k);
+  held : (k : Key) → IsHeld (kept_at key_cmp l.kept.docs k);
+  listed : (k : Key) (s : ℕ) → has s (publishers_at key_cmp l.kept.docs k) ≡ true → is_listed (lists_of l.index.entries) s k ≡ true;
+  ready : (k : Key) (change : Change) → at key_cmp (changes_of l.kept.keys l.changes.items) k ≡ Some change → IsReady l.kept.docs k change;
+  named : AreNamed l.kept.keys l.changes.items;
+  by_key : IsSorted key_cmp (changes_of l.kept.keys l.changes.items);
+  count : l.count ≡ shared_count l.kept.docs;
+  will_list : (k : Key) (change : Change) (s : ℕ) → at key_cmp (changes_of l.kept.keys l.changes.items) k ≡ Some change → has s (held_in change).publishers ≡ true → is_listed (lists_of l.index.entries) s k ≡ true;
 }
 
-abbrev pub decreases-loop-key : goal.decreases-loop-key
-decreases-loop-key l = vec_len l.changes
+abbrev pub decreases-loop-slot : goal.decreases-loop-slot
+decreases-loop-slot l = vec_len l.changes

@@ -8,7 +8,7 @@ use Rattle.merge_box.proofs.boxes.MergeBox.merged.Goals as goal
 
 pub returns : goal.returns
 returns c =
-    let kept = c.self.inside.kept.entries in
+    let kept = c.self.inside.kept.docs in
     c.in_ok-doc.ensures ∙ sym (at-merged key_order name_order kept c.args.key.now c.self.invariant.0.by_key)
     ∙ ap (λ m. at key_cmp m c.args.key.now) (sym (merged_docs kept c.self.invariant.0.by_key c.self.invariant.0.held))
     ∙ ap (λ b. at key_cmp (merged b.kept) c.args.key.now) c.self.view_is

@@ -12,7 +12,7 @@ use Rattle.merge_box.proofs.boxes.MergeBox.plan_drop.Goals as goal
 pub returns-clause-planned : goal.returns-clause-planned
 returns-clause-planned c =
     let lists = lists_of c.self.inside.index.entries in
-    let kept = c.self.inside.kept.entries in
+    let kept = c.self.inside.kept.docs in
     let box = c.plan_by_key.new.self in
     drop_is c.args.sub (news_of c.as_slice.result.now) box c.in_ok-plan.plan (is_listed lists c.args.sub) c.known.ensures.kept c.known.ensures.planned
     (λ k. ap (λ n. last_news key_cmp (news_of n) k) c.as_slice.ensures ∙ c.in_ok-news.ensures.last k)
