@@ -115,6 +115,10 @@ abbrev pub reading : Val → Reading Modification
 reading (object fs) = fields_reading fs
 reading v = Err fault.NotObject
 
+-- one operator with one path
+abbrev pub one_operator : List ℕ → List ℕ → Val → Val
+one_operator n written v = object (field n (object (field written v no_fields)) no_fields)
+
 -- The call answers as the reading says, or want of memory.
 abbrev pub Gives : {T X : Type 0} → (T → X) → Result T ModifierFault → Reading X → Type 0
 Gives f (Ok t) r = r ≡ Ok (f t)

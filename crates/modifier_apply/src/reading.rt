@@ -1,12 +1,14 @@
 //! Reading values as modifiers.
-ghost use Rattle.std.specs.Prelude.{◌≡◌, ◌∷◌, [], ◌++◌, Ok, OnOk, OnErr};
+ghost use Rattle.std.specs.Prelude.{◌≡◌, ◌∷◌, [], ◌++◌, true, Ok, IfSome};
 ghost use Rattle.std.specs.List.{list_any};
-ghost use Rattle.value_model.specs.Val.{fields_of, list_of};
+ghost use Rattle.value_model.specs.Val.{object, field, no_fields, fields_of, list_of};
 ghost use Rattle.value_model.specs.Branches.{path_of};
 ghost use Rattle.selector_match.specs.Reading.{begins_with_dollar, test_reading};
 ghost use Rattle.ejson_value.specs.View.{view};
+ghost use Rattle.ejson_value.specs.Results.{made};
+ghost use Rattle.modifier_apply.specs.Change.{changed_by};
 ghost use Rattle.modifier_apply.specs.View.{edit_view, change_view, changes_view};
-ghost use Rattle.modifier_apply.specs.Reading.{Gives, plain_path, list_reading, each_reading, values_reading, increment_reading, from_test, pull_reading, pop_reading, edit_reading, change_reading, paths_reading, operand_reading, operator_reading, operator_named, changes_reading, fields_reading, reading};
+ghost use Rattle.modifier_apply.specs.Reading.{Gives, plain_path, list_reading, each_reading, values_reading, increment_reading, from_test, pull_reading, pop_reading, edit_reading, change_reading, paths_reading, operand_reading, operator_reading, operator_named, changes_reading, fields_reading, one_operator, reading};
 
 use crate::fault::ModifierFault;
 use crate::modifier::{Modifier, ModifierKind, Operator, Update};
@@ -175,7 +177,7 @@ fn read_update(
 fn read_paths(alloc: Global, name: OperatorName, fields: &Doc) -> Result<Vec<Update>, ModifierFault>
     ensures { Gives (λ us. changes_view us.items) result (paths_reading name (fields_of fields.now)) }
 {
-    let mut updates = Vec::new(alloc);
+    let mut updates = Vec::with_capacity(alloc, fields.len())?;
     for (written, operand) in fields.iter() {
         let update = read_update(alloc, name, written, operand)?;
         updates.push(update)?;
@@ -217,9 +219,35 @@ fn read_updates(alloc: Global, fields: &Doc) -> Result<Vec<Update>, ModifierFaul
     Ok(updates)
 }
 
+// The operator with its operand, where the object has no other field.
+fn only_operator(fields: &Doc) -> Option<(&Text, &Value)>
+    ensures only { IfSome result (λ pair. fields.now ≡ (pair.0.now, view pair.1.now) ∷ []) }
+    ensures named { IfSome result (λ pair. begins_with_dollar pair.0.now ≡ true) }
+{
+    let (name, operand) = fields.only_field()?;
+    if begins_with_dollar(name) {
+        Some((name, operand))
+    } else {
+        None
+    }
+}
+
+// The modifier of one operator.
+fn read_alone(alloc: Global, name: &Text, operand: &Value) -> Result<Modifier, ModifierFault>
+    ensures { Gives (λ m. m) result (made changed_by (operator_reading (operator_named name.now) (view operand.now))) }
+{
+    let updates = read_named(alloc, name, operand)?;
+    Ok(Modifier {
+        kind: ModifierKind::Updates(updates),
+    })
+}
+
 fn read_fields(alloc: Global, fields: &Doc) -> Result<Modifier, ModifierFault>
     ensures { Gives (λ m. m) result (fields_reading (fields_of fields.now)) }
 {
+    if let Some((name, operand)) = only_operator(fields) {
+        return read_alone(alloc, name, operand);
+    }
     if !has_operator(fields) {
         let copied = fields.copy()?;
         return Ok(Modifier {
@@ -235,7 +263,40 @@ fn read_fields(alloc: Global, fields: &Doc) -> Result<Modifier, ModifierFault>
     })
 }
 
+// The modifier of an operator with one path.
+fn read_single(
+    alloc: Global,
+    name: &Text,
+    written: &Text,
+    operand: &Value,
+) -> Result<Modifier, ModifierFault>
+    ensures { Gives (λ m. m) result (made changed_by (operator_reading (operator_named name.now) (object (field written.now (view operand.now) no_fields)))) }
+{
+    let Some(name) = operator_named(name) else {
+        return Err(ModifierFault::UnknownOperator);
+    };
+    let mut updates = Vec::with_capacity(alloc, 1)?;
+    let update = read_update(alloc, name, written, operand)?;
+    updates.push(update)?;
+    Ok(Modifier {
+        kind: ModifierKind::Updates(updates),
+    })
+}
+
 impl Modifier {
+    /// The modifier that an object is in which one operator has one path.
+    pub fn read_one(
+        alloc: Global,
+        name: &Text,
+        written: &Text,
+        operand: &Value,
+    ) -> Result<Modifier, ModifierFault>
+        requires { begins_with_dollar name.now ≡ true }
+        ensures { Gives (λ m. m) result (reading (one_operator name.now written.now (view operand.now))) }
+    {
+        read_single(alloc, name, written, operand)
+    }
+
     /// The modifier that the value is: a replacement where no name begins with `$`, else operators.
     pub fn read(alloc: Global, value: &Value) -> Result<Modifier, ModifierFault>
         ensures { Gives (λ m. m) result (reading (view value.now)) }
