@@ -1,5 +1,5 @@
 -- Templates: values in which placeholders stand for what is known only later.
-use Rattle.std.specs.Prelude.{◌≡◌, ℕ, ℤ, pos, negsuc, List, codes, Option, None, Some, ok_or, Result, Ok, Err, slice_get, option_map, nat_lt, if◌then◌else◌}
+use Rattle.std.specs.Prelude.{◌≡◌, ◌≤◌, ℕ, ℤ, pos, negsuc, List, codes, Option, None, Some, ok_or, Result, Ok, Err, slice_get, option_map, nat_lt, if◌then◌else◌}
 use Rattle.value_model.specs.Val.{Val, int, text, list, object, Vals, no_vals, val, Fields, no_fields, field}
 use Rattle.value_model.specs.Depth.{depth}
 use Rattle.value_model.specs.Size.{size, is_name}
@@ -65,6 +65,18 @@ limited (Err e) = Err e
 -- a template filled with parameters and with ids that were made
 abbrev pub filled : List Val → List (List ℕ) → Val → Filling Val
 filled params ids template = limited (filling params ids template)
+
+-- A value that holds no others and is short; and a template that is filled to one, whatever ids were made.
+abbrev pub max_short : ℕ
+max_short = 8192
+
+pub record IsShort (v : Val) : Type 0 where
+  pub flat : depth v ≡ 0
+  pub short : size v ≤ max_short
+
+pub record FillsShort (params : List Val) (template v : Val) : Type 0 where
+  pub fills : (ids : List (List ℕ)) → filling params ids template ≡ Ok v
+  pub value : IsShort v
 
 -- The call answers as the filling says, or want of memory.
 abbrev pub Gives : {T X : Type 0} → (T → X) → Result T FillFault → Filling X → Type 0

@@ -15,4 +15,4 @@ pub use fault::FillFault;
 pub use outcome::{End, Outcome, Status};
 pub use rules::{Action, Rule, RuleList, Rules};
 pub use step::{Program, ProgramStep, ProgramSteps};
-pub use template::Template;
+pub use template::{Template, fill_short};

@@ -1,14 +1,14 @@
 //! Templates.
-ghost use Rattle.std.specs.Prelude.{◌≡◌, Option, Some, ok_or, option_map, IfOk};
+ghost use Rattle.std.specs.Prelude.{◌≡◌, Option, Some, ok_or, option_map, IfOk, IfSome};
 ghost use Rattle.value_model.specs.Val.{text, list, object, vals_of, fields_of};
 ghost use Rattle.ejson_value.specs.View.{view};
 ghost use Rattle.ejson_value.specs.Results.{made};
 ghost use Rattle.program_steps.specs.declared.fault.FillFault.TheVariants.{NoParam};
-ghost use Rattle.program_steps.specs.Template.{placeholder_named, placeholder_in, nth, in_place, filling, items_filling, fields_filling, filled, Gives};
+ghost use Rattle.program_steps.specs.Template.{placeholder_named, placeholder_in, nth, in_place, filling, items_filling, fields_filling, filled, IsShort, FillsShort, Gives};
 
 use crate::fault::FillFault;
 use crate::measuring::{measure, past_limits};
-use ejson_value::{Doc, Items, Mem, Names, Text, Value, copy};
+use ejson_value::{Doc, Items, Mem, Names, Text, Value, copy, depth, size};
 use std::alloc::Global;
 use std::marker::Model;
 
@@ -161,5 +161,52 @@ impl Template {
         Ok(Template {
             value: copy(&self.value)?,
         })
+    }
+}
+
+const MAX_SHORT: u64 = 8192;
+
+// A copy of a value that holds no others and is short.
+fn short(value: &Value) -> Result<Option<Value>, Mem>
+    ensures { IfOk result (λ o. IfSome o (λ short. (view short ≡ view value.now) × IsShort (view short))) }
+{
+    if depth(value) > 0 || size(value) > MAX_SHORT {
+        return Ok(None);
+    }
+    Ok(Some(copy(value)?))
+}
+
+// The parameter of this number, from 0.
+fn param_at(params: &Items, number: i64) -> Option<&Value>
+    ensures { option_map (λ v. view v.now) result ≡ nth params.now number }
+{
+    if number < 0 {
+        return None;
+    }
+    params.get(number as usize)
+}
+
+// What stands for the object, where that is a short parameter.
+fn short_param(fields: &Doc, params: &Items) -> Result<Option<Value>, Mem>
+    ensures { IfOk result (λ o. IfSome o (λ value. FillsShort params.now (object (fields_of fields.now)) (view value))) }
+{
+    let Some(Placeholder::Parameter(number)) = placeholder_in(fields) else {
+        return Ok(None);
+    };
+    match param_at(params, number) {
+        None => Ok(None),
+        Some(value) => short(value),
+    }
+}
+
+/// What the template is filled to, where that is a short value with no others in it and depends on no
+/// id that was made.
+pub fn fill_short(template: &Value, params: &Items) -> Result<Option<Value>, Mem>
+    ensures { IfOk result (λ o. IfSome o (λ value. FillsShort params.now (view template.now) (view value))) }
+{
+    match template {
+        Value::Object(fields) => short_param(fields, params),
+        Value::List(_) => Ok(None),
+        _ => short(template),
     }
 }
