@@ -5,3 +5,4 @@ pub mod Passing
 pub mod Leading
 pub mod FirstFound
 pub mod Updating
+mod Inserted

@@ -4,3 +4,4 @@ pub mod Applied
 pub mod State
 pub mod Finding
 pub mod Answered
+pub mod Inserting

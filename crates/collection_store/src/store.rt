@@ -1,13 +1,16 @@
 //! The store.
-ghost use Rattle.std.specs.Prelude.{◌≡◌, ◌+◌, ◌∷◌, length, nat_lt, is_some, OnOk, OnErr, IfOk, Ok, Err, Some, None, [], if◌then◌else◌};
-ghost use Rattle.map_model.specs.Maps.{at};
+ghost use Rattle.std.specs.Prelude.{◌≡◌, ◌+◌, ◌<◌, ◌^◌, ◌∷◌, length, nat_lt, true, is_some, is_none, OnOk, OnErr, IfOk, IfSome, IfNone, IsTrue, IsFalse, Ok, Err, Some, None, [], if◌then◌else◌};
+ghost use Rattle.map_model.specs.Maps.{at, set};
+ghost use Rattle.value_model.specs.Size.{size};
+ghost use Rattle.ejson_value.specs.declared.key.Key.{Key};
 ghost use Rattle.ejson_value.specs.Key.{key_cmp, key_of};
 ghost use Rattle.ejson_value.specs.Measure.{capped};
 ghost use Rattle.collection_store.specs.Outcome.{Gives};
-ghost use Rattle.collection_store.specs.Limits.{bytes_of, is_full, new_bytes};
-ghost use Rattle.collection_store.specs.Applied.{is_listed, after, done, chosen, matching, insertion, insert_plan, update_plan, remove_plan, if_listed, if_room, applied};
+ghost use Rattle.collection_store.specs.Limits.{document, bytes_of, is_full, new_bytes};
+ghost use Rattle.collection_store.specs.Applied.{is_listed, after, done, chosen, matching, insertion, update_plan, remove_plan, if_listed, applied};
+ghost use Rattle.collection_store.specs.Inserting.{inserted, is_full_with, HasRoom, Fits};
 ghost use Rattle.collection_store.specs.Answered.{plan_of, applied_as, AreFor};
-ghost use Rattle.collection_store.specs.declared.fault.OpFault.TheVariants.{Full};
+ghost use Rattle.collection_store.specs.declared.fault.OpFault.TheVariants.{Duplicate, Full};
 ghost use Rattle.collection_store.specs.declared.operation.Op.TheVariants.{Insert, Update};
 
 use crate::changes::{new_bytes, old_bytes};
@@ -110,15 +113,15 @@ fn one_change(alloc: Global, key: &Key, doc: &Doc) -> Result<Changes, Mem>
     Ok(changes)
 }
 
-fn insertion(alloc: Global, key: Key, doc: &Doc) -> Result<Reply, Mem>
-    ensures { IfOk result (λ reply. plan_of reply ≡ insertion key doc.now) }
+fn insertion(alloc: Global, key: &Key, doc: &Doc) -> Result<Reply, Mem>
+    ensures { IfOk result (λ reply. plan_of reply ≡ insertion key.now doc.now) }
 {
-    let touched = one_key(alloc, &key)?;
-    let changes = one_change(alloc, &key, doc)?;
+    let touched = one_key(alloc, key)?;
+    let id = key.id.copy()?;
     Ok(Reply {
-        changes,
+        changes: one_change(alloc, key, doc)?,
         touched,
-        answer: Value::Text(key.id),
+        answer: Value::Text(id),
     })
 }
 
@@ -163,25 +166,6 @@ impl Store {
     {
         let found = matching(self.alloc, &self.contents, collection, selector, false)?;
         Ok(!found.is_empty())
-    }
-
-    fn planned_insert(&self, collection: &Text, id: &Text, doc: &Doc) -> Result<Reply, OpFault>
-        ensures gives { Gives plan_of result (if_listed self.now.names collection.now (insert_plan self.now.rows (key_of collection.now id.now) doc.now)) }
-        ensures fit { IfOk result (λ reply. AreFor self.now.rows reply.changes) }
-        ensures grows { IfOk result (λ reply. length (after self.now.rows reply.changes) ≡ length self.now.rows + 1) }
-    {
-        if !is_listed(&self.names, collection) {
-            return Err(OpFault::NoCollection);
-        }
-        let key = Key::of(collection, id)?;
-        if is_there(&self.contents, &key) {
-            return Err(OpFault::Duplicate);
-        }
-        if is_too_large(doc) {
-            return Err(OpFault::TooLarge);
-        }
-        self.contents.known();
-        Ok(insertion(self.alloc, key, doc)?)
     }
 
     fn planned_update(
@@ -242,16 +226,16 @@ impl Store {
         Ok(())
     }
 
-    // Makes the changes, which make this many more documents, if there is room.
-    fn make_if_room(&mut self, changes: &Changes, more: usize, room: u64) -> Result<(), OpFault>
+    // Makes the changes, which leave as many documents, if there is room.
+    fn make_if_room(&mut self, changes: &Changes, room: u64) -> Result<(), OpFault>
         requires fit { AreFor self.old.rows changes.now }
-        requires grows { length (after self.old.rows changes.now) ≡ length self.old.rows + more }
+        requires stays { length (after self.old.rows changes.now) ≡ length self.old.rows }
         ensures gives { Gives (λ u. self.new.rows) result (if is_full (after self.old.rows changes.now) changes.now room then Err Full else Ok (after self.old.rows changes.now)) }
         ensures names { self.new.names ≡ self.old.names }
         ensures err { OnErr result (self.new ≡ self.old) }
     {
         self.contents.known();
-        let documents = self.contents.len().saturating_add(more);
+        let documents = self.contents.len();
         let bytes = self.bytes_after(changes);
         if documents > MAX_DOCUMENTS || bytes > MAX_BYTES || new_bytes(changes) > room {
             return Err(OpFault::Full);
@@ -270,6 +254,60 @@ impl Store {
         Ok(reply)
     }
 
+    // The store has no room for a document more.
+    fn is_full_with(&self, doc: &Doc, room: u64) -> bool
+        ensures full { IsTrue result → is_full_with self.now.rows doc.now room ≡ true }
+        ensures free { IsFalse result → HasRoom self.now.rows doc.now room }
+    {
+        let documents = self.contents.len().saturating_add(1);
+        let size = document_size(doc);
+        let bytes = self.bytes.saturating_add(size);
+        documents > MAX_DOCUMENTS || bytes > MAX_BYTES || size > room
+    }
+
+    // Why a new document is refused whose key no other has.
+    fn refusal(&self, doc: &Doc, room: u64) -> Option<OpFault>
+        ensures refused { IfSome result (λ fault. (key : Key) → at key_cmp self.now.rows key ≡ None → inserted self.now.rows key doc.now room ≡ Err fault) }
+        ensures fits { IfNone result (Fits self.now.rows doc.now room) }
+    {
+        self.contents.known();
+        if is_too_large(doc) {
+            Some(OpFault::TooLarge)
+        } else if self.is_full_with(doc, room) {
+            Some(OpFault::Full)
+        } else {
+            None
+        }
+    }
+
+    // Why a new document with this key is refused, that is refused so where no other has the key.
+    fn refusal_at(&self, key: &Key, fault: OpFault) -> OpFault
+        ensures { result ≡ (if is_some (at key_cmp self.now.rows key.now) then Duplicate else fault) }
+    {
+        if is_there(&self.contents, key) {
+            OpFault::Duplicate
+        } else {
+            fault
+        }
+    }
+
+    // Puts a new document, for which there is room, unless one has the key, and says whether it did.
+    fn put_new(&mut self, key: Key, doc: &Doc) -> Result<bool, Mem>
+        requires { bytes_of self.old.rows + size (document doc.now) < 2 ^ 64 }
+        ensures told { IfOk result (λ new. new ≡ is_none (at key_cmp self.old.rows key)) }
+        ensures names { self.new.names ≡ self.old.names }
+        ensures put { OnOk result (self.new.rows ≡ if is_none (at key_cmp self.old.rows key) then set key_cmp self.old.rows key (Some doc.now) else self.old.rows) }
+        ensures err { OnErr result (self.new ≡ self.old) }
+    {
+        self.contents.known();
+        let bytes = self.bytes + document_size(doc);
+        let new = self.contents.put_new(key, doc.copy()?)?;
+        if new {
+            self.bytes = bytes;
+        }
+        Ok(new)
+    }
+
     fn insert(
         &mut self,
         collection: &Text,
@@ -281,9 +319,20 @@ impl Store {
         ensures names { self.new.names ≡ self.old.names }
         ensures refused { OnErr result (self.new ≡ self.old) }
     {
-        let reply = self.planned_insert(collection, id, doc)?;
-        self.make_if_room(&reply.changes, 1, room)?;
-        Ok(reply)
+        if !is_listed(&self.names, collection) {
+            return Err(OpFault::NoCollection);
+        }
+        self.contents.known();
+        let key = Key::of(collection, id)?;
+        if let Some(fault) = self.refusal(doc, room) {
+            return Err(self.refusal_at(&key, fault));
+        }
+        let reply = insertion(self.alloc, &key, doc)?;
+        if self.put_new(key, doc)? {
+            Ok(reply)
+        } else {
+            Err(OpFault::Duplicate)
+        }
     }
 
     fn update(
@@ -299,7 +348,7 @@ impl Store {
         ensures refused { OnErr result (self.new ≡ self.old) }
     {
         let reply = self.planned_update(collection, selector, modifier, all)?;
-        self.make_if_room(&reply.changes, 0, room)?;
+        self.make_if_room(&reply.changes, room)?;
         Ok(reply)
     }
 

@@ -18,7 +18,7 @@ returns-clause-gives c =
     let is = ap (λ (s : StoreState). s.rows) c.self.view_is in
     let all_new = new_bytes-le rows cs (subst (IsSorted key_cmp) is c.known.ensures.by_key) c.requires.fit in
     let few : length (after rows cs) ≤ max_documents =
-    omega (arith, c.requires.grows, c.len.ensures, ap length is, c.saturating_add-documents.ensures, c.if-documents-gt-MAX_DOCUMENTS.false) in
+    omega (arith, c.requires.stays, c.len-documents.ensures, ap length is, c.if-documents-gt-MAX_DOCUMENTS.false) in
     let small : bytes_of (after rows cs) ≤ max_bytes = omega (arith, c.bytes_after-bytes.ensures.value, c.if-bytes-gt-MAX_BYTES.false) in
     let fits : new_bytes cs ≤ c.args.room = omega (arith, small, all_new, c.new_bytes.ensures, c.if-new_bytes-room.false) in
     ap (λ (b : Bool). let o : Outcome Rows = (if b then Err Full else Ok (after rows cs)) in o) (not_full (after rows cs) cs c.args.room few small fits)
