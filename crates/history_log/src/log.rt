@@ -1,5 +1,5 @@
 //! The log.
-ghost use Rattle.std.specs.Prelude.{◌≡◌, ◌+◌, ◌≤◌, ◌++◌, ◌∷◌, [], length, IfOk, OnOk, OnErr};
+ghost use Rattle.std.specs.Prelude.{◌≡◌, ◌+◌, ◌≤◌, ◌<◌, ◌++◌, ◌∷◌, [], length, IfOk, OnOk, OnErr};
 ghost use Rattle.history_log.specs.Log.{entries_in, changes_behind, rows_after, without_last, settled};
 ghost use Rattle.history_log.specs.Lines.{store_lines, history_lines};
 
@@ -8,7 +8,7 @@ use crate::changes::{joined, made};
 use crate::kept_entry::KeptEntry;
 use crate::lines::{first_line, push_docs, push_entries};
 use ejson_codec::Lines;
-use ejson_value::{Changes, Contents, Mem};
+use ejson_value::{Change, Changes, Contents, Mem};
 use history_model::entry::Entry;
 use std::alloc::Global;
 use std::marker::Model;
@@ -91,6 +91,14 @@ impl Log {
         if let Some(last) = self.logged.last_mut() {
             last.changes = changes;
         }
+    }
+
+    /// The changes of the entry behind the first `entry`.
+    pub fn changes_of(&self, entry: u64) -> &[Change]
+        requires { entry < length self.now }
+        ensures { result.now ≡ changes_behind self.now entry 1 }
+    {
+        self.logged[entry as usize].changes.as_slice()
     }
 
     /// The changes of `count` entries behind the first `from`.

@@ -1,5 +1,5 @@
 //! The machine.
-ghost use Rattle.std.specs.Prelude.{◌≡◌, ◌+◌, ◌≤◌, ◌||◌, [], length, IfOk, OnOk, OnErr, IsTrue, Some, None, is_some, if◌then◌else◌};
+ghost use Rattle.std.specs.Prelude.{◌≡◌, ◌+◌, ◌≤◌, ◌<◌, ◌||◌, [], length, IfOk, OnOk, OnErr, IsTrue, Some, None, is_some, if◌then◌else◌};
 ghost use Rattle.app_model.specs.App.{method as method_of};
 ghost use Rattle.history_model.specs.History.{status_in, status_at, changes_between, is_next};
 ghost use Rattle.history_log.specs.Lines.{store_lines, history_lines};
@@ -13,7 +13,7 @@ use crate::stepping::step;
 use app_model::App;
 use collection_store::Store;
 use ejson_codec::Lines;
-use ejson_value::{Contents, Items, Mem, Text, Value};
+use ejson_value::{Change, Contents, Items, Mem, Text, Value};
 use history_log::{Batch, Log};
 use program_steps::Status;
 use std::alloc::Global;
@@ -148,6 +148,14 @@ impl Machine {
         ensures refused { OnErr result (self.new ≡ self.old) }
     {
         admin(self.alloc, &self.app, &mut self.parts, op)
+    }
+
+    /// The changes of the entry behind the first `entry`.
+    pub fn changes_of(&self, entry: u64) -> &[Change]
+        requires { entry < length self.now.history }
+        ensures { result.now ≡ changes_between (programs self.now.app) self.now.history entry 1 }
+    {
+        self.parts.log.changes_of(entry)
     }
 
     /// The changes of `count` entries behind the first `from`.
