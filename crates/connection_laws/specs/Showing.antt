@@ -1,9 +1,9 @@
 -- A subscription that is loaded, and one that goes on.
-use Rattle.std.specs.Prelude.{◌≡◌, ℕ, zero, suc, ◌+◌, ◌<◌, ◌≤◌, ◌==◌, List, [], ◌∷◌, length, Bool, true, false, cond, ◌&&◌, ◌||◌, nat_lt, nat_le, Option, None, Some, is_some, Ok, Err, refl}
+use Rattle.std.specs.Prelude.{◌≡◌, ℕ, zero, suc, ◌+◌, ◌<◌, ◌≤◌, ◌==◌, List, [], ◌∷◌, length, take, Bool, true, false, cond, ◌&&◌, ◌||◌, nat_lt, nat_le, Option, None, Some, is_some, Ok, Err, refl}
 use Rattle.std.proofs.Common.{ap, ap₂, sym, subst, ◌∙◌, arith}
 use Rattle.std.proofs.lemmas.Bool.{ne_eqb, le-leb, lt-leb, lt-ltb}
 use Rattle.map_model.specs.Changes.{Leads}
-use Rattle.merge_model.specs.Publishing.{Call, apply}
+use Rattle.merge_model.specs.Publishing.{Call, apply, renewed}
 use Rattle.value_model.specs.Val.{Entries}
 use Rattle.ejson_value.specs.declared.key.Key.{Key}
 use Rattle.ejson_value.specs.Key.{key_cmp}
@@ -14,7 +14,8 @@ use Rattle.ejson_value.specs.Changes.{changes_of, news_of}
 use Rattle.app_model.specs.App.{App}
 use Rattle.history_model.specs.declared.entry.Entry.{Entry}
 use Rattle.history_model.specs.History.{held_at, changes_between}
-use Rattle.history_model.specs.HistoryLaws.{between_leads}
+use Rattle.history_model.specs.HistoryLaws.{sorted_held, between_leads}
+use Rattle.journal_model.specs.Publication.{queried}
 use Rattle.journal_model.specs.Items.{Item}
 use Rattle.journal_model.specs.Items as item
 use Rattle.journal_model.specs.Subscriptions.{Live, cursor_of, may_load}
@@ -181,11 +182,11 @@ module _ (app : App) (name : List ℕ) (history : List Entry) (old : AConnection
       let within : AreWithin (length C) own.subs = subst (λ (st : State). AreWithin (length C) st.subs) (sym p.means.stands.own) (within_from old.session.carried.app n C started (items_of old.received old.session.carried) p.means.stands.fits tt) in
       omega (arith, place_within (length C) sub start own.subs within is, moments_length app n history)
 
-  -- The difference of what its cursors publish there and so many entries on feeds it, where none of them has a limit.
-  pub difference_feeds : (count : ℕ) (news : List Publish) → start + count ≤ length history → HaveNoLimit (cursors_at sub old.session) →
-      IsDifference (published (cursors_at sub old.session) (held_at (programs app) history start).rows) (published (cursors_at sub old.session) (held_at (programs app) history (start + count)).rows) (news_of news) →
+  -- News with which what its cursors publish there becomes what they publish so many entries on feed it, where none of them has a limit.
+  pub leading_feeds : (count : ℕ) (news : List Publish) → start + count ≤ length history → HaveNoLimit (cursors_at sub old.session) →
+      renewed key_cmp (queried (cursors_at sub old.session) (held_at (programs app) history start).rows) (news_of news) ≡ queried (cursors_at sub old.session) (held_at (programs app) history (start + count)).rows →
       IsFeed (moments app old.session.carried.number history) sub count news old.session
-  difference_feeds count news le none d =
+  leading_feeds count news le none leads =
       let n = old.session.carried.number in
       let C = moments app n history in
       let cursors = cursors_at sub old.session in
@@ -196,7 +197,14 @@ module _ (app : App) (name : List ℕ) (history : List Entry) (old : AConnection
         loaded = is;
         within = omega (arith, le, moments_length app n history);
         no_limit = none;
-        leads = difference_leads cursors (rows_at C start) (rows_at C (start + count)) (news_of news) (p.means.order start) (p.means.order (start + count))
-            (subst (λ (rows : Rows). IsDifference (published cursors rows) (published cursors (rows_at C (start + count))) (news_of news)) (sym before)
-            (subst (λ (rows : Rows). IsDifference (published cursors (held_at (programs app) history start).rows) (published cursors rows) (news_of news)) (sym later) d));
+        leads = ap (λ (rows : Rows). renewed key_cmp (queried cursors rows) (news_of news)) before ∙ (leads ∙ sym (ap (λ (rows : Rows). queried cursors rows) later));
       }
+
+  -- So does the difference of what they publish there and so many entries on.
+  pub difference_feeds : (count : ℕ) (news : List Publish) → start + count ≤ length history → HaveNoLimit (cursors_at sub old.session) →
+      IsDifference (published (cursors_at sub old.session) (held_at (programs app) history start).rows) (published (cursors_at sub old.session) (held_at (programs app) history (start + count)).rows) (news_of news) →
+      IsFeed (moments app old.session.carried.number history) sub count news old.session
+  difference_feeds count news le none d =
+      leading_feeds count news le none
+      (difference_leads (cursors_at sub old.session) (held_at (programs app) history start).rows (held_at (programs app) history (start + count)).rows (news_of news)
+      (sorted_held (programs app) (take start history)) (sorted_held (programs app) (take (start + count) history)) d)
