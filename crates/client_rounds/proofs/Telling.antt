@@ -6,7 +6,6 @@ use Rattle.ejson_value.specs.Changes.{news_of}
 use Rattle.history_log.specs.declared.batch.Batch.{Batch}
 use Rattle.store_machine.specs.State.{MachineState, held_after}
 use Rattle.publication.specs.Published.{published}
-use Rattle.live_observer.specs.Observing.{IsDifference}
 use Rattle.journal_model.specs.Subscriptions.{cursor_of}
 use Rattle.session_laws.specs.Session.{ASession}
 use Rattle.session_laws.specs.Events.{IsFeed}
@@ -18,6 +17,7 @@ use Rattle.core_model.specs.Store.{moments}
 use Rattle.connection_laws.specs.Connection.{AConnection, IsConnection}
 use Rattle.connection.specs.Answers.{AnswersIn}
 use Rattle.connection.specs.Storing.{AdvancesBy, FeedsBy}
+use Rattle.shared_news.specs.Leading.{IsLead}
 use Rattle.shared_news.specs.Telling.{batch_of, IsSource}
 use Rattle.source_laws.specs.Sources.{cursors_at_of, has_limit, IsSub}
 use Rattle.source_laws.specs.Found.{is_source, place_is, told_feeds}
@@ -33,7 +33,7 @@ module _ (m : MachineState) (x : AConnection) (p : IsConnection m.app x.own.name
 
   -- what is told of a span feeds it
   pub feeds : {T E : Type 0} (value : T → List Publish) (start count : ℕ) → cursor_of number x.session.carried.own.subs ≡ Some start → start + count ≤ length m.history → (result : Result (Option T) E) →
-      IfOk result (λ answer. IfSome answer (λ told. IsDifference (published sub.cursors (held_after m start).rows) (published sub.cursors (held_after m (start + count)).rows) (news_of (value told)))) →
+      IfOk result (λ answer. IfSome answer (λ told. IsLead (published sub.cursors (held_after m start).rows) (published sub.cursors (held_after m (start + count)).rows) (news_of (value told)))) →
       IfOk result (λ answer. IfSome answer (λ told. IsFeed (moments m.app x.session.carried.number m.history) number count (value told) x.session))
   feeds value start count placed fits (Ok None) d = tt
   feeds value start count placed fits (Ok (Some told)) d =

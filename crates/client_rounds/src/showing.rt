@@ -35,7 +35,7 @@ fn told(
     ensures feeds { IfOk result (λ told. IfSome told (λ answer. IsFeed (moments machine.now.app connection.now.session.carried.number machine.now.history) sub count (arc_value answer) connection.now.session)) }
 {
     match sub_of(connection.subs(), sub) {
-        Some(live) if !live.cursors.limited() => news.of(machine, live, from, count),
+        Some(live) if !live.cursors.limited() => news.span(machine, live, from, count),
         _ => Ok(None),
     }
 }

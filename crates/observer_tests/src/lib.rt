@@ -4,6 +4,4 @@
 #[cfg(test)]
 mod observers;
 #[cfg(test)]
-mod shared;
-#[cfg(test)]
 mod values;

@@ -32,7 +32,7 @@ t/4={"n":1};u/1=-;t/5={"n":1} => u/1=-
 t/1=-;t/3=- => a/3=-;top/1=-;top/3=-;top/4={"n":1};top/5={"n":1}
 "#;
 
-pub(crate) fn cursors(alloc: Global, cursors: &str) -> Result<Cursors, Fail> {
+fn cursors(alloc: Global, cursors: &str) -> Result<Cursors, Fail> {
     let written = format!(in alloc;
         "{{\"collections\":[\"t\",\"u\",\"v\"],\"publications\":{{\"p\":{cursors}}}}}"
     )?;
@@ -68,7 +68,7 @@ fn change(alloc: Global, all: &mut Contents, written: &str) -> Result<Change, Fa
     })
 }
 
-pub(crate) fn changes(alloc: Global, all: &mut Contents, written: &str) -> Result<Changes, Fail> {
+fn changes(alloc: Global, all: &mut Contents, written: &str) -> Result<Changes, Fail> {
     let mut changes = Changes::new(alloc);
     for one in written.split(';') {
         changes.push(change(alloc, all, one)?)?;
@@ -83,7 +83,7 @@ fn written(alloc: Global, doc: &Option<Doc>) -> Result<Text, Fail> {
     }
 }
 
-pub(crate) fn told(alloc: Global, answer: &[Publish]) -> Result<String, Fail> {
+fn told(alloc: Global, answer: &[Publish]) -> Result<String, Fail> {
     let mut told = String::new(alloc);
     for one in answer {
         if !told.is_empty() {

@@ -1,1 +1,6 @@
-pub mod Told
+pub mod Alike
+pub mod Places
+pub mod Joins
+pub mod Entries
+pub mod Sources
+pub mod Kept

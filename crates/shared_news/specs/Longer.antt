@@ -1,15 +1,20 @@
 -- A history that gets longer.
-use Rattle.std.specs.Prelude.{◌≡◌, ℕ, zero, suc, ◌+◌, ◌≤◌, List, [], ◌∷◌, ◌++◌, length, take, drop, Option, None, Some, IfSome}
+use Rattle.std.specs.Prelude.{◌≡◌, ℕ, zero, suc, ◌+◌, ◌≤◌, List, [], ◌∷◌, ◌++◌, length, map, take, drop, Option, None, Some, IfSome}
+use Rattle.std.specs.List.{AllByRecursion}
 use Rattle.std.proofs.Common.{ap, ap₂, sym, subst, ◌∙◌, arith}
-use Rattle.std.proofs.lemmas.List.{drop-append-le, take-append-le, append_assoc, length-append}
+use Rattle.std.proofs.lemmas.List.{drop-append-le, take-append-le, length-append, length-map}
+use Rattle.ejson_value.specs.Changes.{news_of}
+use Rattle.ejson_value.specs.Rows.{Rows}
 use Rattle.history_model.specs.declared.entry.Entry.{Entry}
 use Rattle.history_model.specs.History.{Programs, Held, changes_from, changes_between}
 use Rattle.history_model.specs.HistoryLaws.{held_at-longer}
 use Rattle.history_log.specs.declared.batch.Batch.{Batch}
+use Rattle.publication.specs.Cursors.{ACursors}
+use Rattle.publication.specs.Published.{published}
+use Rattle.live_observer.specs.Observing.{IsDifference}
 use Rattle.store_machine.specs.State.{MachineState, programs}
-use Rattle.multiplexer.specs.Keeping.{CursorsAt, AreDifferences}
-use Rattle.shared_news.specs.Spans.{documents_of}
-use Rattle.shared_news.specs.Telling.{ANews, batch_of, AreTold}
+use Rattle.shared_news.specs.Leading.{News, AreDifferences, IsLead}
+use Rattle.shared_news.specs.Telling.{CursorsAt, ASpan, ASource, ANews, nothing_told, documents_of, IsSpan, IsTold, IsKept, AreTold}
 
 taken_within : {A : Type 0} (count place : ℕ) (xs more : List A) → place + count ≤ length xs → take count (drop place (xs ++ more)) ≡ take count (drop place xs)
 taken_within count place xs more fits =
@@ -26,21 +31,56 @@ pub between_longer : (app : Programs) (history more : List Entry) (place count :
 between_longer app history more place count fits =
     ap₂ (λ (h : Held) (es : List Entry). changes_from app h es) (held_at-longer app history more place (omega (arith, fits))) (taken_within count place history more fits)
 
-batch_longer : (m : MachineState) (es : List Entry) (o : Option Batch) → IfSome o (λ (b : Batch). (b.from + b.count ≤ length m.history) × (b ≡ batch_of m b.from b.count)) →
-    IfSome o (λ (b : Batch). (b.from + b.count ≤ length (m.history ++ es)) × (b ≡ batch_of (record m { history = m.history ++ es }) b.from b.count))
+batch_longer : (m : MachineState) (es : List Entry) (o : Option Batch) → IfSome o (IsKept m) → IfSome o (IsKept (record m { history = m.history ++ es }))
 batch_longer m es None kept = tt
 batch_longer m es (Some b) kept = (
   omega (arith, kept.0, length-append m.history es),
   kept.1 ∙ ap (λ cs. record { from = b.from; count = b.count; changes = cs }) (sym (between_longer (programs m.app) m.history es b.from b.count kept.0)),
 )
 
+-- ---- sources
+
+module _ (cursors : ACursors) (C D : ℕ → Rows) where
+  -- the differences are told of all documents that are the same at their places
+  differ_alike : (from : ℕ) (all : List News) → ((place : ℕ) → place ≤ from + length all → C place ≡ D place) → AreDifferences cursors C from all → AreDifferences cursors D from all
+  differ_alike from [] same told = tt
+  differ_alike from (one ∷ all) same told = (
+    subst (λ (rows : Rows). IsDifference (published cursors rows) (published cursors (D (suc from))) one) (same from (omega arith))
+        (subst (λ (rows : Rows). IsDifference (published cursors (C from)) (published cursors rows) one) (same (suc from) (omega arith)) told.0),
+    differ_alike (suc from) all (λ place le. same place (omega (arith, le))) told.1,
+  )
+
+span_longer : (cursors : ACursors) (app : Programs) (history more : List Entry) (o : Option ASpan) → IfSome o (IsSpan cursors app history) → IfSome o (IsSpan cursors app (history ++ more))
+span_longer cursors app history more None told = tt
+span_longer cursors app history more (Some span) told =
+    let same : (place : ℕ) → place ≤ length history → documents_of app history place ≡ documents_of app (history ++ more) place = λ place le. ap (λ (h : Held). h.rows) (sym (held_at-longer app history more place le)) in
+    record {
+      order = told.order;
+      within = omega (arith, told.within, length-append history more);
+      leads =
+          subst (λ (rows : Rows). IsLead (published cursors rows) (published cursors (documents_of app (history ++ more) span.until)) (news_of span.told)) (same span.from (omega (arith, told.order, told.within)))
+          (subst (λ (rows : Rows). IsLead (published cursors (documents_of app history span.from)) (published cursors rows) (news_of span.told)) (same span.until told.within) told.leads);
+    }
+
+source_longer : (cursors_at : CursorsAt) (app : Programs) (history more : List Entry) (source : ASource) → IsTold cursors_at app history source → IsTold cursors_at app (history ++ more) source
+source_longer cursors_at app history more source told = record {
+  within = omega (arith, told.within, length-append history more);
+  each = differ_alike (cursors_at source.name source.params) (documents_of app history) (documents_of app (history ++ more)) source.first (map news_of source.ones)
+      (λ place le. ap (λ (h : Held). h.rows) (sym (held_at-longer app history more place (omega (arith, le, length-map source.ones news_of, told.within))))) told.each;
+  last = span_longer (cursors_at source.name source.params) app history more source.last told.last;
+}
+
+sources_longer : (cursors_at : CursorsAt) (app : Programs) (history more : List Entry) (sources : List ASource) → AllByRecursion (IsTold cursors_at app history) sources → AllByRecursion (IsTold cursors_at app (history ++ more)) sources
+sources_longer cursors_at app history more [] told = tt
+sources_longer cursors_at app history more (source ∷ sources) told = (source_longer cursors_at app history more source told.0, sources_longer cursors_at app history more sources told.1)
+
 -- what is told of a history is told of every longer one
 pub told_longer : (cursors_at : CursorsAt) (m : MachineState) (es : List Entry) (news : ANews) → AreTold cursors_at m news → AreTold cursors_at (record m { history = m.history ++ es }) news
 told_longer cursors_at m es news told = record {
-  answers = λ more. subst (λ (h : List Entry). AreDifferences cursors_at (documents_of (programs m.app) h) news.answers) (sym (append_assoc m.history es more)) (told.answers (es ++ more));
+  sources = sources_longer cursors_at (programs m.app) m.history es news.sources told.sources;
   batch = batch_longer m es news.batch told.batch;
 }
 
 -- nothing is told at first
-pub nothing_told_yet : (cursors_at : CursorsAt) (m : MachineState) → AreTold cursors_at m (record { answers = []; batch = None })
-nothing_told_yet cursors_at m = record { answers = λ more. tt; batch = tt }
+pub nothing_told_yet : (cursors_at : CursorsAt) (m : MachineState) → AreTold cursors_at m nothing_told
+nothing_told_yet cursors_at m = record { sources = tt; batch = tt }

@@ -2,8 +2,7 @@
 ghost use Rattle.std.specs.Prelude.{List, ◌++◌};
 ghost use Rattle.history_model.specs.declared.entry.Entry.{Entry};
 ghost use Rattle.store_machine.specs.State.{MachineState};
-ghost use Rattle.multiplexer.specs.Keeping.{CursorsAt};
-ghost use Rattle.shared_news.specs.Telling.{ANews, nothing_told, AreTold};
+ghost use Rattle.shared_news.specs.Telling.{CursorsAt, ANews, nothing_told, AreTold};
 
 /// Nothing is told at first, and what is told of a history is told of every longer one.
 pub fn longer_histories_keep_what_is_told()

@@ -1,7 +1,11 @@
-//! What publications tell of spans of a store's history, for all the sessions that ask.
+//! What publications tell of a store's history, for all the sessions that ask.
 #![tactic(auto)]
 
+mod joining;
 pub mod laws;
 mod news;
+mod observing;
+mod params;
+mod source;
 
 pub use news::SharedNews;

@@ -1,37 +1,34 @@
-//! The answers that sessions share.
-ghost use Rattle.std.specs.Prelude.{◌≡◌, ◌+◌, ◌≤◌, ◌<◌, ◌==◌, List, length, nat_lt, ◌&&◌, Option, None, Some, IfOk, IfSome, OnErr, if◌then◌else◌};
+//! The news that sessions share.
+ghost use Rattle.std.specs.Prelude.{◌≡◌, ◌+◌, ◌≤◌, ◌==◌, ◌&&◌, length, None, Some, IfOk, IfSome, OnErr};
 ghost use Rattle.std.specs.Arc.{arc_value};
+ghost use Rattle.std.specs.List.{AllByRecursion};
 ghost use Rattle.ejson_value.specs.Changes.{news_of};
-ghost use Rattle.live_observer.specs.Observing.{IsDifference};
 ghost use Rattle.publication.specs.Published.{published};
-ghost use Rattle.multiplexer.specs.Asking.{asked_of};
-ghost use Rattle.multiplexer.specs.Keeping.{AMultiplexer, CursorsAt, Moments, AreDifferences, IsAskedOf, IsDifferenceAt};
-ghost use Rattle.store_machine.specs.State.{held_after};
-ghost use Rattle.shared_news.specs.Spans.{span_limit, code_of};
-ghost use Rattle.shared_news.specs.Telling.{nothing_told, batch_of, AreTold, IsSource};
+ghost use Rattle.store_machine.specs.State.{MachineState, programs, held_after};
+ghost use Rattle.shared_news.specs.Leading.{IsLead};
+ghost use Rattle.shared_news.specs.Telling.{CursorsAt, nothing_told, batch_of, IsTold, AreTold, IsSource};
+ghost use Rattle.shared_news.specs.Sources.{IsPlaceOf, LeadsBy};
 
-use ejson_value::{Change, Items, Mem, Publishes, Text};
+use crate::source::Source;
+use ejson_value::{Mem, Publishes};
 use history_log::Batch;
 use live_observer::Observer;
-use multiplexer::Multiplexer;
-use selector_match::Steps;
 use session_state::Sub;
 use std::alloc::Global;
-use std::marker::{Brand, Model};
+use std::marker::Model;
 use std::sync::Arc;
-use std::sync::ledger::{Blank, Ledger};
 use store_machine::Machine;
 
-/// A span is told from others where it begins, and is, below this.
-const SPAN_LIMIT: u64 = 2_147_483_648;
+/// How many publications are kept at most, each with its parameters.
+const MAX_SOURCES: usize = 16;
 
-/// What publications, each called with its parameters, tell of spans of one store's history: what is
-/// kept of it is made once, however many sessions ask. The last batch of changes is kept too. A
-/// contract sees the answers, by publication, parameters and the number of the span, and the batch.
+/// What publications, each called with its parameters, tell of the entries of one store's history: what
+/// is kept of it is made once, however many sessions ask. The last batch of changes is kept too. A
+/// contract sees what each publication tells of each entry that is kept, and the batch.
 #[derive(Drop)]
 pub struct SharedNews {
     alloc: Global,
-    answers: Multiplexer,
+    sources: Vec<Source>,
     batch: Option<Arc<Batch>>,
 }
 
@@ -46,18 +43,7 @@ impl Model for SharedNews {
 
     ghost coded = { Prim.hlevel (codes, val_code) };
 
-    ghost view = { λ a. record { answers = a.answers; batch = option_map (λ batch. arc_value batch) a.batch } };
-}
-
-// The number of a span among those that can be told apart.
-fn code_of(from: u64, count: u64) -> Option<u64>
-    ensures { result ≡ (if nat_lt from span_limit && nat_lt count span_limit then Some (code_of from count) else None) }
-{
-    if from < SPAN_LIMIT && count < SPAN_LIMIT {
-        Some((from * SPAN_LIMIT + count) * 2)
-    } else {
-        None
-    }
+    ghost view = { λ a. record { sources = a.sources.items; batch = option_map (λ batch. arc_value batch) a.batch } };
 }
 
 fn is_of(batch: &Batch, from: u64, count: u64) -> bool
@@ -66,51 +52,44 @@ fn is_of(batch: &Batch, from: u64, count: u64) -> bool
     batch.from == from && batch.count == count
 }
 
-fn asked_by<L: Ledger>(
-    answers: &mut Multiplexer,
-    name: &Text,
-    params: &Items,
-    code: u64,
-    observer: &Observer,
-    changes: &[Change],
-    blank: Blank,
-) -> Result<Arc<Publishes>, Mem>
-    requires name { blank.name ≡ L.name }
-    requires parts { blank.parts ≡ L.parts }
-    requires whole { blank.parts ≡ 1 }
-    ensures differs { (cursors_at : CursorsAt) (C : Moments) → AreDifferences cursors_at C answers.old → IsAskedOf cursors_at C (asked_of name.now params.now code) observer.now changes.now →
-        IfOk result (λ answer. IsDifferenceAt cursors_at C (asked_of name.now params.now code) (arc_value answer)) }
-    ensures all_differ { (cursors_at : CursorsAt) (C : Moments) → AreDifferences cursors_at C answers.old → IsAskedOf cursors_at C (asked_of name.now params.now code) observer.now changes.now →
-        AreDifferences cursors_at C answers.new }
+// Where the subscription's publication stands among the sources.
+fn place_of(sources: &[Source], sub: &Sub) -> Option<usize>
+    ensures { IfSome result (IsPlaceOf sources.now sub.now) }
 {
-    let mut steps = Steps::<L>::new(blank);
-    let answer = answers.entry(name, params, code, observer, changes, &mut steps)?;
-    Ok(answer)
+    for (place, source) in sources.iter().enumerate() {
+        if source.is_of(sub) {
+            return Some(place);
+        }
+    }
+    None
 }
 
-// What the multiplexer answers to what is asked.
-fn asked(
-    answers: &mut Multiplexer,
-    name: &Text,
-    params: &Items,
-    code: u64,
+// What the source at this place, which is the subscription's, tells of the span.
+fn span_at(
+    sources: &mut Vec<Source>,
+    place: usize,
+    machine: &Machine,
+    sub: &Sub,
     observer: &Observer,
-    changes: &[Change],
-) -> Result<Arc<Publishes>, Mem>
-    ensures differs { (cursors_at : CursorsAt) (C : Moments) → AreDifferences cursors_at C answers.old → IsAskedOf cursors_at C (asked_of name.now params.now code) observer.now changes.now →
-        IfOk result (λ answer. IsDifferenceAt cursors_at C (asked_of name.now params.now code) (arc_value answer)) }
-    ensures all_differ { (cursors_at : CursorsAt) (C : Moments) → AreDifferences cursors_at C answers.old → IsAskedOf cursors_at C (asked_of name.now params.now code) observer.now changes.now →
-        AreDifferences cursors_at C answers.new }
+    from: u64,
+    until: u64,
+) -> Result<Option<Arc<Publishes>>, Mem>
+    requires place { IsPlaceOf sources.old.items sub.now place }
+    requires observer { sub.now.observer ≡ Some observer.now }
+    requires order { from ≤ until }
+    requires within { until ≤ length machine.now.history }
+    ensures told { (cursors_at : CursorsAt) → AllByRecursion (IsTold cursors_at (programs machine.now.app) machine.now.history) sources.old.items → IsSource cursors_at sub.now →
+        IfOk result (λ answer. IfSome answer (λ told. LeadsBy sub.now.cursors machine.now from until (arc_value told))) }
+    ensures keeps { (cursors_at : CursorsAt) → AllByRecursion (IsTold cursors_at (programs machine.now.app) machine.now.history) sources.old.items → IsSource cursors_at sub.now →
+        AllByRecursion (IsTold cursors_at (programs machine.now.app) machine.now.history) sources.new.items }
 {
-    asked_by::<Brand>(
-        answers,
-        name,
-        params,
-        code,
-        observer,
-        changes,
-        Blank::new(1),
-    )
+    match sources.get_mut(place) {
+        Some(source) => {
+            let told = source.span(machine, observer, from, until)?;
+            Ok(Some(told))
+        }
+        None => Ok(None),
+    }
 }
 
 impl SharedNews {
@@ -120,16 +99,16 @@ impl SharedNews {
     {
         SharedNews {
             alloc,
-            answers: Multiplexer::new(alloc),
+            sources: Vec::new(alloc),
             batch: None,
         }
     }
 
-    /// Forgets all answers.
+    /// Forgets all that is told.
     pub fn clear(&mut self)
         ensures { self.new ≡ nothing_told }
     {
-        self.answers = Multiplexer::new(self.alloc);
+        self.sources.clear();
         self.batch = None;
     }
 
@@ -161,7 +140,7 @@ impl SharedNews {
         requires { from + count ≤ length machine.now.history }
         ensures batch { (cursors_at : CursorsAt) → AreTold cursors_at machine.now self.old → IfOk result (λ batch. arc_value batch ≡ batch_of machine.now from count) }
         ensures told { (cursors_at : CursorsAt) → AreTold cursors_at machine.now self.old → AreTold cursors_at machine.now self.new }
-        ensures answers { self.new.answers ≡ self.old.answers }
+        ensures sources { self.new.sources ≡ self.old.sources }
     {
         let kept = self.kept(from, count)?;
         match kept {
@@ -170,41 +149,63 @@ impl SharedNews {
         }
     }
 
-    // What the subscription's publication tells of the span of this number.
-    fn answer(
+    // A source of the subscription's publication that begins at this place of the history. Where there
+    // are as many as may be kept, the others go.
+    fn begin(&mut self, sub: &Sub, from: u64) -> Result<usize, Mem>
+        ensures place { IfOk result (IsPlaceOf self.new.sources sub.now) }
+        ensures keeps { (cursors_at : CursorsAt) (m : MachineState) → from ≤ length m.history → AreTold cursors_at m self.old → AreTold cursors_at m self.new }
+    {
+        let source = Source::new(self.alloc, sub, from)?;
+        if self.sources.len() >= MAX_SOURCES {
+            self.sources.clear();
+        }
+        self.sources.push(source)?;
+        Ok(self.sources.len() - 1)
+    }
+
+    // The place of the source of the subscription's publication, which may be new.
+    fn place(&mut self, sub: &Sub, from: u64) -> Result<usize, Mem>
+        ensures place { IfOk result (IsPlaceOf self.new.sources sub.now) }
+        ensures keeps { (cursors_at : CursorsAt) (m : MachineState) → from ≤ length m.history → AreTold cursors_at m self.old → AreTold cursors_at m self.new }
+    {
+        match place_of(self.sources.as_slice(), sub) {
+            Some(place) => Ok(place),
+            None => self.begin(sub, from),
+        }
+    }
+
+    // What is told of the span to an observer of the subscription's publication.
+    fn told(
         &mut self,
         machine: &Machine,
         sub: &Sub,
         observer: &Observer,
         from: u64,
-        count: u64,
-        code: u64,
-    ) -> Result<Arc<Publishes>, Mem>
-        requires within { from + count ≤ length machine.now.history }
-        requires begins { from < span_limit }
-        requires spans { count < span_limit }
-        requires code { code ≡ code_of from count }
+        until: u64,
+    ) -> Result<Option<Arc<Publishes>>, Mem>
         requires observer { sub.now.observer ≡ Some observer.now }
+        requires order { from ≤ until }
+        requires within { until ≤ length machine.now.history }
         ensures told { (cursors_at : CursorsAt) → AreTold cursors_at machine.now self.old → IsSource cursors_at sub.now →
-            IfOk result (λ answer. IsDifference (published sub.now.cursors (held_after machine.now from).rows) (published sub.now.cursors (held_after machine.now (from + count)).rows) (news_of (arc_value answer))) }
+            IfOk result (λ answer. IfSome answer (λ told. LeadsBy sub.now.cursors machine.now from until (arc_value told))) }
         ensures keeps { (cursors_at : CursorsAt) → AreTold cursors_at machine.now self.old → IsSource cursors_at sub.now → AreTold cursors_at machine.now self.new }
     {
-        let batch = self.batch(machine, from, count)?;
-        asked(
-            &mut self.answers,
-            &sub.name,
-            &sub.params,
-            code,
+        let place = self.place(sub, from)?;
+        span_at(
+            &mut self.sources,
+            place,
+            machine,
+            sub,
             observer,
-            batch.changes.as_slice(),
+            from,
+            until,
         )
     }
 
     /// What the publication of the subscription, which has no limited cursor, tells of so many entries
-    /// of the machine's history, behind the first `from`: by key, each key at which it publishes
-    /// something else then, with the document or none. None where no one observes, or the history is
-    /// too long for it to be shared.
-    pub fn of(
+    /// of the machine's history, behind the first `from`: by key, each key of which they say something,
+    /// with the document that is published then or none. None where no one observes.
+    pub fn span(
         &mut self,
         machine: &Machine,
         sub: &Sub,
@@ -214,15 +215,13 @@ impl SharedNews {
         requires { from + count ≤ length machine.now.history }
         ensures told { (cursors_at : CursorsAt) → AreTold cursors_at machine.now self.old → IsSource cursors_at sub.now →
             IfOk result (λ answer. IfSome answer (λ told.
-            IsDifference (published sub.now.cursors (held_after machine.now from).rows) (published sub.now.cursors (held_after machine.now (from + count)).rows) (news_of (arc_value told)))) }
+            IsLead (published sub.now.cursors (held_after machine.now from).rows) (published sub.now.cursors (held_after machine.now (from + count)).rows) (news_of (arc_value told)))) }
         ensures keeps { (cursors_at : CursorsAt) → AreTold cursors_at machine.now self.old → IsSource cursors_at sub.now → AreTold cursors_at machine.now self.new }
     {
-        match (code_of(from, count), &sub.observer) {
-            (Some(code), Some(observer)) => {
-                let answer = self.answer(machine, sub, observer, from, count, code)?;
-                Ok(Some(answer))
-            }
-            _ => Ok(None),
+        machine.length();
+        match &sub.observer {
+            Some(observer) => self.told(machine, sub, observer, from, from + count),
+            None => Ok(None),
         }
     }
 }

@@ -1,28 +1,40 @@
 -- A session's live subscriptions are sources of its application's news.
-use Rattle.std.specs.Prelude.{◌≡◌, ℕ, ◌+◌, ◌≤◌, ◌==◌, List, [], ◌∷◌, map, Bool, true, false, cond, ◌||◌, Option, None, Some, IfSome, is_some, length, refl}
+use Rattle.std.specs.Prelude.{◌≡◌, ℕ, ◌+◌, ◌≤◌, ◌==◌, List, [], ◌∷◌, map, Bool, true, false, cond, ◌||◌, Option, None, Some, IfSome, is_some, unwrap_or, length, take, refl}
 use Rattle.std.specs.List.{All}
 use Rattle.std.proofs.Common.{ap, sym, subst, ◌∙◌}
 use Rattle.std.proofs.lemmas.List.Elements.{All-from_recursion}
+use Rattle.map_model.specs.Maps.{at, IsSorted}
+use Rattle.map_model.specs.MapLaws.{same_maps}
+use Rattle.merge_model.specs.Publishing.{renewed}
+use Rattle.value_model.specs.Val.{Entries}
+use Rattle.ejson_value.specs.Key.{key_cmp, key_order}
+use Rattle.ejson_value.specs.Rows.{Rows}
 use Rattle.ejson_value.specs.declared.change.Publish.{Publish}
 use Rattle.ejson_value.specs.Changes.{news_of}
 use Rattle.app_model.specs.App.{App}
 use Rattle.history_model.specs.declared.entry.Entry.{Entry}
+use Rattle.history_model.specs.History.{held_at}
+use Rattle.history_model.specs.HistoryLaws.{sorted_held}
 use Rattle.publication.specs.Cursors.{ACursors}
 use Rattle.publication.specs.Published.{published}
-use Rattle.live_observer.specs.Observing.{AnObserver, cursors_of, HaveNoLimit, IsDifference}
-use Rattle.store_machine.specs.State.{MachineState, held_after}
+use Rattle.live_observer.specs.Observing.{AnObserver, cursors_of, HaveNoLimit}
+use Rattle.store_machine.specs.State.{MachineState, programs, held_after}
+use Rattle.journal_model.specs.Publication.{queried}
 use Rattle.journal_model.specs.Subscriptions.{Live, of_sub, cursor_of}
 use Rattle.journal_model.specs.State.{State}
 use Rattle.journal_model.specs.Moments.{Moment}
+use Rattle.journal_laws.specs.PublicationLaws.{sorted_queried, at_queried}
 use Rattle.session_relation.specs.Resolved.{cursors_in}
 use Rattle.session_relation.specs.Stands.{items_of}
 use Rattle.session_state.specs.declared.subs.Sub.{Sub}
 use Rattle.session_state.specs.Subs.{as_live, live_of, observers_of, observer_at}
 use Rattle.session_laws.specs.Meaning.{IsWatched, AreWatched}
+use Rattle.session_laws.specs.Differences.{sorted_renewed, renewed_at}
 use Rattle.session_laws.specs.Events.{IsFeed, cursors_at}
 use Rattle.core_model.specs.Store.{moments}
+use Rattle.connection_laws.specs.Showing.{leading_feeds}
 use Rattle.connection_laws.specs.Connection.{AConnection, IsConnection}
-use Rattle.connection_laws.specs.Showing.{difference_feeds}
+use Rattle.shared_news.specs.Leading.{News, IsLead}
 use Rattle.source_laws.specs.Sources.{IsMadeBy, AreMadeBy, has_limit, AreSubs, IsSub, IsSourceOf, AreSourcesOf}
 use Rattle.source_laws.specs.Made.{journal_made}
 
@@ -93,6 +105,19 @@ of_found f otherwise number l (x ∷ ls) is =
     this : Some l ≡ Some x → x ≡ l
     this e = cc e
 
+-- ---- what leads
+
+-- news that lead from what cursors publish of some documents to what they publish of others, put into the one, make the other
+renewed_leads : (cursors : ACursors) (rows rows' : Rows) (told : News) → IsSorted key_cmp rows → IsSorted key_cmp rows' → IsLead (published cursors rows) (published cursors rows') told →
+    renewed key_cmp (queried cursors rows) told ≡ queried cursors rows'
+renewed_leads cursors rows rows' told p q d =
+    let shown = queried cursors rows in
+    let sorted = sorted_queried cursors rows p in
+    same_maps key_order (renewed key_cmp shown told) (queried cursors rows') (sorted_renewed key_order shown told sorted) (sorted_queried cursors rows' q) (λ key.
+    renewed_at key_order shown told key sorted d.by_key
+    ∙ (ap (λ (x : Option Entries). unwrap_or (at key_cmp told key) x) (at_queried cursors rows key p)
+    ∙ (d.leads key ∙ sym (at_queried cursors rows' key q))))
+
 -- ---- of a connection
 
 module _ (app : App) (name : List ℕ) (history : List Entry) (x : AConnection) (p : IsConnection app name history x) where
@@ -122,11 +147,23 @@ module _ (app : App) (name : List ℕ) (history : List Entry) (x : AConnection) 
     pub place_is : cursor_of number x.session.carried.own.subs ≡ sub.cursor
     place_is = of_found (λ (l : Live). l.cursor) None number (as_live sub) x.session.carried.own.subs is.live
 
+-- ---- what feeds it
+
+-- news that lead from what is published there to what is published so many entries on
+pub lead_feeds : (app : App) (name : List ℕ) (history : List Entry) (x : AConnection) → IsConnection app name history x → (number start count : ℕ) → cursor_of number x.session.carried.own.subs ≡ Some start → (news : List Publish) →
+    start + count ≤ length history → HaveNoLimit (cursors_at number x.session) →
+    IsLead (published (cursors_at number x.session) (held_at (programs app) history start).rows) (published (cursors_at number x.session) (held_at (programs app) history (start + count)).rows) (news_of news) →
+    IsFeed (moments app x.session.carried.number history) number count news x.session
+lead_feeds app name history x p number start count is news le none d =
+    leading_feeds app name history x p number start is count news le none
+    (renewed_leads (cursors_at number x.session) (held_at (programs app) history start).rows (held_at (programs app) history (start + count)).rows (news_of news)
+    (sorted_held (programs app) (take start history)) (sorted_held (programs app) (take (start + count) history)) d)
+
 -- What is told of a span of the history behind its place feeds it.
 pub told_feeds : (m : MachineState) (name : List ℕ) (x : AConnection) (number start count : ℕ) (sub : Sub) (told : List Publish) → IsConnection m.app name m.history x → IsSub number sub x.session → sub.cursor ≡ Some start →
-    start + count ≤ length m.history → has_limit sub.cursors ≡ false → IsDifference (published sub.cursors (held_after m start).rows) (published sub.cursors (held_after m (start + count)).rows) (news_of told) →
+    start + count ≤ length m.history → has_limit sub.cursors ≡ false → IsLead (published sub.cursors (held_after m start).rows) (published sub.cursors (held_after m (start + count)).rows) (news_of told) →
     IsFeed (moments m.app x.session.carried.number m.history) number count told x.session
 told_feeds m name x number start count sub told p is placed fits none d =
     let same : sub.cursors ≡ cursors_at number x.session = sym (cursors_are m.app name m.history x p number sub is) in
-    difference_feeds m.app name m.history x p number start (place_is m.app name m.history x p number sub is ∙ placed) count told fits (subst HaveNoLimit same (unlimited sub.cursors none))
-    (subst (λ (cs : ACursors). IsDifference (published cs (held_after m start).rows) (published cs (held_after m (start + count)).rows) (news_of told)) same d)
+    lead_feeds m.app name m.history x p number start count (place_is m.app name m.history x p number sub is ∙ placed) told fits (subst HaveNoLimit same (unlimited sub.cursors none))
+    (subst (λ (cs : ACursors). IsLead (published cs (held_after m start).rows) (published cs (held_after m (start + count)).rows) (news_of told)) same d)

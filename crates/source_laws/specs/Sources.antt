@@ -10,8 +10,7 @@ use Rattle.session_relation.specs.Resolved.{cursors_in}
 use Rattle.session_state.specs.declared.subs.Sub.{Sub}
 use Rattle.session_state.specs.Subs.{as_live, live_of, observers_of, observer_at}
 use Rattle.session_laws.specs.Session.{ASession}
-use Rattle.multiplexer.specs.Keeping.{CursorsAt}
-use Rattle.shared_news.specs.Telling.{IsSource}
+use Rattle.shared_news.specs.Telling.{CursorsAt, IsSource}
 
 -- the cursors that the application's publication of this name makes with the parameters; none where it makes none
 abbrev pub cursors_at_of : App → CursorsAt

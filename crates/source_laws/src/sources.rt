@@ -7,7 +7,7 @@ ghost use Rattle.app_model.specs.App.{App};
 ghost use Rattle.history_model.specs.declared.entry.Entry.{Entry};
 ghost use Rattle.publication.specs.Cursors.{ACursors};
 ghost use Rattle.publication.specs.Published.{published};
-ghost use Rattle.live_observer.specs.Observing.{IsDifference, HaveNoLimit};
+ghost use Rattle.live_observer.specs.Observing.{HaveNoLimit};
 ghost use Rattle.store_machine.specs.State.{MachineState, held_after};
 ghost use Rattle.journal_model.specs.Items.{Item};
 ghost use Rattle.journal_model.specs.Subscriptions.{cursor_of};
@@ -18,6 +18,7 @@ ghost use Rattle.session_state.specs.declared.subs.Sub.{Sub as ASub};
 ghost use Rattle.session_laws.specs.Events.{IsFeed, cursors_at};
 ghost use Rattle.core_model.specs.Store.{moments};
 ghost use Rattle.connection_laws.specs.Connection.{AConnection, IsConnection};
+ghost use Rattle.shared_news.specs.Leading.{IsLead};
 ghost use Rattle.source_laws.specs.Sources.{AreMadeBy, has_limit, AreSubs, IsSub, IsSourceOf};
 
 /// Each live subscription of a journal that fits has the cursors that its publication makes with its parameters.
@@ -43,6 +44,6 @@ pub fn limits_are_tested()
 /// What is told of a span of the history behind the place of such a subscription feeds it.
 pub fn told_news_feed()
     ensures { (m : MachineState) (name : List ℕ) (x : AConnection) (number start count : ℕ) (sub : ASub) (told : List Publish) → IsConnection m.app name m.history x → IsSub number sub x.session → sub.cursor ≡ Some start →
-        start + count ≤ length m.history → has_limit sub.cursors ≡ false → IsDifference (published sub.cursors (held_after m start).rows) (published sub.cursors (held_after m (start + count)).rows) (news_of told) →
+        start + count ≤ length m.history → has_limit sub.cursors ≡ false → IsLead (published sub.cursors (held_after m start).rows) (published sub.cursors (held_after m (start + count)).rows) (news_of told) →
         IsFeed (moments m.app x.session.carried.number m.history) number count told x.session }
 {}

@@ -7,10 +7,10 @@ use Rattle.client_rounds.proofs.showing.told.Goals as goal
 pub returns-in-Some-clause-keeps : goal.returns-in-Some-clause-keeps
 returns-in-Some-clause-keeps c =
     let is : IsSub c.args.sub c.in-Some.live.now c.args.connection.now.session = sub_is c.args.sub c.subs.result.now c.in-Some.live.now c.args.connection.now.session c.subs.ensures.live c.subs.ensures.observers c.in-Some.ensures.live c.in-Some.ensures.observer in
-    c.of.ensures.keeps (cursors_at_of c.args.machine.now.app) c.requires.news (source c.args.machine.now c.args.connection.now c.requires.connection c.args.sub c.in-Some.live.now is (sym c.limited.ensures ∙ c.if-not-limited.true))
+    c.span.ensures.keeps (cursors_at_of c.args.machine.now.app) c.requires.news (source c.args.machine.now c.args.connection.now c.requires.connection c.args.sub c.in-Some.live.now is (sym c.limited.ensures ∙ c.if-not-limited.true))
 
 pub returns-in-Some-clause-feeds : goal.returns-in-Some-clause-feeds
 returns-in-Some-clause-feeds c =
     let is : IsSub c.args.sub c.in-Some.live.now c.args.connection.now.session = sub_is c.args.sub c.subs.result.now c.in-Some.live.now c.args.connection.now.session c.subs.ensures.live c.subs.ensures.observers c.in-Some.ensures.live c.in-Some.ensures.observer in
-    feeds c.args.machine.now c.args.connection.now c.requires.connection c.args.sub c.in-Some.live.now is (sym c.limited.ensures ∙ c.if-not-limited.true) (λ told. arc_value told) c.args.from c.args.count c.requires.is c.requires.within c.of.result
-    (c.of.ensures.told (cursors_at_of c.args.machine.now.app) c.requires.news (source c.args.machine.now c.args.connection.now c.requires.connection c.args.sub c.in-Some.live.now is (sym c.limited.ensures ∙ c.if-not-limited.true)))
+    feeds c.args.machine.now c.args.connection.now c.requires.connection c.args.sub c.in-Some.live.now is (sym c.limited.ensures ∙ c.if-not-limited.true) (λ told. arc_value told) c.args.from c.args.count c.requires.is c.requires.within c.span.result
+    (c.span.ensures.told (cursors_at_of c.args.machine.now.app) c.requires.news (source c.args.machine.now c.args.connection.now c.requires.connection c.args.sub c.in-Some.live.now is (sym c.limited.ensures ∙ c.if-not-limited.true)))

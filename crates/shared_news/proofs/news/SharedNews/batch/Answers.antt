@@ -1,5 +1,5 @@
 use Rattle.std.specs.Arc.{arc_value}
-use Rattle.shared_news.proofs.Told.{told_by}
+use Rattle.shared_news.proofs.Kept.{told_by}
 use Rattle.shared_news.proofs.news.SharedNews.batch.Goals as goal
 
 pub returns-in-None-clause-told : goal.returns-in-None-clause-told

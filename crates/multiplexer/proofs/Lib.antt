@@ -1,4 +1,0 @@
-pub mod Rows
-pub mod Limits
-pub mod Made
-pub mod Named

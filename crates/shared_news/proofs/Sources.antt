@@ -1,0 +1,90 @@
+-- Sources in a list, and what is told of each.
+use Rattle.std.specs.Prelude.{◌≡◌, ℕ, zero, suc, List, [], ◌∷◌, ◌++◌, map, length, slice_get, slice_set, Option, Some, IfSome, Result, IfOk, refl}
+use Rattle.std.specs.List.{AllByRecursion}
+use Rattle.std.proofs.Common.{ap, ap₂, sym, subst, ◌∙◌}
+use Rattle.std.proofs.lemmas.Option.{same_Some, none-some}
+use Rattle.ejson_value.specs.declared.change.Publish.{Publish}
+use Rattle.ejson_value.specs.Changes.{news_of}
+use Rattle.publication.specs.Cursors.{ACursors}
+use Rattle.publication.specs.Published.{published}
+use Rattle.live_observer.specs.Observing.{AnObserver, cursors_of, HaveNoLimit}
+use Rattle.session_state.specs.declared.subs.Sub.{Sub}
+use Rattle.store_machine.specs.State.{MachineState, programs, held_after}
+use Rattle.shared_news.specs.Leading.{IsLead, AreDifferences}
+use Rattle.shared_news.specs.Telling.{CursorsAt, ASource, documents_of, IsSpan, IsTold, IsSource}
+use Rattle.shared_news.specs.Sources.{IsAlike, IsOf, IsPlaceOf, IsToldBy}
+
+-- ---- lists
+
+pub all_at : {A : Type 0} (P : A → Type 0) (xs : List A) (i : ℕ) (x : A) → AllByRecursion P xs → slice_get xs i ≡ Some x → P x
+all_at P [] i x all is = absurd (none-some x is)
+all_at P (y ∷ xs) zero x all is = subst P (same_Some y x is) all.0
+all_at P (y ∷ xs) (suc i) x all is = all_at P xs i x all.1 is
+
+pub all_with : {A : Type 0} (P : A → Type 0) (xs : List A) (i : ℕ) (x : A) → AllByRecursion P xs → P x → AllByRecursion P (slice_set xs i x)
+all_with P [] i x all one = tt
+all_with P (y ∷ xs) zero x all one = (one, all.1)
+all_with P (y ∷ xs) (suc i) x all one = (all.0, all_with P xs i x all.1 one)
+
+pub all_more : {A : Type 0} (P : A → Type 0) (xs : List A) (x : A) → AllByRecursion P xs → P x → AllByRecursion P (xs ++ x ∷ [])
+all_more P [] x all one = (one, tt)
+all_more P (y ∷ xs) x all one = (all.0, all_more P xs x all.1 one)
+
+pub last_there : {A : Type 0} (xs : List A) (x : A) → slice_get (xs ++ x ∷ []) (length xs) ≡ Some x
+last_there [] x = refl
+last_there (y ∷ xs) x = last_there xs x
+
+-- the last of some and one more is the subscription's, where that one is
+pub last_of : (sources : List ASource) (sub : Sub) (source : ASource) (place : ℕ) → place ≡ length sources → IsOf sub source → IsPlaceOf (sources ++ source ∷ []) sub place
+last_of sources sub source place at of =
+    subst (λ (o : Option ASource). IfSome o (IsOf sub)) (sym (ap (slice_get (sources ++ source ∷ [])) at ∙ last_there sources source)) of
+
+pub place_there : (sources : List ASource) (sub : Sub) (source : ASource) (place : ℕ) → slice_get sources place ≡ Some source → IsOf sub source → IsPlaceOf sources sub place
+place_there sources sub source place at of = subst (λ (o : Option ASource). IfSome o (IsOf sub)) (sym at) of
+
+pub of_place : (sources : List ASource) (sub : Sub) (source : ASource) (place : ℕ) → slice_get sources place ≡ Some source → IsPlaceOf sources sub place → IsOf sub source
+of_place sources sub source place at of = subst (λ (o : Option ASource). IfSome o (IsOf sub)) at of
+
+-- ---- cursors
+
+abbrev AreDifferencesOf : ACursors → MachineState → ASource → Type 0
+AreDifferencesOf cursors m s = AreDifferences cursors (documents_of (programs m.app) m.history) s.first (map news_of s.ones)
+
+observes : (sub : Sub) (o : AnObserver) → sub.observer ≡ Some o → IfSome sub.observer (λ (x : AnObserver). cursors_of x ≡ sub.cursors) → cursors_of o ≡ sub.cursors
+observes sub o is of = subst (λ (x : Option AnObserver). IfSome x (λ (w : AnObserver). cursors_of w ≡ sub.cursors)) is of
+
+module _ (cursors_at : CursorsAt) (sub : Sub) (o : AnObserver) (source : IsSource cursors_at sub) (is : sub.observer ≡ Some o) where
+  pub cursors_same : cursors_of o ≡ sub.cursors
+  cursors_same = observes sub o is source.observer
+
+  pub unlimited : HaveNoLimit (cursors_of o)
+  unlimited = subst HaveNoLimit (sym cursors_same) source.no_limit
+
+  cursors_of_source : (s : ASource) → IsOf sub s → cursors_at s.name s.params ≡ cursors_of o
+  cursors_of_source s of = ap₂ cursors_at of.name of.params ∙ (sym source.cursors ∙ sym cursors_same)
+
+  module _ (m : MachineState) where
+    pub told_by : (s : ASource) → IsOf sub s → IsTold cursors_at (programs m.app) m.history s → IsToldBy (cursors_of o) m s
+    told_by s of told = record {
+      within = told.within;
+      each = subst (λ (cs : ACursors). AreDifferencesOf cs m s) (cursors_of_source s of) told.each;
+      last = subst (λ (cs : ACursors). IfSome s.last (IsSpan cs (programs m.app) m.history)) (cursors_of_source s of) told.last;
+    }
+
+    pub told_at : (s : ASource) → IsOf sub s → IsToldBy (cursors_of o) m s → IsTold cursors_at (programs m.app) m.history s
+    told_at s of told = record {
+      within = told.within;
+      each = subst (λ (cs : ACursors). AreDifferencesOf cs m s) (sym (cursors_of_source s of)) told.each;
+      last = subst (λ (cs : ACursors). IfSome s.last (IsSpan cs (programs m.app) m.history)) (sym (cursors_of_source s of)) told.last;
+    }
+
+  -- the subscription's one, whose entries are told as before or further
+  pub alike_of : (old new : ASource) → IsOf sub old → IsAlike old new → IsOf sub new
+  alike_of old new of alike = record { name = alike.name ∙ of.name; params = alike.params ∙ of.params }
+
+  -- what is told by the observer's cursors is told by the subscription's
+  pub leads_by : {T E : Type 0} (m : MachineState) (value : T → List Publish) (from until : ℕ) (result : Result (Option T) E) →
+      IfOk result (λ answer. IfSome answer (λ told. IsLead (published (cursors_of o) (held_after m from).rows) (published (cursors_of o) (held_after m until).rows) (news_of (value told)))) →
+      IfOk result (λ answer. IfSome answer (λ told. IsLead (published sub.cursors (held_after m from).rows) (published sub.cursors (held_after m until).rows) (news_of (value told))))
+  leads_by m value from until result leads =
+      subst (λ (cs : ACursors). IfOk result (λ answer. IfSome answer (λ told. IsLead (published cs (held_after m from).rows) (published cs (held_after m until).rows) (news_of (value told))))) cursors_same leads

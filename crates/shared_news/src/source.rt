@@ -1,0 +1,291 @@
+//! What a publication tells of entries, one by one.
+ghost use Rattle.std.specs.Prelude.{◌≡◌, ◌+◌, ◌-◌, ◌≤◌, ◌<◌, ◌==◌, ◌&&◌, length, Some, IfOk, IfSome, OnOk, OnErr, IsTrue};
+ghost use Rattle.std.specs.Arc.{arc_value};
+ghost use Rattle.publication.specs.Cursors.{ACursors};
+ghost use Rattle.live_observer.specs.Observing.{cursors_of, HaveNoLimit};
+ghost use Rattle.store_machine.specs.State.{MachineState};
+ghost use Rattle.shared_news.specs.Sources.{max_entries, source_of, reached, trimmed, with_one, next_of, IsToldBy, IsAlike, IsOf, LeadsBy, with_last};
+
+use crate::joining::joined;
+use crate::observing::observed;
+use crate::params::same_params;
+use ejson_value::{Items, Mem, Publishes, Text};
+use live_observer::Observer;
+use session_state::Sub;
+use std::alloc::Global;
+use std::marker::Model;
+use std::sync::Arc;
+use store_machine::Machine;
+
+/// How many entries are kept at most.
+const MAX_ENTRIES: usize = 256;
+
+/// How many entries a span has at most that is put together of them.
+const MAX_SPAN: u64 = 64;
+
+/// What is told of the entries between two places.
+#[derive(Drop)]
+pub(crate) struct Span {
+    from: u64,
+    until: u64,
+    told: Arc<Publishes>,
+}
+
+/// What a publication, called with its parameters, tells of entries of a history, one after another, and
+/// of the span that was asked for last. A contract sees the name, the parameters, how many entries stand
+/// before these, what is told of each, and the span.
+#[derive(Drop)]
+pub(crate) struct Source {
+    name: Text,
+    params: Items,
+    first: u64,
+    ones: Vec<Arc<Publishes>>,
+    last: Option<Span>,
+}
+
+impl Model for Source {
+    ghost use Rattle.std.specs.Coded.{codes};
+    ghost use Rattle.value_model.specs.Coding.{val_code};
+    ghost use Rattle.shared_news.specs.Telling.{ASource};
+
+    ghost Value = { ASource };
+
+    ghost coded = { Prim.hlevel (codes, val_code) };
+
+    ghost use Rattle.shared_news.specs.Inside.{seen, IsShort};
+
+    ghost view = { seen };
+
+    ghost invariant = { IsShort };
+}
+
+fn is_between(span: &Span, from: u64, until: u64) -> bool
+    ensures { result ≡ (span.now.from == from && span.now.until == until) }
+{
+    span.from == from && span.until == until
+}
+
+// What the observer tells of the entries between the places, at once.
+fn at_once(
+    alloc: Global,
+    machine: &Machine,
+    observer: &Observer,
+    from: u64,
+    until: u64,
+) -> Result<Arc<Publishes>, Mem>
+    requires order { from ≤ until }
+    requires within { until ≤ length machine.now.history }
+    ensures { HaveNoLimit (cursors_of observer.now) → IfOk result (λ told. LeadsBy (cursors_of observer.now) machine.now from until (arc_value told)) }
+{
+    let batch = machine.batch(from, until - from)?;
+    let told = observed(observer, batch.changes.as_slice())?;
+    let told = Arc::new(alloc, told)?;
+    Ok(told)
+}
+
+impl Source {
+    /// Nothing is told yet of the entries behind the first `first`.
+    pub(crate) fn new(alloc: Global, sub: &Sub, first: u64) -> Result<Source, Mem>
+        ensures { IfOk result (λ source. source ≡ source_of sub.now first) }
+    {
+        Ok(Source {
+            name: sub.name.copy()?,
+            params: sub.params.copy()?,
+            first,
+            ones: Vec::new(alloc),
+            last: None,
+        })
+    }
+
+    /// Whether the subscription is to this publication with these parameters.
+    pub(crate) fn is_of(&self, sub: &Sub) -> bool
+        ensures { IsTrue result → IsOf sub.now self.now }
+    {
+        self.name == sub.name && same_params(&self.params, &sub.params)
+    }
+
+    fn allocator(&self) -> Global {
+        *self.ones.allocator()
+    }
+
+    // How many entries stand before the next one.
+    fn next(&self) -> u64
+        ensures { result ≡ next_of self.now }
+    {
+        self.first + self.ones.len() as u64
+    }
+
+    // Begins anew at an entry so far on that what is told before would not be kept.
+    fn reach(&mut self, from: u64)
+        ensures { self.new ≡ reached self.old from }
+    {
+        if from.saturating_sub(self.next()) >= MAX_ENTRIES as u64 {
+            self.ones.clear();
+            self.first = from;
+        }
+    }
+
+    // Makes room for one entry more: where there is none, the first entry goes.
+    fn trim(&mut self)
+        ensures trimmed { self.new ≡ trimmed self.old }
+        ensures room { length self.new.ones < max_entries }
+        ensures next { next_of self.new ≡ next_of self.old }
+    {
+        if self.ones.len() >= MAX_ENTRIES {
+            drop(self.ones.remove(0));
+            self.first += 1;
+        }
+    }
+
+    // What is told of the next entry is kept.
+    fn keep(&mut self, told: Arc<Publishes>) -> Result<(), Mem>
+        requires { next_of self.old < 18446744073709551615 }
+        ensures ok { OnOk result (self.new ≡ with_one (trimmed self.old) (arc_value told)) }
+        ensures err { OnErr result (self.new ≡ trimmed self.old) }
+    {
+        self.trim();
+        self.ones.push(told)?;
+        Ok(())
+    }
+
+    // The next entry is told.
+    fn tell(&mut self, machine: &Machine, observer: &Observer) -> Result<(), Mem>
+        requires within { next_of self.old < length machine.now.history }
+        requires numbered { next_of self.old < 18446744073709551615 }
+        ensures same { IsAlike self.old self.new }
+        ensures next { OnOk result (next_of self.new ≡ next_of self.old + 1) }
+        ensures told { HaveNoLimit (cursors_of observer.now) → IsToldBy (cursors_of observer.now) machine.now self.old → IsToldBy (cursors_of observer.now) machine.now self.new }
+    {
+        let told = observed(observer, machine.changes_of(self.next()))?;
+        let told = Arc::new(self.allocator(), told)?;
+        self.keep(told)
+    }
+
+    // The entries are told up to this place of the history.
+    fn fill(&mut self, machine: &Machine, observer: &Observer, until: u64) -> Result<(), Mem>
+        requires { until ≤ length machine.now.history }
+        ensures same { IsAlike self.old self.new }
+        ensures filled { OnOk result (until ≤ next_of self.new) }
+        ensures told { HaveNoLimit (cursors_of observer.now) → IsToldBy (cursors_of observer.now) machine.now self.old → IsToldBy (cursors_of observer.now) machine.now self.new }
+    {
+        while self.next() < until {
+            self.tell(machine, observer)?;
+        }
+        Ok(())
+    }
+
+    // What is told of a span, where all its entries are kept.
+    fn told(&self, from: u64, count: u64) -> Result<Option<Arc<Publishes>>, Mem>
+        requires { from + count ≤ next_of self.now }
+        ensures { (cursors : ACursors) (m : MachineState) → IsToldBy cursors m self.now → IfOk result (λ answer. IfSome answer (λ told. LeadsBy cursors m from (from + count) (arc_value told))) }
+    {
+        if from < self.first {
+            return Ok(None);
+        }
+        let start = (from - self.first) as usize;
+        let some = &self.ones[start..start + count as usize];
+        let told = joined(self.allocator(), some)?;
+        Ok(Some(told))
+    }
+
+    // What is told of a short span, put together of its entries: None where they are not kept any more.
+    fn short(
+        &mut self,
+        machine: &Machine,
+        observer: &Observer,
+        from: u64,
+        until: u64,
+    ) -> Result<Option<Arc<Publishes>>, Mem>
+        requires order { from ≤ until }
+        requires within { until ≤ length machine.now.history }
+        ensures same { IsAlike self.old self.new }
+        ensures keeps { HaveNoLimit (cursors_of observer.now) → IsToldBy (cursors_of observer.now) machine.now self.old → IsToldBy (cursors_of observer.now) machine.now self.new }
+        ensures told { HaveNoLimit (cursors_of observer.now) → IsToldBy (cursors_of observer.now) machine.now self.old → IfOk result (λ answer. IfSome answer (λ told. LeadsBy (cursors_of observer.now) machine.now from until (arc_value told))) }
+    {
+        self.reach(from);
+        self.fill(machine, observer, until)?;
+        self.told(from, until - from)
+    }
+
+    // What is told of any span.
+    fn made(
+        &mut self,
+        machine: &Machine,
+        observer: &Observer,
+        from: u64,
+        until: u64,
+    ) -> Result<Arc<Publishes>, Mem>
+        requires order { from ≤ until }
+        requires within { until ≤ length machine.now.history }
+        ensures same { IsAlike self.old self.new }
+        ensures keeps { HaveNoLimit (cursors_of observer.now) → IsToldBy (cursors_of observer.now) machine.now self.old → IsToldBy (cursors_of observer.now) machine.now self.new }
+        ensures told { HaveNoLimit (cursors_of observer.now) → IsToldBy (cursors_of observer.now) machine.now self.old → IfOk result (λ told. LeadsBy (cursors_of observer.now) machine.now from until (arc_value told)) }
+    {
+        if until - from > MAX_SPAN {
+            return at_once(self.allocator(), machine, observer, from, until);
+        }
+        match self.short(machine, observer, from, until)? {
+            Some(told) => Ok(told),
+            None => at_once(self.allocator(), machine, observer, from, until),
+        }
+    }
+
+    // What is told of the span, where it was asked for last.
+    fn known(&self, from: u64, until: u64) -> Result<Option<Arc<Publishes>>, Mem>
+        ensures { IfOk result (λ answer. IfSome answer (λ told. self.now.last ≡ Some (record { from = from; until = until; told = arc_value told }))) }
+    {
+        match &self.last {
+            Some(last) if is_between(last, from, until) => Ok(Some(Arc::try_clone(&last.told)?)),
+            _ => Ok(None),
+        }
+    }
+
+    // The span is the one that was asked for last.
+    fn remember(&mut self, from: u64, until: u64, told: &Arc<Publishes>) -> Result<(), Mem>
+        ensures ok { OnOk result (self.new ≡ with_last self.old from until (arc_value told.now)) }
+        ensures err { OnErr result (self.new ≡ self.old) }
+    {
+        let told = Arc::try_clone(told)?;
+        self.last = Some(Span { from, until, told });
+        Ok(())
+    }
+
+    // What is told of a span that was not asked for last.
+    fn learnt(
+        &mut self,
+        machine: &Machine,
+        observer: &Observer,
+        from: u64,
+        until: u64,
+    ) -> Result<Arc<Publishes>, Mem>
+        requires order { from ≤ until }
+        requires within { until ≤ length machine.now.history }
+        ensures same { IsAlike self.old self.new }
+        ensures keeps { HaveNoLimit (cursors_of observer.now) → IsToldBy (cursors_of observer.now) machine.now self.old → IsToldBy (cursors_of observer.now) machine.now self.new }
+        ensures told { HaveNoLimit (cursors_of observer.now) → IsToldBy (cursors_of observer.now) machine.now self.old → IfOk result (λ told. LeadsBy (cursors_of observer.now) machine.now from until (arc_value told)) }
+    {
+        let told = self.made(machine, observer, from, until)?;
+        self.remember(from, until, &told)?;
+        Ok(told)
+    }
+
+    /// What is told of the entries between the places, to an observer of the publication.
+    pub(crate) fn span(
+        &mut self,
+        machine: &Machine,
+        observer: &Observer,
+        from: u64,
+        until: u64,
+    ) -> Result<Arc<Publishes>, Mem>
+        requires order { from ≤ until }
+        requires within { until ≤ length machine.now.history }
+        ensures same { IsAlike self.old self.new }
+        ensures keeps { HaveNoLimit (cursors_of observer.now) → IsToldBy (cursors_of observer.now) machine.now self.old → IsToldBy (cursors_of observer.now) machine.now self.new }
+        ensures told { HaveNoLimit (cursors_of observer.now) → IsToldBy (cursors_of observer.now) machine.now self.old → IfOk result (λ told. LeadsBy (cursors_of observer.now) machine.now from until (arc_value told)) }
+    {
+        match self.known(from, until)? {
+            Some(told) => Ok(told),
+            None => self.learnt(machine, observer, from, until),
+        }
+    }
+}
