@@ -16,20 +16,20 @@ use client_parts::subs::ended_by;
 use client_parts::texts::pong;
 use ddp_messages::{FromServer, MsgFault};
 use ejson_value::{Fault, Mem, Names, Text, Value};
+use heard_messages::Heard;
 use json::Scratch;
-use std::alloc::Global;
 
 /// How many bytes a text may have that a client reads.
 const MAX_SERVER_TEXT: usize = 4_194_304;
 
 // Reads a text as a message.
-fn read(alloc: Global, text: &Text, scratch: &mut Scratch) -> Result<FromServer, TakeFault>
+fn read(text: &Text, scratch: &mut Scratch, heard: &mut Heard) -> Result<FromServer, TakeFault>
     ensures { IsRead text.now result }
 {
     if text.len() > MAX_SERVER_TEXT {
         return Err(TakeFault::ServerSent(1));
     }
-    match FromServer::read_in(alloc, text, scratch) {
+    match heard.read(text, scratch) {
         Ok(message) => Ok(message),
         Err(MsgFault::Parse) => Err(TakeFault::ServerSent(1)),
         Err(MsgFault::BadRequest { .. }) => Err(TakeFault::ServerSent(2)),
@@ -155,22 +155,23 @@ impl Client {
     }
 
     // Takes a text, or refuses it and changes nothing.
-    fn hear(&mut self, text: &Text) -> Result<(), TakeFault>
+    fn hear(&mut self, text: &Text, heard: &mut Heard) -> Result<(), TakeFault>
         ensures { Hears text.now self.old self.new result }
     {
-        let message = read(self.alloc, text, &mut self.scratch)?;
+        let message = read(text, &mut self.scratch, heard)?;
         self.tell(message)
     }
 
     /// Takes a text of the server. A refused one breaks the client by the number of its refusal, and
-    /// changes nothing else: from then on it takes nothing and asks for nothing.
-    pub fn take(&mut self, text: &Text) -> Result<(), TakeFault>
+    /// changes nothing else: from then on it takes nothing and asks for nothing. Others may have read
+    /// the text already.
+    pub fn take(&mut self, text: &Text, heard: &mut Heard) -> Result<(), TakeFault>
         ensures { Takes text.now self.old self.new result }
     {
         if self.is_failed || self.broken.is_some() {
             return Err(TakeFault::Idle);
         }
-        let taken = self.hear(text);
+        let taken = self.hear(text, heard);
         if let Err(TakeFault::ServerSent(number)) = taken {
             self.broken = Some(number);
         }

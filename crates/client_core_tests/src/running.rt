@@ -4,6 +4,7 @@ use app_model::App;
 use client_core::{Client, ClientFault, Outcome, TakeFault, View};
 use ejson_codec::{parse, text};
 use ejson_value::{Doc, Items, Mem, Publishes, Text, Value};
+use heard_messages::Heard;
 use selector_match::Selector;
 use std::alloc::Global;
 use std::test::Fail;
@@ -84,7 +85,8 @@ fn called(alloc: Global, answer: Result<u32, ClientFault>) -> Result<Text, Fail>
 
 fn take(alloc: Global, client: &mut Client, row: &str) -> Result<Text, Fail> {
     let text = expanded(alloc, row)?;
-    took(alloc, client.take(&text))
+    let mut heard = Heard::new(alloc);
+    took(alloc, client.take(&text, &mut heard))
 }
 
 fn sub(alloc: Global, client: &mut Client, row: &str) -> Result<Text, Fail> {

@@ -7,19 +7,29 @@ ghost use Rattle.client_events.specs.Acting.{ActsOver, TellsOver};
 use connection::Connection;
 use core_model::{Act, Answer};
 use ejson_value::Mem;
+use heard_messages::Heard;
 use store_machine::Machine;
 
 // The client takes a text.
-fn take(connection: &mut Connection, machine: &Machine) -> Result<(Answer, Option<u8>), Mem>
+fn take(
+    connection: &mut Connection,
+    machine: &Machine,
+    heard: &mut Heard,
+) -> Result<(Answer, Option<u8>), Mem>
     requires { IsConnection machine.now.app connection.old.own.name machine.now.history connection.old }
     ensures { TellsOver act.Take machine.now machine.now connection.old connection.new result }
 {
     let _machine = machine;
-    connection.take()
+    connection.take(heard)
 }
 
 // An act, of which it isn't told whether the client is broken then.
-fn made(connection: &mut Connection, machine: &mut Machine, act: Act) -> Result<Answer, Mem>
+fn made(
+    connection: &mut Connection,
+    machine: &mut Machine,
+    heard: &mut Heard,
+    act: Act,
+) -> Result<Answer, Mem>
     requires connection { IsConnection machine.old.app connection.old.own.name machine.old.history connection.old }
     requires served { IsServed machine.old.app machine.old.history (as_conn connection.old) }
     ensures { ActsOver act machine.old machine.new connection.old connection.new result }
@@ -34,7 +44,7 @@ fn made(connection: &mut Connection, machine: &mut Machine, act: Act) -> Result<
         Act::Load { sub, at } => connection.load(machine, sub, at),
         Act::Advance { sub, count } => connection.advance(machine, sub, count),
         Act::Send => connection.send(),
-        Act::Take => Ok(take(connection, machine)?.0),
+        Act::Take => Ok(take(connection, machine, heard)?.0),
     }
 }
 
@@ -43,6 +53,7 @@ fn made(connection: &mut Connection, machine: &mut Machine, act: Act) -> Result<
 pub fn act(
     connection: &mut Connection,
     machine: &mut Machine,
+    heard: &mut Heard,
     act: Act,
 ) -> Result<(Answer, Option<u8>), Mem>
     requires connection { IsConnection machine.old.app connection.old.own.name machine.old.history connection.old }
@@ -50,9 +61,9 @@ pub fn act(
     ensures { TellsOver act machine.old machine.new connection.old connection.new result }
 {
     match act {
-        Act::Take => take(connection, machine),
+        Act::Take => take(connection, machine, heard),
         _ => {
-            let answer = made(connection, machine, act)?;
+            let answer = made(connection, machine, heard, act)?;
             Ok((answer, None))
         }
     }

@@ -9,14 +9,15 @@ use crate::showing::advance;
 use connection::Connection;
 use core_model::{Act, Answer};
 use ejson_value::Mem;
+use heard_messages::Heard;
 use shared_news::SharedNews;
 use store_machine::Machine;
 
 // The client takes a text, whether or not it breaks at it.
-fn take(connection: &mut Connection) -> Result<Answer, Mem>
+fn take(connection: &mut Connection, heard: &mut Heard) -> Result<Answer, Mem>
     ensures { Answers act.Take connection.old connection.new result }
 {
-    match connection.take() {
+    match connection.take(heard) {
         Ok((answer, _)) => Ok(answer),
         Err(mem) => Err(mem),
     }
@@ -27,6 +28,7 @@ fn make(
     connection: &mut Connection,
     machine: &mut Machine,
     news: &mut SharedNews,
+    heard: &mut Heard,
     act: Act,
 ) -> Result<Answer, Mem>
     requires { IsReady (visit machine.old connection.old news.old) }
@@ -42,7 +44,7 @@ fn make(
         Act::Load { sub, at } => connection.load(machine, sub, at),
         Act::Advance { sub, count } => advance(connection, machine, news, sub, count),
         Act::Send => connection.send(),
-        Act::Take => take(connection),
+        Act::Take => take(connection, heard),
     }
 }
 
@@ -51,12 +53,13 @@ pub(crate) fn tries(
     connection: &mut Connection,
     machine: &mut Machine,
     news: &mut SharedNews,
+    heard: &mut Heard,
     act: Act,
 ) -> Result<bool, Mem>
     requires { IsReady (visit machine.old connection.old news.old) }
     ensures { Tries act (visit machine.old connection.old news.old) (visit machine.new connection.new news.new) result }
 {
-    match make(connection, machine, news, act) {
+    match make(connection, machine, news, heard, act) {
         Ok(Answer::Done) => Ok(true),
         Ok(_) => Ok(false),
         Err(mem) => Err(mem),

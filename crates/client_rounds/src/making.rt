@@ -11,6 +11,7 @@ use crate::acting::tries;
 use connection::Connection;
 use core_model::Act;
 use ejson_value::Mem;
+use heard_messages::Heard;
 use shared_news::SharedNews;
 use store_machine::Machine;
 
@@ -19,6 +20,7 @@ pub(crate) fn repeat(
     connection: &mut Connection,
     machine: &mut Machine,
     news: &mut SharedNews,
+    heard: &mut Heard,
     act: Act,
 ) -> Result<bool, Mem>
     requires ready { IsReady (visit machine.old connection.old news.old) }
@@ -26,7 +28,7 @@ pub(crate) fn repeat(
     ensures { let v = visit machine.old connection.old news.old in Makes (replicate (count_of machine.old.app act (side v)) act) v (visit machine.new connection.new news.new) result }
 {
     let mut made = false;
-    while tries(connection, machine, news, act)? {
+    while tries(connection, machine, news, heard, act)? {
         made = true;
     }
     Ok(made)
@@ -37,6 +39,7 @@ pub(crate) fn each(
     connection: &mut Connection,
     machine: &mut Machine,
     news: &mut SharedNews,
+    heard: &mut Heard,
     acts: &[Act],
 ) -> Result<bool, Mem>
     requires { IsReady (visit machine.old connection.old news.old) }
@@ -44,7 +47,7 @@ pub(crate) fn each(
 {
     let mut made = false;
     for act in acts {
-        if tries(connection, machine, news, *act)? {
+        if tries(connection, machine, news, heard, *act)? {
             made = true;
         }
     }
@@ -56,6 +59,7 @@ pub(crate) fn steps(
     connection: &mut Connection,
     machine: &mut Machine,
     news: &mut SharedNews,
+    heard: &mut Heard,
     calls: &[u64],
 ) -> Result<bool, Mem>
     requires ready { IsReady (visit machine.old connection.old news.old) }
@@ -65,7 +69,7 @@ pub(crate) fn steps(
 {
     let mut made = false;
     for k in calls {
-        if repeat(connection, machine, news, Act::Step { k: *k })? {
+        if repeat(connection, machine, news, heard, Act::Step { k: *k })? {
             made = true;
         }
     }

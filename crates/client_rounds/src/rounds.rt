@@ -9,6 +9,7 @@ use crate::making::{each, repeat, steps};
 use connection::Connection;
 use core_model::Act;
 use ejson_value::Mem;
+use heard_messages::Heard;
 use shared_news::SharedNews;
 use std::alloc::Global;
 use store_machine::Machine;
@@ -18,12 +19,13 @@ fn texts_up(
     connection: &mut Connection,
     machine: &mut Machine,
     news: &mut SharedNews,
+    heard: &mut Heard,
 ) -> Result<bool, Mem>
     requires { IsReady (visit machine.old connection.old news.old) }
     ensures { Passes (ups ∷ recvs ∷ []) (visit machine.old connection.old news.old) (visit machine.new connection.new news.new) result }
 {
-    let up = repeat(connection, machine, news, Act::Up)?;
-    let taken = repeat(connection, machine, news, Act::Recv)?;
+    let up = repeat(connection, machine, news, heard, Act::Up)?;
+    let taken = repeat(connection, machine, news, heard, Act::Recv)?;
     Ok(up || taken)
 }
 
@@ -32,12 +34,13 @@ fn requests(
     connection: &mut Connection,
     machine: &mut Machine,
     news: &mut SharedNews,
+    heard: &mut Heard,
 ) -> Result<bool, Mem>
     requires { IsReady (visit machine.old connection.old news.old) }
     ensures { Passes (handles ∷ begins ∷ []) (visit machine.old connection.old news.old) (visit machine.new connection.new news.new) result }
 {
-    let handled = repeat(connection, machine, news, Act::Handle)?;
-    let begun = tries(connection, machine, news, Act::Begin)?;
+    let handled = repeat(connection, machine, news, heard, Act::Handle)?;
+    let begun = tries(connection, machine, news, heard, Act::Begin)?;
     Ok(handled || begun)
 }
 
@@ -46,12 +49,13 @@ fn runs(
     connection: &mut Connection,
     machine: &mut Machine,
     news: &mut SharedNews,
+    heard: &mut Heard,
 ) -> Result<bool, Mem>
     requires { IsReady (visit machine.old connection.old news.old) }
     ensures { Passes (steps ∷ []) (visit machine.old connection.old news.old) (visit machine.new connection.new news.new) result }
 {
     let calls = connection.running()?;
-    steps(connection, machine, news, calls.as_slice())
+    steps(connection, machine, news, heard, calls.as_slice())
 }
 
 // The session learns of each call that runs.
@@ -60,13 +64,14 @@ fn learnings(
     connection: &mut Connection,
     machine: &mut Machine,
     news: &mut SharedNews,
+    heard: &mut Heard,
 ) -> Result<bool, Mem>
     requires { IsReady (visit machine.old connection.old news.old) }
     ensures { Passes (learns ∷ []) (visit machine.old connection.old news.old) (visit machine.new connection.new news.new) result }
 {
     let calls = connection.running()?;
     let acts = learns(alloc, calls.as_slice(), machine.length())?;
-    each(connection, machine, news, acts.as_slice())
+    each(connection, machine, news, heard, acts.as_slice())
 }
 
 // Subscriptions are loaded.
@@ -75,12 +80,13 @@ fn loadings(
     connection: &mut Connection,
     machine: &mut Machine,
     news: &mut SharedNews,
+    heard: &mut Heard,
 ) -> Result<bool, Mem>
     requires { IsReady (visit machine.old connection.old news.old) }
     ensures { Passes (loadings ∷ []) (visit machine.old connection.old news.old) (visit machine.new connection.new news.new) result }
 {
     let acts = loads(alloc, connection.subs(), machine.length())?;
-    each(connection, machine, news, acts.as_slice())
+    each(connection, machine, news, heard, acts.as_slice())
 }
 
 // Subscriptions go on to the end of the history.
@@ -89,12 +95,13 @@ fn advancings(
     connection: &mut Connection,
     machine: &mut Machine,
     news: &mut SharedNews,
+    heard: &mut Heard,
 ) -> Result<bool, Mem>
     requires { IsReady (visit machine.old connection.old news.old) }
     ensures { Passes (advancings ∷ []) (visit machine.old connection.old news.old) (visit machine.new connection.new news.new) result }
 {
     let acts = advances(alloc, connection.subs(), machine.length())?;
-    each(connection, machine, news, acts.as_slice())
+    each(connection, machine, news, heard, acts.as_slice())
 }
 
 // Texts are sent while they can be, and the client takes them.
@@ -102,12 +109,13 @@ fn texts_down(
     connection: &mut Connection,
     machine: &mut Machine,
     news: &mut SharedNews,
+    heard: &mut Heard,
 ) -> Result<bool, Mem>
     requires { IsReady (visit machine.old connection.old news.old) }
     ensures { Passes (sendings ∷ takings ∷ []) (visit machine.old connection.old news.old) (visit machine.new connection.new news.new) result }
 {
-    let sent = repeat(connection, machine, news, Act::Send)?;
-    let taken = repeat(connection, machine, news, Act::Take)?;
+    let sent = repeat(connection, machine, news, heard, Act::Send)?;
+    let taken = repeat(connection, machine, news, heard, Act::Take)?;
     Ok(sent || taken)
 }
 
@@ -116,12 +124,13 @@ fn asks(
     connection: &mut Connection,
     machine: &mut Machine,
     news: &mut SharedNews,
+    heard: &mut Heard,
 ) -> Result<bool, Mem>
     requires { IsReady (visit machine.old connection.old news.old) }
     ensures { Passes (ups ∷ recvs ∷ handles ∷ begins ∷ []) (visit machine.old connection.old news.old) (visit machine.new connection.new news.new) result }
 {
-    let up = texts_up(connection, machine, news)?;
-    let handled = requests(connection, machine, news)?;
+    let up = texts_up(connection, machine, news, heard)?;
+    let handled = requests(connection, machine, news, heard)?;
     Ok(up || handled)
 }
 
@@ -131,12 +140,13 @@ fn calls(
     connection: &mut Connection,
     machine: &mut Machine,
     news: &mut SharedNews,
+    heard: &mut Heard,
 ) -> Result<bool, Mem>
     requires { IsReady (visit machine.old connection.old news.old) }
     ensures { Passes (steps ∷ learns ∷ []) (visit machine.old connection.old news.old) (visit machine.new connection.new news.new) result }
 {
-    let stepped = runs(connection, machine, news)?;
-    let learnt = learnings(alloc, connection, machine, news)?;
+    let stepped = runs(connection, machine, news, heard)?;
+    let learnt = learnings(alloc, connection, machine, news, heard)?;
     Ok(stepped || learnt)
 }
 
@@ -146,12 +156,13 @@ fn shows(
     connection: &mut Connection,
     machine: &mut Machine,
     news: &mut SharedNews,
+    heard: &mut Heard,
 ) -> Result<bool, Mem>
     requires { IsReady (visit machine.old connection.old news.old) }
     ensures { Passes (loadings ∷ advancings ∷ []) (visit machine.old connection.old news.old) (visit machine.new connection.new news.new) result }
 {
-    let loaded = loadings(alloc, connection, machine, news)?;
-    let advanced = advancings(alloc, connection, machine, news)?;
+    let loaded = loadings(alloc, connection, machine, news, heard)?;
+    let advanced = advancings(alloc, connection, machine, news, heard)?;
     Ok(loaded || advanced)
 }
 
@@ -161,12 +172,13 @@ fn serves(
     connection: &mut Connection,
     machine: &mut Machine,
     news: &mut SharedNews,
+    heard: &mut Heard,
 ) -> Result<bool, Mem>
     requires { IsReady (visit machine.old connection.old news.old) }
     ensures { Passes (ups ∷ recvs ∷ handles ∷ begins ∷ steps ∷ learns ∷ []) (visit machine.old connection.old news.old) (visit machine.new connection.new news.new) result }
 {
-    let asked = asks(connection, machine, news)?;
-    let called = calls(alloc, connection, machine, news)?;
+    let asked = asks(connection, machine, news, heard)?;
+    let called = calls(alloc, connection, machine, news, heard)?;
     Ok(asked || called)
 }
 
@@ -176,12 +188,13 @@ fn tells(
     connection: &mut Connection,
     machine: &mut Machine,
     news: &mut SharedNews,
+    heard: &mut Heard,
 ) -> Result<bool, Mem>
     requires { IsReady (visit machine.old connection.old news.old) }
     ensures { Passes (loadings ∷ advancings ∷ sendings ∷ takings ∷ []) (visit machine.old connection.old news.old) (visit machine.new connection.new news.new) result }
 {
-    let shown = shows(alloc, connection, machine, news)?;
-    let sent = texts_down(connection, machine, news)?;
+    let shown = shows(alloc, connection, machine, news, heard)?;
+    let sent = texts_down(connection, machine, news, heard)?;
     Ok(shown || sent)
 }
 
@@ -192,11 +205,12 @@ pub fn round(
     connection: &mut Connection,
     machine: &mut Machine,
     news: &mut SharedNews,
+    heard: &mut Heard,
 ) -> Result<bool, Mem>
     requires { IsReady (visit machine.old connection.old news.old) }
     ensures { Passes order (visit machine.old connection.old news.old) (visit machine.new connection.new news.new) result }
 {
-    let served = serves(alloc, connection, machine, news)?;
-    let told = tells(alloc, connection, machine, news)?;
+    let served = serves(alloc, connection, machine, news, heard)?;
+    let told = tells(alloc, connection, machine, news, heard)?;
     Ok(served || told)
 }

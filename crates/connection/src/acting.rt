@@ -8,6 +8,7 @@ use crate::side::Side;
 use client_core::TakeFault;
 use core_model::Answer;
 use ejson_value::Mem;
+use heard_messages::Heard;
 use session::EventFault;
 
 /// What an event of the session that is refused is answered.
@@ -92,7 +93,7 @@ pub(crate) fn send(side: &mut Side) -> Result<Answer, Mem>
 
 /// The client takes a text from that link. With the answer goes the number of its refusal, where it
 /// refuses the text; it is broken then.
-pub(crate) fn take(side: &mut Side) -> Result<(Answer, Option<u8>), Mem>
+pub(crate) fn take(side: &mut Side, heard: &mut Heard) -> Result<(Answer, Option<u8>), Mem>
     requires { IsKept side.old }
     ensures kept { IsKept side.new }
     ensures acts { Takes (seen side.old) (seen side.new) result }
@@ -103,7 +104,7 @@ pub(crate) fn take(side: &mut Side) -> Result<(Answer, Option<u8>), Mem>
     let Some(text) = side.downward.first() else {
         return Ok((Answer::Idle, None));
     };
-    match side.client.take(text) {
+    match side.client.take(text, heard) {
         Ok(()) => {
             side.downward.pass();
             Ok((Answer::Done, None))

@@ -27,6 +27,7 @@ use client_core::Client;
 use core_model::Answer;
 use ejson_codec::Lines;
 use ejson_value::{Items, Mem, Publishes, Text};
+use heard_messages::Heard;
 use history_log::Batch;
 use session::Session;
 use session_state::{Sub, cursor_of};
@@ -170,11 +171,11 @@ impl Connection {
     }
 
     /// The client takes a text from that link. With the answer goes the number of its refusal, where
-    /// it refuses the text; it is broken then.
-    pub fn take(&mut self) -> Result<(Answer, Option<u8>), Mem>
+    /// it refuses the text; it is broken then. Others may have read the text already.
+    pub fn take(&mut self, heard: &mut Heard) -> Result<(Answer, Option<u8>), Mem>
         ensures { Takes self.old self.new result }
     {
-        take(&mut self.side)
+        take(&mut self.side, heard)
     }
 
     /// The client subscribes with this id to the publication of this name. Whether it could.

@@ -8,12 +8,14 @@ use crate::inside::Conns;
 use client_events::{act as act_of, ask};
 use core_model::{Act, Answer, Event};
 use ejson_value::{Mem, Text};
+use heard_messages::Heard;
 use store_machine::Machine;
 
 /// The client acts. What it answers, with the number of its refusal where it refuses a text.
 pub(crate) fn acted(
     conns: &mut Conns,
     machine: &mut Machine,
+    heard: &mut Heard,
     name: &Text,
     act: Act,
 ) -> Result<(Answer, Option<u8>), Mem>
@@ -21,7 +23,7 @@ pub(crate) fn acted(
     ensures { ActsIn act machine.old machine.new conns.old.entries conns.new.entries name.now result }
 {
     match conns.get_mut(name) {
-        Some(connection) => act_of(connection, machine, act),
+        Some(connection) => act_of(connection, machine, heard, act),
         None => Ok((Answer::Idle, None)),
     }
 }

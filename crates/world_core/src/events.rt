@@ -35,7 +35,13 @@ fn make(inside: &mut Inside, client: &Text, act: Act) -> Result<Printed, Mem>
     ensures { MakesAct (seen inside.old) client.now act (seen inside.new) result }
 {
     inside.busy.put(client)?;
-    let (answer, refusal) = acted(&mut inside.conns, &mut inside.machine, client, act)?;
+    let (answer, refusal) = acted(
+        &mut inside.conns,
+        &mut inside.machine,
+        &mut inside.heard,
+        client,
+        act,
+    )?;
     Ok(Printed::told(answer, refusal))
 }
 

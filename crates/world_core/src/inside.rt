@@ -2,6 +2,7 @@
 use client_names::Names;
 use connection::Connection;
 use ejson_value::Text;
+use heard_messages::Heard;
 use std::alloc::Global;
 use std::collections::BTreeMap;
 use store_machine::Machine;
@@ -23,4 +24,6 @@ pub(crate) struct Inside {
     pub(crate) busy: Names,
     /// How many entries the history had when the world was settled last.
     pub(crate) settled: u64,
+    /// Texts that clients took.
+    pub(crate) heard: Heard,
 }

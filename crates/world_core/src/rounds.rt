@@ -13,6 +13,7 @@ use crate::inside::{Conns, Inside};
 use client_names::behind;
 use client_rounds::round as round_of;
 use ejson_value::{Mem, Text};
+use heard_messages::Heard;
 use shared_news::SharedNews;
 use std::alloc::Global;
 use std::cmp::Ordering;
@@ -24,13 +25,14 @@ fn visit(
     conns: &mut Conns,
     machine: &mut Machine,
     news: &mut SharedNews,
+    heard: &mut Heard,
     name: &Text,
 ) -> Result<bool, Mem>
     requires { IfSome (at text_cmp conns.old.entries name.now) (CanVisit machine.old news.old name.now) }
     ensures { VisitsIn machine.old machine.new conns.old.entries conns.new.entries news.old news.new name.now result }
 {
     match conns.get_mut(name) {
-        Some(connection) => round_of(alloc, connection, machine, news),
+        Some(connection) => round_of(alloc, connection, machine, news, heard),
         None => Ok(false),
     }
 }
@@ -87,6 +89,7 @@ fn round(inside: &mut Inside, news: &mut SharedNews) -> Result<bool, Mem>
             &mut inside.conns,
             &mut inside.machine,
             news,
+            &mut inside.heard,
             &name,
         )?;
         made = now || made;

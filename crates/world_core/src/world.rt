@@ -16,6 +16,7 @@ use crate::rounds::settle;
 use app_model::App;
 use client_names::Names;
 use ejson_value::Mem;
+use heard_messages::Heard;
 use std::alloc::Global;
 use std::collections::BTreeMap;
 use std::marker::Model;
@@ -65,6 +66,7 @@ impl World {
                 present: Names::new(alloc),
                 busy: Names::new(alloc),
                 settled: 0,
+                heard: Heard::new(alloc),
             },
         })
     }
