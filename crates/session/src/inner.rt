@@ -8,6 +8,7 @@ ghost use Rattle.session.specs.Adding.{IsAddedTo, AreAlike, Follows};
 
 use app_model::App;
 use ejson_value::Mem;
+use json::Scratch;
 use method_queue::MethodQueue;
 use session_laws::EventFault;
 use session_parts::{Addition, News, Parts};
@@ -36,10 +37,12 @@ pub(crate) struct Inner {
     // The place of each waiting message's text among those that it took.
     pub(crate) places: VecDeque<u64>,
     pub(crate) dropped: bool,
+    // Room for reading, lent to each text.
+    pub(crate) scratch: Box<Scratch>,
 }
 
 /// Nothing was taken.
-pub(crate) fn new_inner(alloc: Global, app: App, number: u32) -> Inner
+pub(crate) fn new_inner(alloc: Global, app: App, number: u32, scratch: Box<Scratch>) -> Inner
     ensures seen { seen result ≡ new_session app number }
     ensures kept { IsKept result }
 {
@@ -52,6 +55,7 @@ pub(crate) fn new_inner(alloc: Global, app: App, number: u32) -> Inner
         queue: MethodQueue::new(alloc, MAX_WAITING),
         places: VecDeque::new(alloc),
         dropped: false,
+        scratch,
     }
 }
 

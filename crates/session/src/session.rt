@@ -19,6 +19,7 @@ use crate::taking::take;
 use app_model::App;
 use ejson_value::{Contents, Mem, Publishes, Text};
 use history_log::Batch;
+use json::Scratch;
 use program_steps::Status;
 use selector_match::Steps;
 use session_journal::Line;
@@ -62,8 +63,9 @@ impl Session {
         ensures { IfOk result (λ session. session ≡ new_session app.now number) }
     {
         let app = app.copy()?;
+        let scratch = Box::new(alloc, Scratch::new(alloc))?;
         Ok(Session {
-            inner: new_inner(alloc, app, number),
+            inner: new_inner(alloc, app, number, scratch),
         })
     }
 

@@ -125,7 +125,8 @@ fn taken(inner: &mut Inner, text: &Text) -> Result<(), EventFault>
     ensures same { OnErr result (seen inner.new ≡ seen inner.old) }
     ensures kept { IsKept inner.new }
 {
-    let taken = taken_from(inner.alloc, inner.parts.own.connected, text)?;
+    let connected = inner.parts.own.connected;
+    let taken = taken_from(inner.alloc, connected, text, &mut inner.scratch)?;
     match taken {
         Taken::AtOnce(answered) => Ok(answer(inner, answered)?),
         Taken::ToQueue(message) => put(inner, message, text.len() as u32),

@@ -10,6 +10,7 @@ ghost use Rattle.session_texts.specs.Taking.{as_item, as_taken, offending_in, re
 use ddp_messages::{FromClient, MsgFault};
 use ejson_codec::{ReadFault, read};
 use ejson_value::{Mem, Text, Value};
+use json::Scratch;
 use serde_json::Value as Json;
 use std::alloc::Global;
 
@@ -156,14 +157,19 @@ fn taken_message(
     }
 }
 
-/// What a session that is connected, or isn't, makes of the text.
-pub fn taken_from(alloc: Global, connected: bool, text: &Text) -> Result<Taken, Mem>
+/// What a session that is connected, or isn't, makes of the text, with this room for reading.
+pub fn taken_from(
+    alloc: Global,
+    connected: bool,
+    text: &Text,
+    scratch: &mut Scratch,
+) -> Result<Taken, Mem>
     ensures { IfOk result (λ t. as_taken t ≡ taken_text connected text.now) }
 {
     if text.len() > MAX_TEXT {
         return refused(alloc, "Bad request", None);
     }
-    match FromClient::read(alloc, text) {
+    match FromClient::read_in(alloc, text, scratch) {
         Ok(message) => taken_message(alloc, connected, text, message),
         Err(MsgFault::Parse) => refused(alloc, "Parse error", None),
         Err(MsgFault::BadRequest { msg }) => {
