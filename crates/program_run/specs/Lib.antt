@@ -1,3 +1,4 @@
 pub mod Progress
 pub mod Planned
 pub mod Writes
+pub mod OneOperator
