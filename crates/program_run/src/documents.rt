@@ -104,7 +104,7 @@ fn with_drawn_id(
     Ok(NewDocument {
         id,
         is_drawn: true,
-        doc: fields.copy()?,
+        doc: fields.counted()?,
     })
 }
 
