@@ -58,7 +58,7 @@ fn alone(alloc: Global, text: Text) -> Result<Items, Mem> {
 
 fn params_in(alloc: Global, params: &str) -> Result<Items, Fail> {
     match params.strip_prefix("text ") {
-        Some(text) => Ok(alone(alloc, Text::from_string(filled(alloc, text)?))?),
+        Some(text) => Ok(alone(alloc, Text::from_string(filled(alloc, text)?)?)?),
         None => list(alloc, params),
     }
 }

@@ -43,7 +43,7 @@ pub(crate) fn filled(alloc: Global, text: &str) -> Result<String, Fail> {
 }
 
 pub(crate) fn value(alloc: Global, text: &str) -> Result<Value, Fail> {
-    let text = Text::from_string(filled(alloc, text)?);
+    let text = Text::from_string(filled(alloc, text)?)?;
     Ok(parse(alloc, &text)?)
 }
 

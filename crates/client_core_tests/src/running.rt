@@ -69,7 +69,7 @@ fn took(alloc: Global, answer: Result<(), TakeFault>) -> Result<Text, Fail> {
         Ok(()) => words(alloc, "ok"),
         Err(TakeFault::Idle) => words(alloc, "idle"),
         Err(TakeFault::ServerSent(number)) => {
-            Ok(Text::from_string(format!(in alloc; "sent {number}")?))
+            Ok(Text::from_string(format!(in alloc; "sent {number}")?)?)
         }
         Err(TakeFault::Memory) => Err(Fail::from(Mem)),
     }
@@ -77,7 +77,7 @@ fn took(alloc: Global, answer: Result<(), TakeFault>) -> Result<Text, Fail> {
 
 fn called(alloc: Global, answer: Result<u32, ClientFault>) -> Result<Text, Fail> {
     match answer {
-        Ok(number) => Ok(Text::from_string(format!(in alloc; "{number}")?)),
+        Ok(number) => Ok(Text::from_string(format!(in alloc; "{number}")?)?),
         Err(ClientFault::Idle) => words(alloc, "idle"),
         Err(ClientFault::Memory) => Err(Fail::from(Mem)),
     }
@@ -187,7 +187,7 @@ fn find(alloc: Global, view: &View, row: &str) -> Result<Text, Fail> {
 
 fn count(alloc: Global, client: &Client) -> Result<Text, Fail> {
     let count = client.view().contents().len();
-    Ok(Text::from_string(format!(in alloc; "{count}")?))
+    Ok(Text::from_string(format!(in alloc; "{count}")?)?)
 }
 
 fn answer(alloc: Global, client: &mut Client, row: &str) -> Result<Text, Fail> {
@@ -213,7 +213,7 @@ fn first_wrong(alloc: Global, client: &mut Client, script: &str) -> Result<Text,
         let (call, wanted) = row.split_once(" => ").unwrap_or((row, ""));
         let answer = answer(alloc, client, call)?;
         if answer.as_str() != wanted {
-            return Ok(Text::from_string(format!(in alloc; "{call} => {}", answer.as_str())?));
+            return Ok(Text::from_string(format!(in alloc; "{call} => {}", answer.as_str())?)?);
         }
     }
     Ok(Text::new(alloc))
@@ -232,7 +232,7 @@ pub(crate) fn wrong_in(alloc: Global, app: &str, script: &str) -> Result<Text, F
 
 fn all_rows(alloc: Global, before: &str, row: &str, after: &str) -> Result<Text, Fail> {
     let (text, number) = row.split_once(" => ").unwrap_or((row, ""));
-    Ok(Text::from_string(format!(in alloc; "{before}\ntake {text} => sent {number}\n{after}")?))
+    Ok(Text::from_string(format!(in alloc; "{before}\ntake {text} => sent {number}\n{after}")?)?)
 }
 
 /// The same of a client that is broken by the text of the row.

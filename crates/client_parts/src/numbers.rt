@@ -10,7 +10,7 @@ use std::alloc::Global;
 pub fn id_of(alloc: Global, number: u32) -> Result<Text, Mem>
     ensures { IfOk result (λ id. id ≡ decimal number) }
 {
-    Ok(Text::from_string(format!(in alloc; "{number}")?))
+    Text::from_string(format!(in alloc; "{number}")?)
 }
 
 /// The text that a call's ids are drawn from: the session's name, a hyphen and the call's number.
@@ -18,7 +18,7 @@ pub fn seed_of(alloc: Global, session: &Text, number: u32) -> Result<Text, Mem>
     ensures { IfOk result (λ seed. seed ≡ session.now ++ codes "-" ++ decimal number) }
 {
     let name = session.as_str();
-    Ok(Text::from_string(format!(in alloc; "{name}-{number}")?))
+    Text::from_string(format!(in alloc; "{name}-{number}")?)
 }
 
 /// The number from 1 to `count` that the id is, if it is one.

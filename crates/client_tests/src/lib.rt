@@ -237,7 +237,7 @@ due 3 => "#;
     }
 
     fn number_text(alloc: Global, number: u8) -> Result<Text, Fail> {
-        Ok(Text::from_string(format!(in alloc; "{number}")?))
+        Ok(Text::from_string(format!(in alloc; "{number}")?)?)
     }
 
     fn taken(alloc: Global, view: &mut View, message: &DataMsg) -> Result<Text, Fail> {
@@ -299,7 +299,7 @@ due 3 => "#;
             let (call, wanted) = row.split_once(" => ").unwrap_or((row, ""));
             let answer = view_answer(alloc, view, call)?;
             if answer.as_str() != wanted {
-                return Ok(Text::from_string(format!(in alloc; "{call} => {}", answer.as_str())?));
+                return Ok(Text::from_string(format!(in alloc; "{call} => {}", answer.as_str())?)?);
             }
         }
         Ok(Text::new(alloc))
@@ -382,7 +382,7 @@ due 3 => "#;
             let (call, wanted) = row.split_once(" => ").unwrap_or((row, ""));
             let answer = originals_answer(alloc, originals, call)?;
             if answer.as_str() != wanted {
-                return Ok(Text::from_string(format!(in alloc; "{call} => {}", answer.as_str())?));
+                return Ok(Text::from_string(format!(in alloc; "{call} => {}", answer.as_str())?)?);
             }
         }
         Ok(Text::new(alloc))

@@ -1,7 +1,7 @@
 //! The program `ddp`: a reactive data server and its client, with the commands `check` and `replay`.
 #![tactic(auto)]
 
-use ejson_value::Text;
+use ejson_value::{Mem, Text};
 use io_edge::{StdSink, StdSource};
 use std::process::ExitCode;
 use std::rt::Env;
@@ -9,11 +9,19 @@ use std::{env, io};
 use usage::usage_text;
 use world_commands::{Status, run_plain};
 
+// The word, if there is memory for it.
+fn text_of(word: String) -> io::Result<Text> {
+    match Text::from_string(word) {
+        Ok(text) => Ok(text),
+        Err(Mem) => Err(io::Error::from(io::ErrorKind::OutOfMemory)),
+    }
+}
+
 // The words that the program was given.
 fn words(rt: &(impl Env + AllocGlobal)) -> io::Result<Vec<Text>> {
     let mut words = Vec::new(rt.alloc());
     for word in env::args(rt)?.skip(1) {
-        words.push(Text::from_string(word))?;
+        words.push(text_of(word)?)?;
     }
     Ok(words)
 }

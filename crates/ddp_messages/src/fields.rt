@@ -138,7 +138,7 @@ fn document(alloc: Global, tree: &Json) -> Result<Doc, FieldFault>
 fn digits(alloc: Global, integer: i64) -> Result<Text, Mem>
     ensures { IfOk result (λ t. t ≡ signed_decimal integer) }
 {
-    Ok(Text::from_string(format!(in alloc; "{integer}")?))
+    Text::from_string(format!(in alloc; "{integer}")?)
 }
 
 // The decimal text of a whole number.

@@ -157,6 +157,6 @@ impl FromClient {
         self.known();
         let mut out = TextWriter::new(alloc)?;
         self.put(alloc, &mut out)?;
-        Ok(out.finish())
+        out.finish()
     }
 }

@@ -185,7 +185,7 @@ impl FromServer {
         self.known();
         let mut out = TextWriter::new(alloc)?;
         self.put(alloc, &mut out)?;
-        Ok(out.finish())
+        out.finish()
     }
 }
 
@@ -227,7 +227,7 @@ pub fn data_text(alloc: Global, message: &DataMsg) -> Result<Text, Mem>
 {
     let mut out = TextWriter::new(alloc)?;
     put_data(alloc, &mut out, message)?;
-    Ok(out.finish())
+    out.finish()
 }
 
 /// The text of a `result`.
@@ -241,5 +241,5 @@ pub fn result_text(
 {
     let mut out = TextWriter::new(alloc)?;
     result_of(alloc, &mut out, id, error, value)?;
-    Ok(out.finish())
+    out.finish()
 }

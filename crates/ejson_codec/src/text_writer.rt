@@ -61,8 +61,8 @@ impl TextWriter {
     }
 
     /// The text of the tokens.
-    pub fn finish(self) -> Text
-        ensures { result ≡ print self }
+    pub fn finish(self) -> Result<Text, Mem>
+        ensures { IfOk result (λ text. text ≡ print self) }
     {
         Text::from_string(unsafe { String::from_utf8_unchecked(self.into_bytes()) })
     }

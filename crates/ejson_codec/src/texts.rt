@@ -64,5 +64,5 @@ pub fn text(alloc: Global, value: &Value) -> Result<Text, Mem>
     value.known();
     let mut out = TextWriter::new(alloc)?;
     put_value(alloc, &mut out, value)?;
-    Ok(out.finish())
+    out.finish()
 }

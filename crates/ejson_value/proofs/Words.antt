@@ -196,7 +196,7 @@ eight_are xs i l =
 bytes_behind : (i : ℕ) (xs : List ℕ) → AreBytes xs → AreBytes (drop i xs)
 bytes_behind i xs f k = subst (λ (x : ℕ). x < 256) (sym (get_or-drop i xs k 0)) (f (i + k))
 
-module _ (xs ys : List ℕ) (p : length xs ≡ 30) (q : length ys ≡ 30) (f : AreBytes xs) (g : AreBytes ys) where
+module _ (xs ys : List ℕ) (p : length xs ≡ 22) (q : length ys ≡ 22) (f : AreBytes xs) (g : AreBytes ys) where
   -- the order of what stands from place i on
   abbrev pub order_from : ℕ → Ordering
   order_from i = slice_cmp nat_cmp (drop i xs) (drop i ys)
@@ -204,45 +204,42 @@ module _ (xs ys : List ℕ) (p : length xs ≡ 30) (q : length ys ≡ 30) (f : A
   later : (i j : ℕ) → slice_cmp nat_cmp (drop j (drop i xs)) (drop j (drop i ys)) ≡ order_from (i + j)
   later i j k = slice_cmp nat_cmp (drop-drop j i xs k) (drop-drop j i ys k)
 
-  at_place : (i : ℕ) → i + 8 ≤ 30 → order_from i ≡ ordering_then (nat_cmp (word_at i xs) (word_at i ys)) (order_from (i + 8))
+  at_place : (i : ℕ) → i + 8 ≤ 22 → order_from i ≡ ordering_then (nat_cmp (word_at i xs) (word_at i ys)) (order_from (i + 8))
   at_place i l =
       spelt 8 0 0 (drop i xs) (drop i ys) (omega (arith, length-drop i xs)) (omega (arith, length-drop i ys)) (bytes_behind i xs f) (bytes_behind i ys g)
       ∙ ap (ordering_then (nat_cmp (word_at i xs) (word_at i ys))) (later i 8)
 
   -- words that differ tell the order
-  pub tells : (i x y : ℕ) → i + 8 ≤ 30 → x ≡ word_at i xs → y ≡ word_at i ys → (x ≡ y → ⊥) → nat_cmp x y ≡ order_from i
+  pub tells : (i x y : ℕ) → i + 8 ≤ 22 → x ≡ word_at i xs → y ≡ word_at i ys → (x ≡ y → ⊥) → nat_cmp x y ≡ order_from i
   tells i x y l a b h =
       ap₂ nat_cmp a b ∙ sym (at_place i l ∙ decided (word_at i xs) (word_at i ys) _ (order_from (i + 8)) refl (λ e. h (a ∙ e ∙ sym b)))
 
   -- where words are the same, j of their bytes can be left out
-  pub same_behind : (i j x y : ℕ) → i + 8 ≤ 30 → j ≤ 8 → x ≡ word_at i xs → y ≡ word_at i ys → x ≡ y → order_from (i + j) ≡ order_from i
+  pub same_behind : (i j x y : ℕ) → i + 8 ≤ 22 → j ≤ 8 → x ≡ word_at i xs → y ≡ word_at i ys → x ≡ y → order_from (i + j) ≡ order_from i
   same_behind i j x y l m a b e =
       let skip = skipped 8 j 0 0 (drop i xs) (drop i ys) m (omega (arith, length-drop i xs)) (omega (arith, length-drop i ys)) (bytes_behind i xs f) (bytes_behind i ys g) (sym a ∙ e ∙ b) in
       sym (skip.1 ∙ later i j)
 
   -- the last word tells the rest
-  pub last_tells : (x y : ℕ) → x ≡ word_at 22 xs → y ≡ word_at 22 ys → nat_cmp x y ≡ order_from 22
+  pub last_tells : (x y : ℕ) → x ≡ word_at 14 xs → y ≡ word_at 14 ys → nat_cmp x y ≡ order_from 14
   last_tells x y a b =
-      let over : order_from 30 ≡ Equal = λ k. slice_cmp nat_cmp (drop_of_length-le xs {i = 30} (omega arith) k) (drop_of_length-le ys {i = 30} (omega arith) k) in
-      ap₂ nat_cmp a b ∙ sym (at_place 22 (omega arith) ∙ ap (ordering_then (nat_cmp (word_at 22 xs) (word_at 22 ys))) over ∙ alone _)
+      let over : order_from 22 ≡ Equal = λ k. slice_cmp nat_cmp (drop_of_length-le xs {i = 22} (omega arith) k) (drop_of_length-le ys {i = 22} (omega arith) k) in
+      ap₂ nat_cmp a b ∙ sym (at_place 14 (omega arith) ∙ ap (ordering_then (nat_cmp (word_at 14 xs) (word_at 14 ys))) over ∙ alone _)
 
-  same_words : word_at 0 xs ≡ word_at 0 ys → word_at 8 xs ≡ word_at 8 ys → word_at 16 xs ≡ word_at 16 ys → word_at 22 xs ≡ word_at 22 ys → xs ≡ ys
-  same_words a b c d =
-      let all : order_from 22 ≡ order_from 0 = same_behind 16 6 _ _ (omega arith) (omega arith) refl refl c ∙ sym (same_behind 16 0 _ _ (omega arith) (omega arith) refl refl c)
-      ∙ same_behind 8 8 _ _ (omega arith) (omega arith) refl refl b ∙ same_behind 0 8 _ _ (omega arith) (omega arith) refl refl a in
-      exact_bytes xs ys (sym (alike (word_at 22 xs) (word_at 22 ys) _ refl d ∙ last_tells _ _ refl refl ∙ all))
+  same_words : word_at 0 xs ≡ word_at 0 ys → word_at 8 xs ≡ word_at 8 ys → word_at 14 xs ≡ word_at 14 ys → xs ≡ ys
+  same_words a b c =
+      let all : order_from 14 ≡ order_from 0 = same_behind 8 6 _ _ (omega arith) (omega arith) refl refl b ∙ same_behind 0 8 _ _ (omega arith) (omega arith) refl refl a in
+      exact_bytes xs ys (sym (alike (word_at 14 xs) (word_at 14 ys) _ refl c ∙ last_tells _ _ refl refl ∙ all))
 
   -- the first words are the same, and whether the others are decides
-  pub others_decide : (a b c d e h : ℕ) → a ≡ word_at 8 xs → b ≡ word_at 8 ys → c ≡ word_at 16 xs → d ≡ word_at 16 ys → e ≡ word_at 22 xs → h ≡ word_at 22 ys
-      → word_at 0 xs ≡ word_at 0 ys → Decides ((nat_eq a b && nat_eq c d) && nat_eq e h) (xs ≡ ys)
-  others_decide a b c d e h i j k l m n first = (
+  pub others_decide : (a b c d : ℕ) → a ≡ word_at 8 xs → b ≡ word_at 8 ys → c ≡ word_at 14 xs → d ≡ word_at 14 ys
+      → word_at 0 xs ≡ word_at 0 ys → Decides (nat_eq a b && nat_eq c d) (xs ≡ ys)
+  others_decide a b c d i j k l first = (
     λ t.
-        let last = and_parts (nat_eq a b && nat_eq c d) (nat_eq e h) t in
-        let two = and_parts (nat_eq a b) (nat_eq c d) last.0 in
-        same_words first (sym i ∙ eqb-true a b two.0 ∙ j) (sym k ∙ eqb-true c d two.1 ∙ l) (sym m ∙ eqb-true e h last.1 ∙ n),
+        let two = and_parts (nat_eq a b) (nat_eq c d) t in
+        same_words first (sym i ∙ eqb-true a b two.0 ∙ j) (sym k ∙ eqb-true c d two.1 ∙ l),
     λ z.
         let one = eq-eqb a b (i ∙ ap (word_at 8) z ∙ sym j) in
-        let two = eq-eqb c d (k ∙ ap (word_at 16) z ∙ sym l) in
-        let three = eq-eqb e h (m ∙ ap (word_at 22) z ∙ sym n) in
-        λ t. (one t && two t) && three t,
+        let two = eq-eqb c d (k ∙ ap (word_at 14) z ∙ sym l) in
+        λ t. one t && two t,
   )

@@ -14,10 +14,14 @@ use crate::memory::Mem;
 use std::alloc::Global;
 use std::cmp::Ordering;
 use std::marker::Model;
+use std::mem::size_of;
+use std::sync::Arc;
 use std::{fmt, str};
 
-// The most bytes that a text keeps inside itself; a longer one takes memory of the heap.
-const MAX_SHORT: usize = 30;
+// The most bytes that a text keeps inside itself; a longer one takes memory of the heap, which its copies share.
+const MAX_SHORT: usize = 22;
+
+const _: () = prove!(size_of::<Text>() == 24);
 
 /// A text of UTF-8. A contract sees it as its bytes, and texts go byte by byte.
 pub struct Text {
@@ -28,7 +32,7 @@ pub struct Text {
 #[derive(Drop)]
 enum Held {
     Short(Short),
-    Long(String),
+    Long(Arc<String>),
 }
 
 // A text of at most MAX_SHORT bytes. Behind them are zeros, so that words of all its bytes tell its order.
@@ -107,11 +111,7 @@ fn order_behind(left: &[u8; MAX_SHORT], right: &[u8; MAX_SHORT]) -> Ordering
     if one != two {
         return one.cmp(&two);
     }
-    let (one, two) = (word(left, 16), word(right, 16));
-    if one != two {
-        return one.cmp(&two);
-    }
-    word(left, 22).cmp(&word(right, 22))
+    word(left, 14).cmp(&word(right, 14))
 }
 
 // Whether all bytes are the same.
@@ -122,9 +122,7 @@ fn is_same(left: &[u8; MAX_SHORT], right: &[u8; MAX_SHORT]) -> bool
     if word(left, 0) != word(right, 0) {
         return false;
     }
-    (word(left, 8) == word(right, 8))
-        & (word(left, 16) == word(right, 16))
-        & (word(left, 22) == word(right, 22))
+    (word(left, 8) == word(right, 8)) & (word(left, 14) == word(right, 14))
 }
 
 impl Short {
@@ -219,8 +217,14 @@ impl Held {
     {
         match Short::of(text) {
             Some(short) => Ok(Held::Short(short)),
-            None => Ok(Held::Long(String::from_str(alloc, text)?)),
+            None => Held::long(alloc, String::from_str(alloc, text)?),
         }
+    }
+
+    fn long(alloc: Global, text: String) -> Result<Held, Mem>
+        ensures { IfOk result (λ held. held_bytes held ≡ string_bytes text) }
+    {
+        Ok(Held::Long(Arc::new(alloc, text)?))
     }
 
     fn as_str(&self) -> &str
@@ -238,13 +242,17 @@ impl Held {
     {
         match self {
             Held::Short(text) => {
-                if !text.try_push(more) {
-                    let both = joined(alloc, text.as_str(), more)?;
-                    *self = Held::Long(both);
+                if text.try_push(more) {
+                    return Ok(());
                 }
             }
-            Held::Long(text) => text.push_str(more)?,
+            Held::Long(text) => {
+                if let Some(own) = Arc::get_mut(text) {
+                    return Ok(own.push_str(more)?);
+                }
+            }
         }
+        *self = Held::long(alloc, joined(alloc, self.as_str(), more)?)?;
         Ok(())
     }
 
@@ -253,7 +261,7 @@ impl Held {
     {
         match self {
             Held::Short(text) => Ok(Held::Short(text.copy())),
-            Held::Long(text) => Ok(Held::Long(text.clone()?)),
+            Held::Long(text) => Ok(Held::Long(Arc::try_clone(text)?)),
         }
     }
 }
@@ -287,15 +295,15 @@ impl Text {
     }
 
     /// The text of a string: a copy of a short one, else the string itself.
-    pub fn from_string(inner: String) -> Text
-        ensures { result ≡ string_bytes inner }
+    pub fn from_string(inner: String) -> Result<Text, Mem>
+        ensures { IfOk result (λ t. t ≡ string_bytes inner) }
     {
         let alloc = *inner.allocator();
         let inner = match Short::of(inner.as_str()) {
             Some(short) => Held::Short(short),
-            None => Held::Long(inner),
+            None => Held::long(alloc, inner)?,
         };
-        Text { alloc, inner }
+        Ok(Text { alloc, inner })
     }
 
     /// The text as a string slice.
@@ -344,7 +352,7 @@ impl Text {
         self.inner.push_str(alloc, more)
     }
 
-    /// A text equal to this one.
+    /// A text equal to this one. A long one shares its memory with it.
     pub fn copy(&self) -> Result<Text, Mem>
         ensures { IfOk result (λ t. t ≡ self.now) }
     {

@@ -12,10 +12,7 @@ use Rattle.history_log.specs.Lines.{line_of}
 print_is : (v : Val) (first all : List Token) → first ≡ [] → all ≡ first ++ tree_tokens (written v) → print all ≡ line_of v
 print_is v first all none put = ap print (put ∙ ap (λ ts. ts ++ tree_tokens (written v)) none) ∙ print-outline (written v)
 
-pub line_printed : (v : Val) (first all : List Token) (line : List ℕ) → first ≡ [] → all ≡ first ++ tree_tokens (written v) → line ≡ print all → line ≡ line_of v
-line_printed v first all line none put printed = printed ∙ print_is v first all none put
-
--- the same of a text that there is unless memory is short
+-- the text that there is, unless memory is short, is the line of the value
 pub line_if_printed : {E : Type 0} (v : Val) (first all : List Token) (told : Result (List ℕ) E) → first ≡ [] → all ≡ first ++ tree_tokens (written v) → IfOk told (λ line. line ≡ print all)
     → IfOk told (λ line. line ≡ line_of v)
 line_if_printed v first all told none put printed = subst (λ text. IfOk told (λ line. line ≡ text)) (print_is v first all none put) printed

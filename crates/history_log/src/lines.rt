@@ -53,7 +53,7 @@ fn count_line(alloc: Global, word: &str, count: u64) -> Result<Text, Mem>
 {
     let mut out = TextWriter::new(alloc)?;
     put_count(&mut out, word, count)?;
-    Ok(out.finish())
+    out.finish()
 }
 
 /// The first line: a word, and how many entries there are.

@@ -283,7 +283,7 @@ history => ["history",1] | ["begin","S1",0,"e",[[[[[[[[[[[[[[[[[[[[[[[[[[[[[[[[]
     ) -> Result<Text, Fail> {
         match begun(machine, k, method, params, seed) {
             Ok(status) => status_told(alloc, &status),
-            Err(fault) => Ok(Text::from_string(format!(in alloc; "{fault}")?)),
+            Err(fault) => Ok(Text::from_string(format!(in alloc; "{fault}")?)?),
         }
     }
 
@@ -317,7 +317,7 @@ history => ["history",1] | ["begin","S1",0,"e",[[[[[[[[[[[[[[[[[[[[[[[[[[[[[[[[]
         match machine.admin(op) {
             Ok(()) => Ok(Text::from_str(alloc, "made")?),
             Err(AdminFault::Refused { code }) => {
-                Ok(Text::from_string(format!(in alloc; "refused {code}")?))
+                Ok(Text::from_string(format!(in alloc; "refused {code}")?)?)
             }
             Err(AdminFault::Memory) => Ok(Text::from_str(alloc, "memory")?),
         }
@@ -365,7 +365,7 @@ history => ["history",1] | ["begin","S1",0,"e",[[[[[[[[[[[[[[[[[[[[[[[[[[[[[[[[]
     }
 
     fn length(alloc: Global, machine: &Machine) -> Result<Text, Fail> {
-        Ok(Text::from_string(format!(in alloc; "{}", machine.length())?))
+        Ok(Text::from_string(format!(in alloc; "{}", machine.length())?)?)
     }
 
     fn look(alloc: Global, machine: &Machine, word: &str, rest: &str) -> Result<Text, Fail> {
@@ -396,7 +396,7 @@ history => ["history",1] | ["begin","S1",0,"e",[[[[[[[[[[[[[[[[[[[[[[[[[[[[[[[[]
             let (call, wanted) = row.split_once(" => ").unwrap_or((row, ""));
             let answer = answer(alloc, machine, call)?;
             if answer.as_str() != wanted {
-                return Ok(Text::from_string(format!(in alloc; "{call} => {}", answer.as_str())?));
+                return Ok(Text::from_string(format!(in alloc; "{call} => {}", answer.as_str())?)?);
             }
         }
         Ok(Text::new(alloc))

@@ -6,7 +6,7 @@ use std::alloc::Global;
 use std::test::Fail;
 
 fn number(alloc: Global, fault: EjsonFault) -> Result<Text, Mem> {
-    Ok(Text::from_string(format!(in alloc; "{}", fault as u8)?))
+    Text::from_string(format!(in alloc; "{}", fault as u8)?)
 }
 
 fn refusal(alloc: Global, fault: ParseFault) -> Result<Text, Mem> {
@@ -49,5 +49,5 @@ pub(crate) fn tree_answer(alloc: Global, input: &Text) -> Result<Text, Fail> {
 pub(crate) fn measures(alloc: Global, input: &Text) -> Result<Text, Fail> {
     let value = parse(alloc, input)?;
     let measures = format!(in alloc; "{} {}", size(&value), depth(&value))?;
-    Ok(Text::from_string(measures))
+    Ok(Text::from_string(measures)?)
 }

@@ -9,12 +9,12 @@ use std::alloc::Global;
 pub fn below(alloc: Global, place: &str, key: &str) -> Result<Text, Mem>
     ensures { IfOk result (λ t. t ≡ below place.now key.now) }
 {
-    Ok(Text::from_string(format!(in alloc; "{place}/{key}")?))
+    Text::from_string(format!(in alloc; "{place}/{key}")?)
 }
 
 /// The element with this number of the list at the place.
 pub fn element(alloc: Global, place: &str, number: usize) -> Result<Text, Mem>
     ensures { IfOk result (λ t. t ≡ element place.now number) }
 {
-    Ok(Text::from_string(format!(in alloc; "{place}/{number}")?))
+    Text::from_string(format!(in alloc; "{place}/{number}")?)
 }

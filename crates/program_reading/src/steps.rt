@@ -96,7 +96,7 @@ fn read_template(place: &Text, part: Option<&Value>) -> Result<Template, AppFaul
 fn decimal(alloc: Global, number: i64) -> Result<Text, Mem>
     ensures { IfOk result (λ t. t ≡ signed_decimal number) }
 {
-    Ok(Text::from_string(format!(in alloc; "{number}")?))
+    Text::from_string(format!(in alloc; "{number}")?)
 }
 
 fn read_code(alloc: Global, place: Text, part: Option<&Value>) -> Result<Text, AppFault>

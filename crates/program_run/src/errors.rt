@@ -22,7 +22,7 @@ fn error(alloc: Global, code: &str, reason: &str) -> Result<Fault, Mem>
 fn with_number(alloc: Global, words: &str, number: u32) -> Result<Text, Mem>
     ensures { IfOk result (λ text. text ≡ words.now ++ decimal number) }
 {
-    Ok(Text::from_string(format!(in alloc; "{words}{number}")?))
+    Text::from_string(format!(in alloc; "{words}{number}")?)
 }
 
 fn numbered(alloc: Global, code: &str, words: &str, number: u32) -> Result<Fault, Mem>

@@ -140,7 +140,7 @@ fn fault_name(fault: ModifierFault) -> &'static str {
 
 fn refusal(alloc: Global, fault: ApplyFault) -> Result<Text, Fail> {
     match fault.number() {
-        Some(number) => Ok(Text::from_string(format!(in alloc; "refused {number}")?)),
+        Some(number) => Ok(Text::from_string(format!(in alloc; "refused {number}")?)?),
         None => Ok(Text::from_str(alloc, "memory")?),
     }
 }

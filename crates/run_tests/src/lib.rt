@@ -250,7 +250,7 @@ contents => tasks/t1{"n":1}"#;
             let (call, wanted) = row.split_once(" => ").unwrap_or((row, ""));
             let told = told(alloc, app, has_rules, store, call)?;
             if told.as_str() != wanted {
-                return Ok(Text::from_string(format!(in alloc; "{call} => {}", told.as_str())?));
+                return Ok(Text::from_string(format!(in alloc; "{call} => {}", told.as_str())?)?);
             }
         }
         Ok(Text::new(alloc))

@@ -27,7 +27,7 @@ pub fn draw(alloc: Global, seed: &Text, collection: &Text, n: u32) -> Result<Tex
     for _ in 0..ID_LENGTH {
         id.push(letter(words.next_word()))?;
     }
-    Ok(Text::from_string(id))
+    Text::from_string(id)
 }
 
 fn key_bytes(seed: &Text, collection: &Text) -> [u8; 32]

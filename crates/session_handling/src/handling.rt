@@ -50,7 +50,7 @@ fn alone(alloc: Global, text: Text) -> Result<Texts, Mem>
 fn made_seed(alloc: Global, number: u32, k: u64) -> Result<Value, Mem>
     ensures { IfOk result (λ seed. view seed ≡ seed_or number k None) }
 {
-    Ok(Value::Text(Text::from_string(format!(in alloc; "S{number}-{k}-server")?)))
+    Ok(Value::Text(Text::from_string(format!(in alloc; "S{number}-{k}-server")?)?))
 }
 
 // The seed of the message, or one that is made.

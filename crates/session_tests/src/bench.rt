@@ -176,7 +176,7 @@ impl Bench {
     // A `sub` of this id is taken and handled.
     fn sub(&mut self, alloc: Global, id: u64) -> Result<&'static str, Fail> {
         let text = format!(in alloc; "{{\"id\":\"{id}\",\"msg\":\"sub\",\"name\":\"all\"}}")?;
-        let said = self.take(&Text::from_string(text))?;
+        let said = self.take(&Text::from_string(text)?)?;
         if !said.is_empty() {
             return Ok(said);
         }

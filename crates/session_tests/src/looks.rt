@@ -123,7 +123,7 @@ pub(crate) fn live_told(alloc: Global, session: &Session) -> Result<Text, Fail> 
 
 /// How many records there are, and what was met.
 pub(crate) fn limits_told(alloc: Global, session: &Session) -> Result<Text, Fail> {
-    let mut told = Text::from_string(format!(in alloc; "records {}", session.records())?);
+    let mut told = Text::from_string(format!(in alloc; "records {}", session.records())?)?;
     if session.failed() {
         told.push_str(" failed")?;
     }

@@ -34,7 +34,7 @@ fn text_of(alloc: Global, message: FromServer) -> Result<Text, Mem>
 pub fn session_name(alloc: Global, number: u32) -> Result<Text, Mem>
     ensures { IfOk result (λ name. name ≡ session_name number) }
 {
-    Ok(Text::from_string(format!(in alloc; "S{number}")?))
+    Text::from_string(format!(in alloc; "S{number}")?)
 }
 
 // The names of the one id.

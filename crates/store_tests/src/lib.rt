@@ -166,9 +166,9 @@ contents => "#;
         let code = fault.code().unwrap_or(0);
         match fault {
             OpFault::Modifier(number) => {
-                Ok(Text::from_string(format!(in alloc; "{code} {number}")?))
+                Ok(Text::from_string(format!(in alloc; "{code} {number}")?)?)
             }
-            _ => Ok(Text::from_string(format!(in alloc; "{code}")?)),
+            _ => Ok(Text::from_string(format!(in alloc; "{code}")?)?),
         }
     }
 
@@ -211,7 +211,7 @@ contents => "#;
             let (call, wanted) = row.split_once(" => ").unwrap_or((row, ""));
             let answer = answer(alloc, store, call)?;
             if answer.as_str() != wanted {
-                return Ok(Text::from_string(format!(in alloc; "{call} => {}", answer.as_str())?));
+                return Ok(Text::from_string(format!(in alloc; "{call} => {}", answer.as_str())?)?);
             }
         }
         Ok(Text::new(alloc))

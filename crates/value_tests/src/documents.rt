@@ -5,7 +5,7 @@ use std::alloc::Global;
 
 // Names of five bytes for the numbers from 1000 to 9999, so that they go by number.
 fn numbered(alloc: Global, number: i64) -> Result<Text, Mem> {
-    Ok(Text::from_string(format!(in alloc; "f{number}")?))
+    Text::from_string(format!(in alloc; "f{number}")?)
 }
 
 fn put_number(alloc: Global, fields: &mut Doc, number: i64, value: i64) -> Result<(), Mem> {

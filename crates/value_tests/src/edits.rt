@@ -24,17 +24,17 @@ fn texts_are_edited(alloc: Global) -> Result<bool, Mem> {
 }
 
 fn texts_are_copied(alloc: Global) -> Result<bool, Mem> {
-    let text = Text::from_string(String::from_str(alloc, "éb")?);
+    let text = Text::from_string(String::from_str(alloc, "éb")?)?;
     let copied = text.copy()?;
     let before = Text::from_str(alloc, "z")?;
     Ok(copied == text && before < text && copied.as_str() == "éb")
 }
 
-// Letters of 30 bytes, the 24th and 25th of them one letter.
-const LETTERS: &str = "abcdefghijklmnopqrstuvwéxyz.!";
+// Letters of 30 bytes, the 22nd and 23rd of them one letter.
+const LETTERS: &str = "abcdefghijklmnopqrstuévwxyz.!";
 
 fn is_like(alloc: Global, text: &Text, wanted: &str) -> Result<bool, Mem> {
-    let made = Text::from_string(String::from_str(alloc, wanted)?);
+    let made = Text::from_string(String::from_str(alloc, wanted)?)?;
     Ok(text.as_str() == wanted && made.copy()? == *text)
 }
 
@@ -56,16 +56,18 @@ fn texts_grow(alloc: Global) -> Result<bool, Mem> {
 }
 
 fn join(text: &mut Text) -> Result<(), Mem> {
-    for more in "vw éx yz.!".split(' ') {
+    for more in "tu év wxyz.!".split(' ') {
         text.push_str(more)?;
     }
     Ok(())
 }
 
 fn texts_are_joined(alloc: Global) -> Result<bool, Mem> {
-    let mut text = Text::from_str(alloc, "abcdefghijklmnopqrstu")?;
+    let mut text = Text::from_str(alloc, "abcdefghijklmnopqrs")?;
     join(&mut text)?;
-    is_like(alloc, &text, LETTERS)
+    let copied = text.copy()?;
+    text.push('z')?;
+    Ok(is_like(alloc, &copied, LETTERS)? && text.len() == 31)
 }
 
 fn bytes_are_edited(alloc: Global) -> Result<bool, Mem> {

@@ -28,7 +28,7 @@ fn line_of(input: &[u8], number: u32) -> &[u8] {
 // The first characters of the text, as many as a reason shows.
 fn cut(alloc: Global, shown: &Text) -> Result<Text, Mem> {
     let short: String = shown.as_str().chars().take(SHOWN).collect(alloc)?;
-    Ok(Text::from_string(short))
+    Text::from_string(short)
 }
 
 // The text in quotes on one line. It takes the text, so that no caller has to drop it.
@@ -52,7 +52,7 @@ fn quoted(alloc: Global, shown: &Text) -> Result<Text, Mem> {
 
 fn wrong_value(alloc: Global, fault: EjsonFault) -> Result<Text, Mem> {
     let what = format!(in alloc; "it is no EJSON value: {fault}")?;
-    Ok(Text::from_string(what))
+    Text::from_string(what)
 }
 
 fn wrong_part(alloc: Global, fault: &AppFault) -> Result<Text, Mem> {
@@ -61,12 +61,12 @@ fn wrong_part(alloc: Global, fault: &AppFault) -> Result<Text, Mem> {
     };
     if place.is_empty() {
         let what = format!(in alloc; "{fault}, at its top")?;
-        return Ok(Text::from_string(what));
+        return Text::from_string(what);
     }
     let place = quoted(alloc, place)?;
     let place = place.as_str();
     let what = format!(in alloc; "{fault}, at {place}")?;
-    Ok(Text::from_string(what))
+    Text::from_string(what)
 }
 
 fn wrong_application(alloc: Global, value: &Value) -> Result<Text, Mem> {
@@ -87,7 +87,7 @@ fn wrong_name(alloc: Global, name: &Text) -> Result<Text, Mem> {
     let name = quoted(alloc, name)?;
     let name = name.as_str();
     let what = format!(in alloc; "there is none named {name} with these parts")?;
-    Ok(Text::from_string(what))
+    Text::from_string(what)
 }
 
 fn wrong_event(alloc: Global, value: &Value) -> Result<Text, Mem> {
@@ -137,7 +137,7 @@ fn no_application(alloc: Global, input: &[u8]) -> Result<Text, Mem> {
     let what = wrong_line(alloc, line_of(input, 1), 1)?;
     let what = what.as_str();
     let reason = format!(in alloc; "line 1 is no application: {what}")?;
-    Ok(Text::from_string(reason))
+    Text::from_string(reason)
 }
 
 fn no_event(alloc: Global, input: &[u8], number: u32) -> Result<Text, Mem> {
@@ -146,14 +146,14 @@ fn no_event(alloc: Global, input: &[u8], number: u32) -> Result<Text, Mem> {
     let reason = format!(in alloc;
         "line {number} is no event: {what}; the lines before it were run"
     )?;
-    Ok(Text::from_string(reason))
+    Text::from_string(reason)
 }
 
 fn further_line(alloc: Global, number: u32) -> Result<Text, Mem> {
     let reason = format!(in alloc;
         "line {number} is one too many: the application stands on line 1 alone"
     )?;
-    Ok(Text::from_string(reason))
+    Text::from_string(reason)
 }
 
 /// Why the line of this number of a command's input, which isn't of the grammar, is none: a line of text.

@@ -1,4 +1,5 @@
 use Rattle.std.proofs.Common.{◌++◌, option_map, ap, ◌∙◌}
+use Rattle.std.proofs.lemmas.Result.{IfOk-weaker}
 use Rattle.json.specs.Print.{print}
 use Rattle.serde_json.proofs.Texts.{print-outline}
 use Rattle.ejson_value.specs.View.{view}
@@ -10,4 +11,5 @@ use Rattle.ddp_messages.proofs.from_server.result_text.Goals as goal
 pub returns : goal.returns
 returns c =
     let d = server_written (finished c.args.id.now c.args.error.now (option_map view c.args.value.now)) in
-    c.finish.ensures ∙ ap print (c.in_ok-result_of.ensures ∙ ap (λ old. old ++ tree_tokens d) c.in_ok-out.ensures) ∙ print-outline d
+    let all = ap print (c.in_ok-result_of.ensures ∙ ap (λ old. old ++ tree_tokens d) c.in_ok-out.ensures) ∙ print-outline d in
+    IfOk-weaker c.finish.result _ _ (λ text is. is ∙ all) c.finish.ensures

@@ -3,4 +3,4 @@ use Rattle.value_model.specs.Val.{text}
 use Rattle.session_handling.proofs.handling.made_seed.Goals as goal
 
 pub returns : goal.returns
-returns c = ap (λ (t : List ℕ). text t) (c.from_string.ensures ∙ simp append_assoc c.in_ok-format.ensures.ok)
+returns c = ap (λ (t : List ℕ). text t) (c.in_ok-from_string.ensures ∙ simp append_assoc c.in_ok-format.ensures.ok)

@@ -1,4 +1,5 @@
 use Rattle.std.proofs.Common.{◌++◌, ap, ◌∙◌}
+use Rattle.std.proofs.lemmas.Result.{IfOk-weaker}
 use Rattle.json.specs.Print.{print}
 use Rattle.serde_json.specs.Read as json
 use Rattle.serde_json.proofs.Texts.{print-outline}
@@ -24,10 +25,11 @@ returns-clause-keys c = client_rising (client_view c.args.self.now) c.known.ensu
 pub returns-clause-exact : goal.returns-clause-exact
 returns-clause-exact c =
     let d = client_written (client_view c.args.self.now) in
-    c.finish.ensures ∙ ap print (c.in_ok-put.ensures ∙ ap (λ old. old ++ tree_tokens d) c.in_ok-out.ensures) ∙ print-outline d
+    let all = ap print (c.in_ok-put.ensures ∙ ap (λ old. old ++ tree_tokens d) c.in_ok-out.ensures) ∙ print-outline d in
+    IfOk-weaker c.finish.result _ _ (λ text is. is ∙ all) c.finish.ensures
 
 pub returns-clause-reads_back : goal.returns-clause-reads_back
-returns-clause-reads_back c within =
+returns-clause-reads_back c =
     let m = client_view c.args.self.now in
-    let read = read-compact_text (client_written m) (client_exact m c.known.ensures) (client_rising m c.known.ensures) (client_depth m within) in
-    (client_written m, ap json.read (returns-clause-exact c) ∙ read, client_back m c.known.ensures within)
+    let read = read-compact_text (client_written m) (client_exact m c.known.ensures) (client_rising m c.known.ensures) in
+    IfOk-weaker c.finish.result _ _ (λ text is within. (client_written m, ap json.read is ∙ read (client_depth m within), client_back m c.known.ensures within)) (returns-clause-exact c)

@@ -1,4 +1,5 @@
 use Rattle.std.proofs.Common.{◌++◌, refl, ap, ◌∙◌}
+use Rattle.std.proofs.lemmas.Result.{IfOk-weaker}
 use Rattle.json.specs.Print.{print}
 use Rattle.serde_json.specs.Read as json
 use Rattle.serde_json.proofs.Texts.{print-outline}
@@ -24,10 +25,11 @@ returns-clause-keys c = server_rising (server_view c.args.self.now) c.known.ensu
 pub returns-clause-exact : goal.returns-clause-exact
 returns-clause-exact c =
     let d = server_written (server_view c.args.self.now) in
-    c.finish.ensures ∙ ap print (c.in_ok-put.ensures ∙ ap (λ old. old ++ tree_tokens d) c.in_ok-out.ensures) ∙ print-outline d
+    let all = ap print (c.in_ok-put.ensures ∙ ap (λ old. old ++ tree_tokens d) c.in_ok-out.ensures) ∙ print-outline d in
+    IfOk-weaker c.finish.result _ _ (λ text is. is ∙ all) c.finish.ensures
 
 pub returns-clause-reads_back : goal.returns-clause-reads_back
-returns-clause-reads_back c within =
+returns-clause-reads_back c =
     let m = server_view c.args.self.now in
-    let read = read-compact_text (server_written m) (server_exact m c.known.ensures) (server_rising m c.known.ensures) (server_depth m within) in
-    (server_written m, ap json.read (returns-clause-exact c) ∙ read, refl, server_back m c.known.ensures within)
+    let read = read-compact_text (server_written m) (server_exact m c.known.ensures) (server_rising m c.known.ensures) in
+    IfOk-weaker c.finish.result _ _ (λ text is within. (server_written m, ap json.read is ∙ read (server_depth m within), refl, server_back m c.known.ensures within)) (returns-clause-exact c)
