@@ -1,2 +1,2 @@
 mod Setting
-mod Replaced
+mod Changed

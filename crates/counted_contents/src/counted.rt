@@ -3,16 +3,15 @@ ghost use Rattle.std.specs.Prelude.{◌≡◌, [], false, is_some, Some, None, I
 ghost use Rattle.std.specs.Option.{option_copied};
 ghost use Rattle.map_model.specs.Maps.{at, set};
 ghost use Rattle.map_model.specs.Changes.{changed};
-ghost use Rattle.ejson_value.specs.View.{view};
 ghost use Rattle.ejson_value.specs.Key.{key_cmp};
-ghost use Rattle.ejson_value.specs.Fields.{field_at, with_field};
+ghost use Rattle.ejson_value.specs.Fields.{with_edit};
 ghost use Rattle.ejson_value.specs.Rows.{AreRows};
 ghost use Rattle.ejson_value.specs.Changes.{changes_of};
 ghost use Rattle.collection_store.specs.Limits.{bytes_of};
 ghost use Rattle.collection_store.specs.Answered.{AreFor};
 
-use crate::sums::{bytes_after, bytes_with, freed, size_if};
-use ejson_value::{Changes, Contents, Doc, Key, Mem, Text, Value, document_size, size};
+use crate::sums::{bytes_after, bytes_with, freed, has_room, most_more, size_if};
+use ejson_value::{Changes, Contents, Doc, Key, Mem, Text, document_size};
 use std::alloc::Global;
 use std::marker::Model;
 
@@ -88,21 +87,22 @@ impl CountedContents {
         Ok(())
     }
 
-    /// Puts a copy of the value in place of that of this field of the document at this key. It answers
-    /// whether there is such a field: where there is none nothing has changed, nor on an error. It costs
-    /// one look-up.
-    pub fn replace_field(&mut self, key: &Key, name: &Text, value: &Value) -> Result<bool, Mem>
-        ensures there { IfOk result (λ there. there ≡ is_some (field_at self.old key.now name.now)) }
-        ensures ok { OnOk result (self.new ≡ with_field self.old key.now name.now (view value.now)) }
+    /// Takes the named fields out of the document at this key, and then puts copies of the others in. It answers whether
+    /// there is such a document: where there is none nothing has changed, nor on an error. It costs one look-up.
+    pub fn change(&mut self, key: &Key, fields: &Doc, cleared: &[Text]) -> Result<bool, Mem>
+        ensures there { IfOk result (λ there. there ≡ is_some (at key_cmp self.old key.now)) }
+        ensures ok { OnOk result (self.new ≡ with_edit self.old key.now fields.now cleared.now) }
         ensures absent { IfOk result (λ there. there ≡ false → self.new ≡ self.old) }
         ensures err { OnErr result (self.new ≡ self.old) }
     {
         self.contents.known();
-        let both = bytes_with(self.bytes, size(value))?;
-        match self.contents.replace_field(key, name, value)? {
+        if !has_room(self.bytes, most_more(fields)) {
+            return Err(Mem);
+        }
+        match self.contents.change(key, fields, cleared)? {
             None => Ok(false),
-            Some(there) => {
-                self.bytes = both - there;
+            Some((before, after)) => {
+                self.bytes = self.bytes - before + after;
                 Ok(true)
             }
         }

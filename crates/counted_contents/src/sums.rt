@@ -1,8 +1,9 @@
 //! Sums of the bytes of documents.
-ghost use Rattle.std.specs.Prelude.{◌≡◌, ◌+◌, ◌-◌, ◌^◌, ◌<◌, IfOk};
+ghost use Rattle.std.specs.Prelude.{◌≡◌, ◌+◌, ◌-◌, ◌^◌, ◌<◌, IfOk, IsTrue};
 ghost use Rattle.std.specs.Option.{option_copied};
+ghost use Rattle.value_model.specs.Size.{size, escape_wrapper};
 ghost use Rattle.ejson_value.specs.Measure.{capped};
-ghost use Rattle.collection_store.specs.Limits.{size_if, old_bytes, new_bytes, bytes_of};
+ghost use Rattle.collection_store.specs.Limits.{document, size_if, old_bytes, new_bytes, bytes_of};
 
 use ejson_value::{Changes, Contents, Doc, Mem, document_size};
 
@@ -51,6 +52,20 @@ pub(crate) fn bytes_with(bytes: u64, new: u64) -> Result<u64, Mem>
         return Err(Mem);
     }
     bytes.checked_add(new).ok_or(Mem)
+}
+
+/// The most bytes by which a document grows into which these fields are put, 2^64 - 1 where they are more.
+pub(crate) fn most_more(fields: &Doc) -> u64
+    ensures { result ≡ capped (size (document fields.now) + escape_wrapper) }
+{
+    document_size(fields).saturating_add(12)
+}
+
+/// Whether so many bytes may come to these, all of which are fewer than 2^64 - 1 then.
+pub(crate) fn has_room(bytes: u64, new: u64) -> bool
+    ensures { IsTrue result → bytes + new < 2 ^ 64 - 1 }
+{
+    new < u64::MAX - bytes
 }
 
 // This many bytes, less those of documents that go, and with those of documents that come. Documents

@@ -44,7 +44,8 @@ fn tell_document(
     ensures shorter { OnOk result (length reader.new < length reader.old) }
 {
     match next_value(alloc, reader)? {
-        Value::Object(doc) => {
+        Value::Object(mut doc) => {
+            doc.count();
             *place = Some(doc);
             Ok(())
         }

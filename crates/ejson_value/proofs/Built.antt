@@ -2,7 +2,7 @@
 use Rattle.std.proofs.Common.{◌≡◌, ◌==◌, true, length, List, ◌∷◌, [], ◌++◌, Result, Ok, Err, refl, subst, sym, arith}
 use Rattle.std.proofs.lemmas.Bool.Decides.{nat_tests}
 use Rattle.std.specs.Prelude.{OnOk, OnErr}
-use Rattle.value_model.specs.Val.{Val, Entries, vals_of}
+use Rattle.value_model.specs.Val.{Val, vals_of}
 use Rattle.value_model.specs.Valid.{AreValues, IsValue}
 use Rattle.value_model.specs.ValidLaws.{AreValues-append}
 use Rattle.ejson_value.specs.declared.value.Value.{Value}
@@ -18,6 +18,6 @@ pub no_values : (vs : List Value) → (length vs == 0) ≡ true → [] ≡ views
 no_values [] e = refl
 no_values (v ∷ vs) e = grind (arith, nat_tests, e)
 
-pub no_fields : (es : Entries) → (length es == 0) ≡ true → [] ≡ es
+pub no_fields : {X : Type 0} (es : List X) → (length es == 0) ≡ true → [] ≡ es
 no_fields [] e = refl
 no_fields (e ∷ es) is = grind (arith, nat_tests, is)

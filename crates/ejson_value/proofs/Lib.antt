@@ -6,6 +6,7 @@ pub mod Branching
 pub mod Ranges
 pub mod Places
 pub mod Moves
-pub mod Replacing
+pub mod Edits
+pub mod Puts
 pub mod Sizes
 pub mod Built

@@ -5,11 +5,12 @@ use Rattle.std.specs.List.{AllByRecursion, AllAdjacentBelow}
 use Rattle.std.proofs.lemmas.List.{get_or-map, length-map}
 use Rattle.std.proofs.lemmas.Map.Keys.{IsDistinct-from_sorted, IsDistinct-head, IsDistinct-tail, sorted_from_all_adjacent}
 use Rattle.std.specs.Option.{option_or}
+use Rattle.std.specs.declared.cmp.Ordering.{Ordering}
 use Rattle.std.specs.Ordering.{eq_by_cmp, is_lt}
 use Rattle.std.proofs.lemmas.Cmp.{eq_by_cmp_equiv}
 use Rattle.std.proofs.Math.Seq.{drop-cons}
 use Rattle.std.specs.BTreeMap.{insert_entry}
-use Rattle.map_model.specs.Maps.{at, set, IsSorted}
+use Rattle.map_model.specs.Maps.{at, set, IsSorted, IsKeyOrder}
 use Rattle.map_model.specs.MapLaws.{at-put, at-set, at-tail, sorted-put, sorted-set, same_maps, key_is, eq_by_cmp-self}
 use Rattle.map_model.specs.Changes.{last_at, changed}
 use Rattle.map_model.specs.ChangeLaws.{at-changed, sorted-changed}
@@ -26,19 +27,24 @@ use Rattle.std.specs.Prelude.{Result, Ok, IfOk}
 use Rattle.ejson_value.proofs.Places.{lt_of}
 use Rattle.std.proofs.lemmas.List.Elements.{All-head, All-tail}
 
+-- a map that has a value in place of another is that with it put
+pub written_by : {K X : Type 0} {R : K → K → Ordering} → IsKeyOrder R → (old new : List (K × X)) (key : K) (v : X) → IsSorted R old → IsSorted R new
+    → ((q : K) → at R new q ≡ cond (eq_by_cmp R key q) (Some v) (at R old q)) → new ≡ insert_entry R old key v
+written_by {R = R} o old new key v s t is =
+    same_maps o new (insert_entry R old key v) t (sorted-put o old key v s)
+    (λ q. is q ∙ (ap (λ b. cond b (Some v) (at R old q)) ((eq_by_cmp_equiv o.total).symm key q) ∙ sym (at-put o old key v q)))
+
 -- contents that have a document in place of another are those with it put
 pub written : (old new : Rows) (key : Key) (doc : Entries) → IsSorted key_cmp old → IsSorted key_cmp new
     → ((q : Key) → at key_cmp new q ≡ cond (eq_by_cmp key_cmp key q) (Some doc) (at key_cmp old q)) → new ≡ insert_entry key_cmp old key doc
-written old new key doc s t is =
-    same_maps key_order new (insert_entry key_cmp old key doc) t (sorted-put key_order old key doc s)
-    (λ q. is q ∙ (ap (λ b. cond b (Some doc) (at key_cmp old q)) ((eq_by_cmp_equiv key_total).symm key q) ∙ sym (at-put key_order old key doc q)))
+written old new key doc s t is = written_by key_order old new key doc s t is
 
 -- what is left to do of the changes from the i-th on, by the i-th
 pub next_change : (cs : List Change) (i : ℕ) (c : Change) → c ≡ get_or cs i c → i < length cs → drop i cs ≡ c ∷ drop (i + 1) cs
 next_change cs i c is h = rw (add-one, drop-cons cs i c) (ap (λ d. d ∷ drop (suc i) cs) (sym is))
 
 -- where there is nothing, there is no document
-pub nothing : (found : Option Entries) → None ≡ found → IsSome found → ⊥
+pub nothing : {X : Type 0} (found : Option X) → None ≡ found → IsSome found → ⊥
 nothing None e there = cc
 nothing (Some doc) e there = cc
 

@@ -1,20 +1,26 @@
--- Fields of documents in contents.
-use Rattle.std.specs.Prelude.{ℕ, List, Option, option_map, option_and_then, is_some, if◌then◌else◌}
+-- Documents that are changed by several fields at once, alone and in contents.
+use Rattle.std.specs.Prelude.{ℕ, List, option_map}
 use Rattle.map_model.specs.Maps.{at, set}
-use Rattle.value_model.specs.Val.{Val, Entries}
-use Rattle.value_model.specs.Doc.{get, put}
+use Rattle.map_model.specs.Differences.{with_fields, without}
+use Rattle.value_model.specs.Val.{Entries, object, fields_of}
+use Rattle.value_model.specs.Size.{size}
+use Rattle.value_model.specs.Order.{text_cmp}
 use Rattle.ejson_value.specs.declared.key.Key.{Key}
 use Rattle.ejson_value.specs.Key.{key_cmp}
+use Rattle.ejson_value.specs.Measure.{capped}
 use Rattle.ejson_value.specs.Rows.{Rows}
 
--- the document with this value as that field, where it has such a field
-abbrev pub replaced : Entries → List ℕ → Val → Entries
-replaced doc name v = if is_some (get doc name) then put doc name v else doc
+-- the document without the cleared names, and then with these fields
+abbrev pub edited : Entries → Entries → List (List ℕ) → Entries
+edited doc fields cleared = with_fields text_cmp (without text_cmp doc cleared) fields
 
--- the field of the document at the key
-abbrev pub field_at : Rows → Key → List ℕ → Option Val
-field_at rows key name = option_and_then (λ doc. get doc name) (at key_cmp rows key)
+abbrev pub bytes_in : Entries → ℕ
+bytes_in doc = capped (size (object (fields_of doc)))
 
--- the rows with this value as that field of the document at the key, where there is such a field
-abbrev pub with_field : Rows → Key → List ℕ → Val → Rows
-with_field rows key name v = set key_cmp rows key (option_map (λ doc. replaced doc name v) (at key_cmp rows key))
+-- how many bytes the document has, and how many once it is changed so
+abbrev pub bytes_edited : Entries → List (List ℕ) → Entries → ℕ × ℕ
+bytes_edited fields cleared doc = (bytes_in doc, bytes_in (edited doc fields cleared))
+
+-- the rows with the document at the key changed so, where there is one
+abbrev pub with_edit : Rows → Key → Entries → List (List ℕ) → Rows
+with_edit rows key fields cleared = set key_cmp rows key (option_map (λ doc. edited doc fields cleared) (at key_cmp rows key))

@@ -3,20 +3,15 @@ ghost use Rattle.std.specs.Prelude.{◌≡◌, ◌==◌, ◌++◌, ◌∷◌, []
 ghost use Rattle.std.specs.Option.{option_copied};
 ghost use Rattle.std.specs.Map.{keys_of};
 ghost use Rattle.map_model.specs.Maps.{at, set, IsSorted};
-ghost use Rattle.value_model.specs.Doc.{get};
-ghost use Rattle.value_model.specs.Size.{size};
-ghost use Rattle.ejson_value.specs.View.{view};
-ghost use Rattle.ejson_value.specs.Measure.{capped};
 ghost use Rattle.ejson_value.specs.Key.{key_cmp};
-ghost use Rattle.ejson_value.specs.Fields.{replaced, field_at, with_field};
+ghost use Rattle.ejson_value.specs.Fields.{edited, bytes_edited, with_edit};
 ghost use Rattle.ejson_value.specs.Rows.{Rows, AreRows, rows_of};
 
-use crate::copying::copy;
 use crate::key::Key;
-use crate::measure::size;
+use crate::measure::document_size;
 use crate::memory::Mem;
 use crate::text::Text;
-use crate::value::{Doc, Value};
+use crate::value::Doc;
 use std::alloc::Global;
 use std::collections::BTreeMap;
 use std::collections::btree_map::{Entry, Iter, Range};
@@ -66,20 +61,15 @@ fn key_behind(collection: &Text) -> Result<Key, Mem>
     })
 }
 
-// Puts a copy of the value in place of that of this field, if there is such a field. It answers how
-// many bytes the one that was there has.
-fn replace_in(doc: &mut Doc, name: &Text, value: &Value) -> Result<Option<u64>, Mem>
-    ensures there { IfOk result (λ there. there ≡ option_map (λ v. capped (size v)) (get doc.old name.now)) }
-    ensures ok { OnOk result (doc.new ≡ replaced doc.old name.now (view value.now)) }
+// Changes the document, and answers how many bytes it had and how many it has.
+fn change_in(doc: &mut Doc, fields: &Doc, cleared: &[Text]) -> Result<Option<(u64, u64)>, Mem>
+    ensures bytes { IfOk result (λ bytes. bytes ≡ Some (bytes_edited fields.now cleared.now doc.old)) }
+    ensures ok { OnOk result (doc.new ≡ edited doc.old fields.now cleared.now) }
     ensures err { OnErr result (doc.new ≡ doc.old) }
 {
-    let there = match doc.get(name) {
-        None => return Ok(None),
-        Some(there) => size(there),
-    };
-    let name = name.copy()?;
-    doc.put(name, copy(value)?)?;
-    Ok(Some(there))
+    let before = document_size(doc);
+    doc.change(fields, cleared)?;
+    Ok(Some((before, document_size(doc))))
 }
 
 impl Contents {
@@ -159,25 +149,25 @@ impl Contents {
         }
     }
 
-    /// Puts a copy of the value in place of that of this field of the document at this key, and answers
-    /// how many bytes the one that was there has, 2^64 - 1 where it has more. Where there is no such
-    /// document or it has no such field it answers None, and nothing has changed.
-    pub fn replace_field(
+    /// Takes the named fields out of the document at this key, and then puts copies of the others in. It answers how many
+    /// bytes the document had and how many it has, 2^64 - 1 where they are more. Where there is no such document it answers
+    /// None. On an error nothing has changed.
+    pub fn change(
         &mut self,
         key: &Key,
-        name: &Text,
-        value: &Value,
-    ) -> Result<Option<u64>, Mem>
-        ensures there { IfOk result (λ there. there ≡ option_map (λ v. capped (size v)) (field_at self.old key.now name.now)) }
-        ensures ok { OnOk result (self.new ≡ with_field self.old key.now name.now (view value.now)) }
+        fields: &Doc,
+        cleared: &[Text],
+    ) -> Result<Option<(u64, u64)>, Mem>
+        ensures bytes { IfOk result (λ bytes. bytes ≡ option_map (bytes_edited fields.now cleared.now) (at key_cmp self.old key.now)) }
+        ensures ok { OnOk result (self.new ≡ with_edit self.old key.now fields.now cleared.now) }
         ensures err { OnErr result (self.new ≡ self.old) }
     {
         match self.docs.get_mut(key) {
             None => Ok(None),
             Some(doc) => {
-                let there = replace_in(doc, name, value);
+                let bytes = change_in(doc, fields, cleared);
                 doc.known();
-                there
+                bytes
             }
         }
     }

@@ -7,6 +7,7 @@ mod bytes;
 mod change;
 mod contents;
 mod copying;
+mod editing;
 mod fault;
 mod key;
 mod list;

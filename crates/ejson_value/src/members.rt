@@ -1,13 +1,15 @@
 //! The fields of a document, in a row or a table, with how many bytes they have.
-ghost use Rattle.std.specs.Prelude.{◌≡◌, ◌==◌, ◌+◌, ◌-◌, ◌≤◌, ◌<◌, ◌^◌, [], length, Some, option_map, IfOk, OnOk, OnErr};
+ghost use Rattle.std.specs.Prelude.{◌≡◌, ◌==◌, ◌+◌, ◌-◌, ◌≤◌, ◌<◌, ◌^◌, [], true, false, length, Some, IsSome, is_some, option_map, IfOk, OnOk, OnErr};
+ghost use Rattle.std.specs.List.{list_all};
 ghost use Rattle.std.specs.List.Sorted.{IsStrictlySortedBy};
 ghost use Rattle.std.specs.Map.{keys_of};
+ghost use Rattle.map_model.specs.Differences.{with_fields};
 ghost use Rattle.value_model.specs.Val.{fields_of};
 ghost use Rattle.value_model.specs.Valid.{IsDocument};
 ghost use Rattle.value_model.specs.Order.{text_cmp};
 ghost use Rattle.value_model.specs.Doc.{get, put, remove};
 ghost use Rattle.value_model.specs.Size.{text_size, size, fields_size};
-ghost use Rattle.ejson_value.specs.View.{view, entries, held_fields};
+ghost use Rattle.ejson_value.specs.View.{view, pairs, entries, held_fields};
 ghost use Rattle.ejson_value.specs.Measure.{capped};
 
 use crate::measure::{field_size, size, with_name};
@@ -193,6 +195,18 @@ impl Members {
         }
     }
 
+    // Puts the field in place of that of the same name, which is there, and hands out its value.
+    fn replace(&mut self, member: Member) -> Value
+        requires { IsSome (get (held_fields self.old) member.name) }
+        ensures value { Some (view result) ≡ get (held_fields self.old) member.name }
+        ensures put { held_fields self.new ≡ put (held_fields self.old) member.name (view member.value) }
+    {
+        match self {
+            Members::Few(row) => row.replace(member),
+            Members::Many(table) => table.replace(member),
+        }
+    }
+
     fn remove(&mut self, name: &Text) -> Option<Value>
         ensures value { option_map view result ≡ get (held_fields self.old) name.now }
         ensures removed { held_fields self.new ≡ remove (held_fields self.old) name.now }
@@ -315,6 +329,13 @@ impl Measured {
         }
     }
 
+    // Counts the fields, where that isn't known.
+    pub(crate) fn count(&mut self)
+        ensures { self.new ≡ self.old }
+    {
+        self.bytes = self.bytes();
+    }
+
     // Whether it is known how many bytes the fields have.
     pub(crate) fn is_counted(&self) -> bool {
         self.bytes != UNKNOWN
@@ -348,6 +369,49 @@ impl Measured {
                 Ok(())
             }
         }
+    }
+
+    // Puts the field in place of that of the same name, which is there.
+    fn replace(&mut self, member: Member)
+        requires { IsSome (get self.old member.name) }
+        ensures { self.new ≡ put self.old member.name (view member.value) }
+    {
+        if self.bytes == UNKNOWN {
+            drop(self.members.replace(member));
+            return;
+        }
+        self.members.known();
+        let come = size(&member.value);
+        let there = self.members.replace(member);
+        self.bytes = bytes_after(self.bytes, gone(there), come);
+    }
+
+    // Whether there is a field of this name.
+    fn has(&self, name: &Text) -> bool
+        ensures { result ≡ is_some (get self.now name.now) }
+    {
+        self.get(name).is_some()
+    }
+
+    // Whether there are fields of all these names.
+    fn has_all(&self, members: &[Member]) -> bool
+        ensures { result ≡ list_all (λ m. is_some (get self.now m.name)) members.now }
+    {
+        members.iter().all(|member| self.has(&member.name))
+    }
+
+    // Puts the fields in place of those of the same names, where there are such ones of all, and says whether it did.
+    pub(crate) fn replace_all(&mut self, mut members: Vec<Member>) -> bool
+        ensures put { result ≡ true → self.new ≡ with_fields text_cmp self.old (entries (pairs members.items)) }
+        ensures other { result ≡ false → self.new ≡ self.old }
+    {
+        if !self.has_all(members.as_slice()) {
+            return false;
+        }
+        while let Some(member) = members.pop() {
+            self.replace(member);
+        }
+        true
     }
 
     pub(crate) fn remove(&mut self, name: &Text) -> Option<Value>

@@ -1,5 +1,5 @@
 //! The fields of a document in a row by rising name. An edit moves those behind its place, so a row has few.
-ghost use Rattle.std.specs.Prelude.{◌≡◌, ◌+◌, ◌++◌, ◌≤◌, ◌<◌, ◌∷◌, [], length, Some, option_map, vec_len, vec_capacity, IfOk, IfErr, OnOk, OnErr, IsTrue};
+ghost use Rattle.std.specs.Prelude.{◌≡◌, ◌+◌, ◌++◌, ◌≤◌, ◌<◌, ◌∷◌, [], length, Some, IsSome, option_map, vec_len, vec_capacity, IfOk, IfErr, OnOk, OnErr, IsTrue};
 ghost use Rattle.std.specs.List.{remove as remove_item};
 ghost use Rattle.std.specs.List.Sorted.{IsStrictlySortedBy, IsSearchInRange};
 ghost use Rattle.map_model.specs.Orders.{IsAbove};
@@ -183,6 +183,22 @@ impl Row {
         value
     }
 
+    // Puts the field in place of that of the same name, which is there, and hands out its value.
+    pub(crate) fn replace(&mut self, member: Member) -> Value
+        requires { IsSome (get self.old member.name) }
+        ensures value { Some (view result) ≡ get self.old member.name }
+        ensures put { self.new ≡ put self.old member.name (view member.value) }
+    {
+        match self.place(&member.name) {
+            Ok(place) => self.write_at(place, member),
+            Err(_) => {
+                let Member { name, value } = member;
+                drop(name);
+                value
+            }
+        }
+    }
+
     // Puts a new field at the gap for it.
     fn insert_at(&mut self, place: usize, member: Member) -> Result<(), Mem>
         requires { IsGapFor self.old member.name place }
@@ -241,14 +257,15 @@ impl Row {
     }
 }
 
-fn copy_of(member: &Member) -> Result<Member, Mem>
-    ensures name { IfOk result (λ copy. copy.name ≡ member.now.name) }
-    ensures value { IfOk result (λ copy. view copy.value ≡ view member.now.value) }
+// A copy of the field.
+pub(crate) fn copy_of(name: &Text, value: &Value) -> Result<Member, Mem>
+    ensures name { IfOk result (λ copy. copy.name ≡ name.now) }
+    ensures value { IfOk result (λ copy. view copy.value ≡ view value.now) }
 {
-    let name = member.name.copy()?;
+    let name = name.copy()?;
     Ok(Member {
         name,
-        value: copy(&member.value)?,
+        value: copy(value)?,
     })
 }
 
@@ -257,7 +274,7 @@ fn put_copies(copies: &mut Vec<Member>, members: &[Member]) -> Result<(), Mem>
     ensures { OnOk result (entries (pairs copies.new.items) ≡ entries (pairs copies.old.items) ++ entries (pairs members.now)) }
 {
     for member in members {
-        copies.push(copy_of(member)?)?;
+        copies.push(copy_of(&member.name, &member.value)?)?;
     }
     Ok(())
 }

@@ -1,5 +1,5 @@
 //! The fields of a document in a map by name: an edit takes the logarithm of their number.
-ghost use Rattle.std.specs.Prelude.{◌≡◌, [], length, option_map, IfOk, OnOk, OnErr};
+ghost use Rattle.std.specs.Prelude.{◌≡◌, [], length, Some, IsSome, option_map, IfOk, OnOk, OnErr};
 ghost use Rattle.std.specs.List.Sorted.{IsStrictlySortedBy};
 ghost use Rattle.std.specs.Map.{keys_of};
 ghost use Rattle.value_model.specs.Order.{text_cmp};
@@ -9,13 +9,14 @@ ghost use Rattle.ejson_value.specs.View.{view, entries};
 
 use crate::copying::copy;
 use crate::memory::Mem;
-use crate::row::Row;
+use crate::row::{Member, Row};
 use crate::text::Text;
 use crate::value::Value;
 use std::collections::BTreeMap;
 use std::collections::btree_map::Iter;
 use std::default::Emptied;
 use std::marker::Model;
+use std::mem;
 
 // Fields by name. A contract sees their pairs by rising name.
 #[derive(Drop)]
@@ -121,6 +122,20 @@ impl Table {
     {
         value.known();
         Ok(self.fields.insert(name, value)?)
+    }
+
+    // Puts the field in place of that of the same name, which is there, and hands out its value.
+    pub(crate) fn replace(&mut self, member: Member) -> Value
+        requires { IsSome (get self.old member.name) }
+        ensures value { Some (view result) ≡ get self.old member.name }
+        ensures put { self.new ≡ put self.old member.name (view member.value) }
+    {
+        let Member { name, value } = member;
+        value.known();
+        match self.fields.get_mut(&name) {
+            Some(place) => mem::replace(place, value),
+            None => value,
+        }
     }
 
     // Takes the field of this name out.

@@ -1,20 +1,22 @@
 //! Values, lists of values and documents.
-ghost use Rattle.std.specs.Prelude.{◌≡◌, ◌∷◌, ◌++◌, ◌==◌, ◌<◌, ◌↔◌, [], length, map, Some, IsSome, IfSome, option_map, slice_get, slice_set, IfOk, OnOk, OnErr};
+ghost use Rattle.std.specs.Prelude.{◌≡◌, ◌∷◌, ◌++◌, ◌==◌, ◌<◌, ◌↔◌, [], true, false, length, map, Some, IsSome, IfSome, option_map, slice_get, slice_set, IfOk, OnOk, OnErr};
 ghost use Rattle.std.specs.List.{remove as remove_item};
 ghost use Rattle.std.specs.List.Sorted.{IsStrictlySortedBy};
 ghost use Rattle.std.specs.Map.{keys_of};
+ghost use Rattle.map_model.specs.Differences.{with_fields};
 ghost use Rattle.value_model.specs.Val.{vals_of, fields_of};
 ghost use Rattle.value_model.specs.Valid.{IsValue, AreValues, IsDocument};
 ghost use Rattle.value_model.specs.Order.{text_cmp};
 ghost use Rattle.value_model.specs.Doc.{get, put, remove};
 ghost use Rattle.value_model.specs.Size.{fields_size};
-ghost use Rattle.ejson_value.specs.View.{view, views, entries};
+ghost use Rattle.ejson_value.specs.View.{view, views, pairs, entries};
 ghost use Rattle.ejson_value.specs.Measure.{capped};
 
 use crate::bytes::Bytes;
 use crate::copying::copy;
 use crate::members::{Fields, Measured};
 use crate::memory::Mem;
+use crate::row::{Member, copy_of};
 use crate::text::Text;
 use crate::user::BoxedName;
 use crate::whole::Whole;
@@ -510,6 +512,33 @@ impl Doc {
         self.hold(fields)
     }
 
+    // Puts the fields in place of those of the same names, where it has such ones of all in memory of its own, and says
+    // whether it did. It takes no memory.
+    pub(crate) fn replace_all(&mut self, members: Vec<Member>) -> bool
+        ensures put { result ≡ true → self.new ≡ with_fields text_cmp self.old (entries (pairs members.items)) }
+        ensures other { result ≡ false → self.new ≡ self.old }
+    {
+        if let Some(fields) = &mut self.fields {
+            if let Some(own) = Arc::get_mut(fields) {
+                let put = own.replace_all(members);
+                own.known();
+                return put;
+            }
+        }
+        false
+    }
+
+    // Copies of its fields, by rising name.
+    pub(crate) fn members(&self) -> Result<Vec<Member>, Mem>
+        ensures { IfOk result (λ members. entries (pairs members.items) ≡ self.now) }
+    {
+        let mut members = Vec::with_capacity(self.alloc, self.len())?;
+        for (name, value) in self.iter() {
+            members.push(copy_of(name, value)?)?;
+        }
+        Ok(members)
+    }
+
     /// Takes the field of this name out.
     pub fn remove(&mut self, name: &Text) -> Result<Option<Value>, Mem>
         ensures value { IfOk result (λ value. option_map view value ≡ get self.old name.now) }
@@ -538,6 +567,18 @@ impl Doc {
             None => Ok(Doc::new(self.alloc)),
             Some(fields) if fields.is_counted() => self.copy(),
             Some(fields) => Doc::of(self.alloc, fields.copies(0)?),
+        }
+    }
+
+    /// Counts its bytes for those who ask, where its memory is its own.
+    pub fn count(&mut self)
+        ensures { self.new ≡ self.old }
+    {
+        if let Some(fields) = &mut self.fields {
+            if let Some(own) = Arc::get_mut(fields) {
+                own.count();
+                own.known();
+            }
         }
     }
 

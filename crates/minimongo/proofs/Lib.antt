@@ -1,3 +1,3 @@
 mod Found
 mod States
-mod OneField
+mod InPlace

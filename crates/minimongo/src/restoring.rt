@@ -13,7 +13,7 @@ ghost use Rattle.minimongo.specs.Restored.{saves_at, restored};
 use crate::fault::ViewFault;
 use counted_contents::CountedContents;
 use ejson_value::{Change, Changes, Contents, DataMsg, Doc, Key, Keys, Mem, copy_option};
-use reconcile::{Save, Saves, key_of, put_alone, taken};
+use reconcile::{Save, Saves, key_of, taken};
 use std::alloc::Global;
 
 // A copy of what stands at the key.
@@ -72,18 +72,22 @@ pub(crate) fn restoring(alloc: Global, contents: &Contents, saves: &Saves) -> Re
     Ok(changes)
 }
 
-// Takes a message that puts one field, which the document has, and answers whether it is such a one;
-// another one changes nothing.
-fn put_in_place(contents: &mut CountedContents, message: &DataMsg) -> Result<bool, Mem>
+// Takes a message that changes a document which is there, and answers whether it is such a one; another one changes
+// nothing.
+fn change_in_place(contents: &mut CountedContents, message: &DataMsg) -> Result<bool, Mem>
     ensures fits { IfOk result (λ put. put ≡ true → refusal (at key_cmp contents.old (said message.now).0) (said message.now).1 ≡ None) }
     ensures ok { IfOk result (λ put. put ≡ true → contents.new ≡ set key_cmp contents.old (said message.now).0
         (taken text_cmp (at key_cmp contents.old (said message.now).0) (said message.now).1)) }
     ensures other { IfOk result (λ put. put ≡ false → contents.new ≡ contents.old) }
     ensures err { OnErr result (contents.new ≡ contents.old) }
 {
-    match put_alone(message) {
-        None => Ok(false),
-        Some((name, value)) => contents.replace_field(key_of(message), name, value),
+    match message {
+        DataMsg::Changed {
+            key,
+            fields,
+            cleared,
+        } => contents.change(key, fields, cleared.as_slice()),
+        DataMsg::Added { .. } | DataMsg::Removed { .. } => Ok(false),
     }
 }
 
@@ -94,7 +98,7 @@ pub(crate) fn take(contents: &mut CountedContents, message: &DataMsg) -> Result<
         (taken text_cmp (at key_cmp contents.old (said message.now).0) (said message.now).1)) }
     ensures err { OnErr result (contents.new ≡ contents.old) }
 {
-    if put_in_place(contents, message)? {
+    if change_in_place(contents, message)? {
         return Ok(());
     }
     let key = key_of(message);

@@ -13,4 +13,4 @@ pub use ejson_value::{DataMsg, Key};
 pub use fault::{ServeFault, Served};
 pub use originals::{Originals, key_of};
 pub use save::{Save, Saves};
-pub use taking::{put_alone, taken};
+pub use taking::taken;

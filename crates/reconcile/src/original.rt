@@ -11,7 +11,7 @@ ghost use Rattle.reconcile.specs.Originals.{with_holders};
 ghost use Rattle.reconcile.specs.Taking.{IsFitting};
 
 use crate::fault::ServeFault;
-use crate::taking::{put_alone, put_field, taken};
+use crate::taking::taken;
 use ejson_value::{DataMsg, Doc, Mem, copy_option};
 use std::alloc::Global;
 use std::collections::BTreeSet;
@@ -106,8 +106,16 @@ impl Kept {
         ensures ok { OnOk result (self.new ≡ record { doc = taken text_cmp self.old.doc (said message.now).1; holders = self.old.holders }) }
         ensures err { OnErr result (self.new ≡ self.old) }
     {
-        if let (Some(doc), Some((name, value))) = (&mut self.doc, put_alone(message)) {
-            return Ok(put_field(doc, name, value)?);
+        if let (
+            Some(doc),
+            DataMsg::Changed {
+                fields,
+                cleared,
+                ..
+            },
+        ) = (&mut self.doc, message)
+        {
+            return Ok(doc.change(fields, cleared.as_slice())?);
         }
         self.doc = taken(self.doc.as_ref(), message)?;
         Ok(())

@@ -3,7 +3,7 @@ use Rattle.map_model.specs.Differences.{with_fields}
 use Rattle.value_model.specs.Order.{text_cmp}
 use Rattle.ejson_value.specs.declared.value.Value.{Value}
 use Rattle.ejson_value.specs.View.{entries}
-use Rattle.reconcile.proofs.taking.put_fields.Given as goal
+use Rattle.ejson_value.proofs.editing.put_copies.Given as goal
 
 abbrev pub invariant-loop-name : goal.invariant-loop-name
 invariant-loop-name l =

@@ -3,8 +3,8 @@ use Rattle.std.specs.Map.{keys_of}
 use Rattle.std.specs.List.Sorted.{IsStrictlySortedBy}
 use Rattle.std.proofs.lemmas.List.{append_assoc}
 use Rattle.value_model.specs.Order.{text_cmp}
-use Rattle.reconcile.proofs.Fields.{put_step}
-use Rattle.reconcile.proofs.taking.put_fields.Goals as goal
+use Rattle.ejson_value.proofs.Puts.{put_step}
+use Rattle.ejson_value.proofs.editing.put_copies.Goals as goal
 
 pub loop-name-preserved : goal.loop-name-preserved
 loop-name-preserved c =
@@ -19,7 +19,7 @@ loop-name-preserved c =
       (
         done ++ (name, value) ∷ [],
         all ∙ sym (append_assoc done ((name, value) ∷ []) rest),
-        put_step c.args.doc.now c.into_iter-name-iterator.result done name c.in_ok-copy.field-0 value c.in_ok-copy-2.field-0 rest c.loop-name.doc c.put.new.self
-            c.known.ensures.names all sorted c.loop-name.invariant.2.2 c.in_ok-copy.ensures c.in_ok-copy-2.ensures c.in_ok-put.ensures.ok,
+        put_step c.args.doc.now c.into_iter-name-iterator.result done name value rest c.loop-name.doc c.put_copy.new.doc c.known.ensures.names all sorted c.loop-name.invariant.2.2
+            c.in_ok-put_copy.ensures.ok,
       ),
     )

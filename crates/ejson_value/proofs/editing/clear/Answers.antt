@@ -1,6 +1,6 @@
 use Rattle.std.proofs.Common.{arith}
-use Rattle.reconcile.proofs.Fields.{clear_step}
-use Rattle.reconcile.proofs.taking.clear.Goals as goal
+use Rattle.ejson_value.proofs.Puts.{clear_step}
+use Rattle.ejson_value.proofs.editing.clear.Goals as goal
 
 pub loop-left-preserved : goal.loop-left-preserved
 loop-left-preserved c = (
