@@ -13,6 +13,8 @@ ghost use Rattle.core_model.specs.Lines.{line_text};
 ghost use Rattle.connection_laws.specs.Connection.{new_connection, as_conn, IsConnection};
 ghost use Rattle.connection_laws.specs.Printing.{kept_journal};
 ghost use Rattle.link_laws.specs.Session.{IsServed};
+ghost use Rattle.ejson_value.specs.Changes.{news_of};
+ghost use Rattle.session_parts.specs.Known.{AreRight, AreLearnt};
 ghost use Rattle.connection.specs.Answers.{AnswersIn, Answers, Takes, Does, DoesAsked};
 ghost use Rattle.connection.specs.Storing.{Begins, StepsOn, Learns, AdvancesBy, FeedsBy};
 
@@ -29,6 +31,7 @@ use ejson_codec::Lines;
 use ejson_value::{Items, Mem, Publishes, Text};
 use heard_messages::Heard;
 use history_log::Batch;
+use known_texts::KnownTexts;
 use session::Session;
 use session_state::{Sub, cursor_of};
 use std::alloc::Global;
@@ -261,9 +264,17 @@ impl Connection {
 
     /// The session leads the subscription on, by what was told elsewhere of so many entries of the
     /// history.
-    pub fn feed(&mut self, sub: u64, count: u64, news: &Publishes) -> Result<Answer, Mem>
-        ensures { FeedsBy sub count news.now self.old self.new result }
+    pub fn feed(
+        &mut self,
+        sub: u64,
+        count: u64,
+        news: &Publishes,
+        known: &mut KnownTexts,
+    ) -> Result<Answer, Mem>
+        requires right { AreRight sub self.old.session.carried.box (news_of news.now) known.old }
+        ensures feeds { FeedsBy sub count news.now self.old self.new result }
+        ensures learnt { AreLearnt sub self.old.session.carried.box (news_of news.now) known.old known.new }
     {
-        feed(&mut self.side, sub, count, news)
+        feed(&mut self.side, sub, count, news, known)
     }
 }

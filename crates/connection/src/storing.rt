@@ -9,6 +9,8 @@ ghost use Rattle.core_model.specs.declared.events.Act.TheVariants as act;
 ghost use Rattle.core_model.specs.Acts.{is_kept};
 ghost use Rattle.link_laws.specs.Session.{IsServed};
 ghost use Rattle.connection_laws.specs.Connection.{as_conn, IsConnection};
+ghost use Rattle.ejson_value.specs.Changes.{news_of};
+ghost use Rattle.session_parts.specs.Known.{AreRight, AreLearnt};
 ghost use Rattle.connection.specs.Kept.{as_refusal, seen, IsKept};
 ghost use Rattle.connection.specs.Answers.{AnswersIn};
 ghost use Rattle.connection.specs.Storing.{Tries, Begins, StepsOn, Learns, LearnsFrom, LoadsFrom, AdvancesBy, FeedsBy};
@@ -18,6 +20,7 @@ use crate::side::{Refusal, Side};
 use core_model::Answer;
 use ejson_value::{Contents, Mem, Publishes};
 use history_log::Batch;
+use known_texts::KnownTexts;
 use program_steps::Status;
 use selector_match::Steps;
 use session::Call;
@@ -288,12 +291,20 @@ pub(crate) fn advance(
 }
 
 /// The session leads the subscription on, by what was told elsewhere of so many entries of the history.
-pub(crate) fn feed(side: &mut Side, sub: u64, count: u64, news: &Publishes) -> Result<Answer, Mem>
-    requires { IsKept side.old }
+pub(crate) fn feed(
+    side: &mut Side,
+    sub: u64,
+    count: u64,
+    news: &Publishes,
+    known: &mut KnownTexts,
+) -> Result<Answer, Mem>
+    requires kept { IsKept side.old }
+    requires right { AreRight sub (seen side.old).session.carried.box (news_of news.now) known.old }
+    ensures learnt { AreLearnt sub (seen side.old).session.carried.box (news_of news.now) known.old known.new }
     ensures kept { IsKept side.new }
     ensures feeds { FeedsBy sub count news.now (seen side.old) (seen side.new) result }
 {
-    match side.session.feed(sub, count, news) {
+    match side.session.feed(sub, count, news, known) {
         Ok(()) => Ok(Answer::Done),
         Err(fault) => refused(fault),
     }

@@ -118,10 +118,17 @@ first_other sub (p ∷ ps) any =
       | false ↦ λ e _. (p, others, refl, e)
     ] refl any
 
-any_other : (sub : ℕ) (ps : List ℕ) → is_shared ps ≡ true → list_any (λ r. not (r == sub)) ps ≡ true
+pub any_other : (sub : ℕ) (ps : List ℕ) → is_shared ps ≡ true → list_any (λ r. not (r == sub)) ps ≡ true
 any_other sub [] shared = absurd (true≢false (sym shared))
 any_other sub (p ∷ others) shared = elim (p == sub) as (λ b. (p == sub) ≡ b → (not b || list_any (λ r. not (r == sub)) others) ≡ true) [
   | true ↦ λ e. ap (λ q. list_any (λ r. not (r == q)) others) (sym (same_sub p sub e)) ∙ shared
+  | false ↦ λ _. refl
+] refl
+
+-- one publisher, another than the subscription
+pub other_one : (sub first : ℕ) → (sub ≡ first → ⊥) → list_any (λ r. not (r == sub)) (first ∷ []) ≡ true
+other_one sub first other = elim (first == sub) as (λ b. (first == sub) ≡ b → (not b || false) ≡ true) [
+  | true ↦ λ e. absurd (other (sym (same_sub first sub e)))
   | false ↦ λ _. refl
 ] refl
 

@@ -66,6 +66,14 @@ abbrev pub is_shared : List ℕ → Bool
 is_shared [] = false
 is_shared (s ∷ others) = list_any (λ r. not (r == s)) others
 
+-- another subscription publishes the document
+abbrev pub has_other : ℕ → List ℕ → Bool
+has_other sub publishers = list_any (λ r. not (r == sub)) publishers
+
+-- nobody publishes it, or this subscription alone
+abbrev pub IsAlone : ℕ → List ℕ → Type 0
+IsAlone sub publishers = has_other sub publishers ≡ false
+
 -- the publisher, if there is one alone
 abbrev pub sole : List ℕ → Option ℕ
 sole [] = None

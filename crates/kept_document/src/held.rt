@@ -3,7 +3,7 @@ ghost use Rattle.std.specs.Prelude.{◌≡◌, ◌==◌, true, false, not, OnOk,
 ghost use Rattle.std.specs.List.{list_any};
 ghost use Rattle.merge_model.specs.Kept.{has, is_empty, nothing_kept, merged_fields};
 ghost use Rattle.kept_document.specs.declared.held.Change.TheVariants.{Whole};
-ghost use Rattle.kept_document.specs.Held.{is_shared, sole, alone, alone_if, left_to, IsHeld, SameDoc, IsDocGrown};
+ghost use Rattle.kept_document.specs.Held.{is_shared, has_other, IsAlone, sole, alone, alone_if, left_to, IsHeld, SameDoc, IsDocGrown};
 ghost use Rattle.kept_document.specs.Changes.{held_in, with_change, IsChange, HasPlaces, IsFor};
 
 use crate::shared::Shared;
@@ -181,6 +181,20 @@ impl Held {
         }
     }
 
+    /// Whether no other subscription publishes the document.
+    pub fn is_only_by(&self, sub: u64) -> bool
+        ensures { result ≡ not (has_other sub self.now.publishers) }
+    {
+        match &self.form {
+            Form::Nobody => true,
+            Form::One { sub: publisher, .. } => *publisher == sub,
+            Form::Several(shared) => {
+                shared.known();
+                false
+            }
+        }
+    }
+
     pub fn is_published(&self) -> bool
         ensures { result ≡ not (is_empty self.now.publishers) }
     {
@@ -226,7 +240,9 @@ impl Held {
 
     /// What changes once `sub` publishes this document, or none.
     pub fn change(&self, alloc: Global, sub: u64, doc: Option<&Doc>) -> Result<Change, Mem>
-        ensures { IfOk result (λ change. IsChange sub (option_copied doc.entry) self.now change) }
+        ensures is { IfOk result (λ change. IsChange sub (option_copied doc.entry) self.now change) }
+        ensures alone { IsAlone sub self.now.publishers →
+            IfOk result (λ change. change ≡ Whole (alone_if sub (option_copied doc.entry))) }
     {
         match &self.form {
             Form::Nobody => {
@@ -246,7 +262,10 @@ impl Held {
                     Ok(Change::Whole(beside(alloc, *first, old, sub, doc)?))
                 }
             }
-            Form::Several(shared) => change_of_shared(alloc, shared, sub, doc),
+            Form::Several(shared) => {
+                shared.known();
+                change_of_shared(alloc, shared, sub, doc)
+            }
         }
     }
 

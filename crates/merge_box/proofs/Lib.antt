@@ -6,3 +6,4 @@ pub mod Naming
 pub mod Places
 pub mod Plans
 pub mod Slots
+pub mod Words

@@ -247,13 +247,13 @@ same_news sub news others box messages whole same is =
     } in
     record { after = after; told = is.told; answers = answers_of (apply sub news) box.kept box.planned messages whole after is.told }
 
--- a plan that was carried out over what was kept before
-pub done : (call : Call Key Entries) (old new : KeptDocs) (box : BoxState) (messages : Told) → box.kept ≡ old → new ≡ box.planned → IsPlan call box messages → IsPlan call (record { kept = old; planned = new }) messages
-done call old new box messages was now is = subst₂ (λ a b. IsPlan call (record { kept = a; planned = b }) messages) was (sym now) is
-
 pub map_ok : {T E : Type 0} (r : Result T E) (P Q : T → Type 0) → ((x : T) → P x → Q x) → IfOk r P → IfOk r Q
 map_ok (Ok x) P Q f h = f x h
 map_ok (Err e) P Q f h = tt
+
+pub both_ok : {T E : Type 0} (r : Result T E) (P Q R : T → Type 0) → ((x : T) → P x → Q x → R x) → IfOk r P → IfOk r Q → IfOk r R
+both_ok (Ok x) P Q R f h i = f x h i
+both_ok (Err e) P Q R f h i = tt
 
 pub on_err : {T E : Type 0} (r : Result T E) (P : Type 0) → P → OnErr r P
 on_err (Ok x) P h = tt

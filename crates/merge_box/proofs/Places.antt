@@ -85,11 +85,15 @@ held_docs kept k sorted held = held_same (kept_at key_cmp kept k) (kept_at key_c
           | false ↦ sorted-claimed (kept_at key_cmp kept k) held.by_name
         ])
 
+-- what a client sees of each document
+pub seen_docs : (kept : KeptDocs) → IsSorted key_cmp kept → ((k : Key) → IsHeld (kept_at key_cmp kept k)) → (k : Key) → merged_doc (kept_at key_cmp (docs_of kept) k) ≡ merged_doc (kept_at key_cmp kept k)
+seen_docs kept sorted held k = merged_same (kept_at key_cmp kept k) (kept_at key_cmp (docs_of kept) k) (kept_same kept k sorted (held k)) (held k).by_name (held_docs kept k sorted (held k)).by_name
+
 pub merged_docs : (kept : KeptDocs) → IsSorted key_cmp kept → ((k : Key) → IsHeld (kept_at key_cmp kept k)) → merged (docs_of kept) ≡ merged kept
 merged_docs kept sorted held =
     same_maps key_order (merged (docs_of kept)) (merged kept) (sorted-filter_map_entries key_cmp (λ k e. merged_doc e) (docs_of kept) (sorted-docs_of kept sorted)) (sorted-filter_map_entries key_cmp (λ k e. merged_doc e) kept sorted)
     (λ k. at-merged key_order name_order (docs_of kept) k (sorted-docs_of kept sorted)
-    ∙ merged_same (kept_at key_cmp kept k) (kept_at key_cmp (docs_of kept) k) (kept_same kept k sorted (held k)) (held k).by_name (held_docs kept k sorted (held k)).by_name
+    ∙ seen_docs kept sorted held k
     ∙ sym (at-merged key_order name_order kept k sorted))
 
 -- ---- once the changes are carried out

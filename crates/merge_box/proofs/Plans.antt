@@ -1,5 +1,5 @@
 -- What a plan makes of the documents, and what is kept once it is carried out.
-use Rattle.std.proofs.Common.{◌≡◌, ℕ, append_assoc, zero, suc, ◌+◌, ◌<◌, arith, add-one, length, get_or, take, option_map, option_to_list, Bool, true, false, cond, ◌||◌, ◌++◌, List, [], ◌∷◌, map, Option, Some, None, is_some, IsSome, unwrap_or, refl, sym, ap, ap₂, subst, subst₂, ⊎_elim, ◌∙◌, true≢false}
+use Rattle.std.proofs.Common.{◌≡◌, ℕ, append_assoc, zero, suc, ◌+◌, ◌<◌, arith, add-one, length, get_or, take, Bool, true, false, cond, ◌||◌, ◌++◌, List, [], ◌∷◌, map, Option, Some, None, is_some, IsSome, unwrap_or, refl, sym, ap, ap₂, subst, subst₂, ⊎_elim, ◌∙◌, true≢false}
 use Rattle.std.specs.Option.{option_or}
 use Rattle.std.specs.declared.cmp.Ordering.TheVariants.{Greater}
 use Rattle.std.specs.Map.{keys_of}
@@ -12,8 +12,6 @@ use Rattle.map_model.specs.Orders.{IsAbove}
 use Rattle.map_model.specs.Differences.{Step}
 use Rattle.map_model.specs.OrderLaws.{filter_map_entries-append}
 use Rattle.value_model.specs.Val.{Val}
-use Rattle.ejson_value.specs.declared.message.DataMsg.{DataMsg}
-use Rattle.ejson_value.specs.Messages.{said}
 use Rattle.merge_box.specs.Index.{lists_of, is_listed}
 use Rattle.std.specs.Ordering.{eq_by_cmp, is_eq}
 use Rattle.std.specs.List.Sorted.{IsStrictlySortedBy}
@@ -132,21 +130,6 @@ pub keys_step : (plan new : Changes) (planned : Change) (news : List Publish) (i
 keys_step plan new planned news i p more push so_far =
     ap keys_of push ∙ map-append (λ (e : Key × Change). e.0) plan ((p.key, planned) ∷ []) ∙ ap (λ ks. ks ++ p.key ∷ []) so_far
     ∙ sym (ap keys_of more ∙ map-append (λ (e : Key × Option Entries). e.0) (news_of (take i news)) ((p.key, p.new) ∷ []))
-
--- one more message
-pub message_added : (messages : List DataMsg) (message : Option DataMsg) (k : Key) (w : Option (Step (List ℕ) Val)) → option_map said message ≡ option_map (λ step. (k, step)) w
-    → map said (messages ++ option_to_list message) ≡ map said messages ++ keyed k w []
-message_added messages message k w is =
-    map-append said messages (option_to_list message)
-    ∙ ap (λ more. map said messages ++ more) (listed message ∙ ap option_to_list is ∙ keyed_is w)
-  where
-    listed : (m : Option DataMsg) → map said (option_to_list m) ≡ option_to_list (option_map said m)
-    listed None = refl
-    listed (Some m) = refl
-
-    keyed_is : (v : Option (Step (List ℕ) Val)) → option_to_list (option_map (λ step. (k, step)) v) ≡ keyed k v []
-    keyed_is None = refl
-    keyed_is (Some step) = refl
 
 pub other_key : (key k : Key) → key_cmp key k ≡ Greater → eq_by_cmp key_cmp k key ≡ false
 other_key key k above = sym (either_way key k) ∙ ap is_eq above

@@ -11,11 +11,15 @@ use Rattle.merge_model.specs.Box.{unless_empty}
 use Rattle.ejson_value.specs.declared.key.Key.{Key}
 use Rattle.ejson_value.specs.Key.{key_cmp}
 use Rattle.kept_document.specs.declared.held.Change.{Change}
-use Rattle.kept_document.specs.Held.{KeptDoc, same_value, IsHeld, SameDoc, IsDocGrown}
+use Rattle.kept_document.specs.declared.held.Change.TheVariants.{Whole}
+use Rattle.kept_document.specs.Held.{KeptDoc, same_value, alone_if, IsAlone, IsHeld, SameDoc, IsDocGrown}
 use Rattle.kept_document.specs.Changes.{held_in, with_change, IsChange, HasPlaces}
 use Rattle.merge_box.specs.Index.{Lists, is_listed}
 use Rattle.merge_box.specs.declared.plan.Planned.{Planned}
 use Rattle.merge_box.specs.State.{KeptDocs, Told}
+use Rattle.known_texts.specs.Places.{Texts}
+use Rattle.merge_box.specs.declared.plan.Word.{Word}
+use Rattle.merge_box.specs.Words.{HasTold}
 use Rattle.merge_box.specs.Slots.{SlotState, named, key_in, IsNamed}
 
 -- the fields with claims
@@ -101,11 +105,12 @@ abbrev pub told_of : KeptDocs → Changes → Told
 told_of kept changes = filter_map_entries (λ k change. step_of (kept_at key_cmp kept k) change) changes
 
 -- the change of a document, e, is planned, its key is listed, and what the client is told of it is added
-pub record IsNext (sub : ℕ) (key : Key) (doc : Option Entries) (e : KeptDoc) (lists : Lists) (before after : Told) (change : Change) : Type 0 where
+pub record IsNext (sub : ℕ) (texts : Texts) (place : ℕ) (key : Key) (doc : Option Entries) (e : KeptDoc) (lists : Lists) (before after : List Word) (change : Change) : Type 0 where
   pub listed : IsSome doc → is_listed lists sub key ≡ true
   pub is : IsChange sub doc e change
+  pub alone : IsAlone sub e.publishers → change ≡ Whole (alone_if sub doc)
   pub places : HasPlaces e change
-  pub told : after ≡ before ++ keyed key (step_of e change) []
+  pub told : HasTold sub texts place key e.publishers (step_of e change) before after
 
 -- the news are of a document
 abbrev pub IsPublished : Option (Option Entries) → Type 0

@@ -1,18 +1,20 @@
 //! The merge box and its plans.
-ghost use Rattle.std.specs.Prelude.{◌≡◌, [], map, IfOk, OnOk, OnErr};
+ghost use Rattle.std.specs.Prelude.{◌≡◌, [], IfOk, OnErr};
 ghost use Rattle.map_model.specs.Maps.{at, IsSorted};
 ghost use Rattle.merge_model.specs.Publishing.{apply as applied, drop_sub as dropped};
 ghost use Rattle.merge_model.specs.Kept.{merged as merged_docs, merged_doc, kept_at};
 ghost use Rattle.ejson_value.specs.Key.{key_cmp};
-ghost use Rattle.ejson_value.specs.Messages.{said};
 ghost use Rattle.ejson_value.specs.Changes.{news_of};
-ghost use Rattle.merge_box.specs.State.{shared_count, IsBoxAfter, Tells, Answers, IsPlan, IsBox};
+ghost use Rattle.known_texts.specs.Places.{Texts};
+ghost use Rattle.merge_box.specs.State.{shared_count, IsPlan, IsBox};
+ghost use Rattle.merge_box.specs.Words.{NewsList, seen_in, said_all, AreWords};
 
 use crate::index::{Index, forget_unlisted};
 use crate::kept::KeptMap;
 use crate::news::{is_by_key, last_by_key};
-use crate::plan::{ChangeList, plan_news, removals, take_all};
-use ejson_value::{DataList, Doc, Key, Mem, Publish, Publishes};
+use crate::plan::{ChangeList, Words, plan_news, removals, take_all};
+use ejson_value::{Doc, Key, Mem, Publish, Publishes};
+use known_texts::KnownTexts;
 use std::alloc::Global;
 use std::collections::BTreeMap;
 use std::marker::Model;
@@ -56,26 +58,6 @@ impl Model for MergeBox {
         × (a.listed ≡ shared_count a.kept.docs) };
 }
 
-/// What a planned call answers once it is carried out. What it changes waits in the box, with all
-/// the memory that it needs.
-#[derive(Drop)]
-pub struct MergePlan {
-    messages: DataList,
-}
-
-impl Model for MergePlan {
-    ghost use Rattle.std.specs.Prelude.{map};
-    ghost use Rattle.merge_box.specs.State.{Told};
-    ghost use Rattle.merge_box.specs.StateCoding.{told_code};
-    ghost use Rattle.ejson_value.specs.Messages.{said};
-
-    ghost Value = { Told };
-
-    ghost coded = { told_code };
-
-    ghost view = { λ a. map said a.messages };
-}
-
 // The document as the client sees it.
 fn merged_at(kept: &KeptMap, alloc: Global, key: &Key) -> Result<Option<Doc>, Mem>
     ensures { IfOk result (λ doc. doc ≡ merged_doc (kept_at key_cmp kept.now.docs key.now)) }
@@ -89,15 +71,6 @@ fn merged_at(kept: &KeptMap, alloc: Global, key: &Key) -> Result<Option<Doc>, Me
                 Ok(None)
             }
         }
-    }
-}
-
-impl MergePlan {
-    /// The messages that the call will answer.
-    pub fn messages(&self) -> &DataList
-        ensures { map said result.now ≡ self.now }
-    {
-        &self.messages
     }
 }
 
@@ -125,72 +98,99 @@ impl MergeBox {
     }
 
     // Plans what a subscription publishes now, where the news stand by rising key.
-    fn plan_by_key(&mut self, sub: u64, news: &[Publish]) -> Result<MergePlan, Mem>
+    fn plan_by_key(
+        &mut self,
+        sub: u64,
+        news: &[Publish],
+        texts: &KnownTexts,
+    ) -> Result<Words, Mem>
         requires { IsSorted key_cmp (news_of news.now) }
         ensures same { self.new.kept ≡ self.old.kept }
-        ensures planned { IfOk result (λ plan. IsPlan (applied sub (news_of news.now)) self.new plan) }
+        ensures planned { IfOk result (λ words. IsPlan (applied sub (news_of news.now)) self.new
+            (said_all (seen_in self.old.kept) (news_of news.now) words.items)) }
+        ensures words { IfOk result (λ words. AreWords sub self.old.kept (news_of news.now) texts.now words.items) }
         ensures err { OnErr result (self.new ≡ self.old) }
     {
-        let mut messages = DataList::new(self.alloc);
+        let mut words = Vec::new(self.alloc);
         let made = plan_news(
             &mut self.kept,
-            &mut messages,
+            &mut words,
             &mut self.index,
             self.alloc,
             sub,
             news,
+            texts,
         );
         let _len = self.kept.len();
         let changes = made?;
         self.sub = sub;
         self.changes = changes;
-        Ok(MergePlan { messages })
+        Ok(words)
+    }
+
+    // The same, where nothing is known of what a client is told. It tells a proof what the box keeps whole.
+    fn plan_unknown(&mut self, sub: u64, news: &[Publish]) -> Result<Words, Mem>
+        requires { IsSorted key_cmp (news_of news.now) }
+        ensures same { self.new.kept ≡ self.old.kept }
+        ensures kept { IsBox self.new.kept }
+        ensures whole { IsBox self.new.planned }
+        ensures planned { IfOk result (λ words. (others : NewsList) → IsPlan (applied sub (news_of news.now)) self.new
+            (said_all (seen_in self.old.kept) others words.items)) }
+        ensures words { IfOk result (λ words. (others : NewsList) (texts : Texts) → AreWords sub self.old.kept others texts words.items) }
+        ensures err { OnErr result (self.new ≡ self.old) }
+    {
+        let texts = KnownTexts::new(self.alloc);
+        let made = self.plan_by_key(sub, news, &texts);
+        self.known();
+        made
     }
 
     // Plans what a subscription publishes now, where the news stand in any order.
-    fn plan_unordered(&mut self, sub: u64, news: &[Publish]) -> Result<MergePlan, Mem>
+    fn plan_unordered(&mut self, sub: u64, news: &[Publish]) -> Result<Words, Mem>
         ensures same { self.new.kept ≡ self.old.kept }
-        ensures planned { IfOk result (λ plan. IsPlan (applied sub (news_of news.now)) self.new plan) }
+        ensures planned { IfOk result (λ words. IsPlan (applied sub (news_of news.now)) self.new
+            (said_all (seen_in self.old.kept) (news_of news.now) words.items)) }
+        ensures words { IfOk result (λ words. (texts : Texts) → AreWords sub self.old.kept (news_of news.now) texts words.items) }
         ensures err { OnErr result (self.new ≡ self.old) }
     {
         let last = last_by_key(self.alloc, news)?;
-        let plan = self.plan_by_key(sub, last.as_slice())?;
-        self.known();
-        Ok(plan)
+        self.plan_unknown(sub, last.as_slice())
     }
 
-    /// Plans `apply`. What is kept stays as it is, and the plan is what `commit` carries out next.
-    pub fn plan(&mut self, sub: u64, news: &Publishes) -> Result<MergePlan, Mem>
+    /// Plans that a subscription publishes this from now on, and answers what the client is told once
+    /// it is carried out. What is kept stays as it is, and the plan is what `commit` carries out next:
+    /// it waits in the box, with all the memory that it needs. The box doesn't look at the texts that
+    /// are known of the publishes, only at which there are.
+    pub fn plan(&mut self, sub: u64, news: &Publishes, texts: &KnownTexts) -> Result<Words, Mem>
         ensures same { self.new.kept ≡ self.old.kept }
-        ensures planned { IfOk result (λ plan. IsPlan (applied sub (news_of news.now)) self.new plan) }
+        ensures planned { IfOk result (λ words. IsPlan (applied sub (news_of news.now)) self.new
+            (said_all (seen_in self.old.kept) (news_of news.now) words.items)) }
+        ensures words { IfOk result (λ words. AreWords sub self.old.kept (news_of news.now) texts.now words.items) }
         ensures err { OnErr result (self.new ≡ self.old) }
     {
         let news = news.as_slice();
         if is_by_key(news) {
-            self.plan_by_key(sub, news)
+            self.plan_by_key(sub, news, texts)
         } else {
             self.plan_unordered(sub, news)
         }
     }
 
-    /// Plans `drop_sub`. What is kept stays as it is, and the plan is what `commit` carries out next.
-    pub fn plan_drop(&mut self, sub: u64) -> Result<MergePlan, Mem>
+    /// Plans that a subscription publishes nothing any more. Each word is a message, of no place.
+    pub fn plan_drop(&mut self, sub: u64) -> Result<Words, Mem>
         ensures same { self.new.kept ≡ self.old.kept }
-        ensures planned { IfOk result (λ plan. IsPlan (dropped sub) self.new plan) }
+        ensures planned { IfOk result (λ words. IsPlan (dropped sub) self.new (said_all (seen_in self.old.kept) [] words.items)) }
+        ensures words { IfOk result (λ words. AreWords sub self.old.kept [] [] words.items) }
         ensures err { OnErr result (self.new ≡ self.old) }
     {
         let news = removals(&self.index, self.alloc, sub)?;
-        let plan = self.plan_by_key(sub, news.as_slice())?;
-        self.known();
-        Ok(plan)
+        self.plan_unknown(sub, news.as_slice())
     }
 
-    /// Carries out what was planned last, and answers the messages of `plan`, which is that plan. It
-    /// takes no memory.
-    pub fn commit(&mut self, plan: MergePlan) -> DataList
+    /// Carries out what was planned last. It takes no memory.
+    pub fn commit(&mut self)
         ensures kept { self.new.kept ≡ self.old.planned }
         ensures planned { self.new.planned ≡ self.new.kept }
-        ensures messages { map said result ≡ plan }
     {
         let changes = mem::replace(&mut self.changes, Vec::new(self.alloc));
         let listed = take_all(
@@ -203,32 +203,6 @@ impl MergeBox {
         self.listed = listed;
         forget_unlisted(&mut self.index, self.sub);
         let _len = self.kept.len();
-        plan.messages
-    }
-
-    /// Puts what a subscription publishes now, and answers what the client is told, by collection
-    /// and id.
-    pub fn apply(&mut self, sub: u64, news: &Publishes) -> Result<DataList, Mem>
-        ensures after { OnOk result (IsBoxAfter (applied sub (news_of news.now)) self.old.kept self.new.kept) }
-        ensures told { IfOk result (λ messages. Tells self.old.kept self.new.kept (map said messages)) }
-        ensures answers { IfOk result (λ messages.
-            Answers (applied sub (news_of news.now)) self.old.kept self.new.kept (map said messages)) }
-        ensures err { OnErr result (self.new ≡ self.old) }
-    {
-        let plan = self.plan(sub, news)?;
-        Ok(self.commit(plan))
-    }
-
-    /// Takes away all that a subscription publishes, and answers what the client is told, by
-    /// collection and id.
-    pub fn drop_sub(&mut self, sub: u64) -> Result<DataList, Mem>
-        ensures after { OnOk result (IsBoxAfter (dropped sub) self.old.kept self.new.kept) }
-        ensures told { IfOk result (λ messages. Tells self.old.kept self.new.kept (map said messages)) }
-        ensures answers { IfOk result (λ messages. Answers (dropped sub) self.old.kept self.new.kept (map said messages)) }
-        ensures err { OnErr result (self.new ≡ self.old) }
-    {
-        let plan = self.plan_drop(sub)?;
-        Ok(self.commit(plan))
     }
 
     /// The document at this key as the client sees it.

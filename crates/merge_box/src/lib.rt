@@ -7,5 +7,6 @@ mod kept;
 mod news;
 mod plan;
 
-pub use boxes::{MergeBox, MergePlan};
-pub use ejson_value::{DataList, DataMsg};
+pub use boxes::MergeBox;
+pub use ejson_value::DataMsg;
+pub use plan::{Word, Words};

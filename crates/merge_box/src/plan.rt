@@ -1,16 +1,17 @@
 //! What becomes of each document that a call changes.
-ghost use Rattle.std.specs.Prelude.{◌≡◌, ◌==◌, ◌∷◌, ◌++◌, ◌+◌, ◌<◌, ◌≤◌, ◌^◌, ℕ, true, false, [], map, option_to_list, Some, None, IsSome, IfOk, OnOk, if◌then◌else◌};
+ghost use Rattle.std.specs.Prelude.{◌≡◌, ◌==◌, ◌∷◌, ◌++◌, ◌+◌, ◌<◌, ◌≤◌, ◌^◌, ℕ, true, false, [], map, Some, None, IsSome, IfSome, IsTrue, IfOk, OnOk, if◌then◌else◌};
 ghost use Rattle.std.specs.Ordering.{eq_by_cmp};
-ghost use Rattle.map_model.specs.Maps.{at, keyed, IsSorted};
+ghost use Rattle.map_model.specs.Maps.{at, IsSorted};
 ghost use Rattle.merge_model.specs.Publishing.{last_news};
 ghost use Rattle.merge_model.specs.Kept.{has, kept_at, publishers_at};
 ghost use Rattle.ejson_value.specs.declared.key.Key.{Key};
 ghost use Rattle.ejson_value.specs.Key.{key_cmp};
-ghost use Rattle.kept_document.specs.Held.{is_shared, IsHeld, SameDoc, IsDocGrown};
+ghost use Rattle.kept_document.specs.Held.{is_shared, IsAlone, IsHeld, SameDoc, IsDocGrown};
 ghost use Rattle.kept_document.specs.Changes.{held_in, with_change, IsChange, HasPlaces, IsFor};
 ghost use Rattle.merge_box.specs.Index.{lists_of, is_listed};
 ghost use Rattle.merge_box.specs.State.{shared_count};
-ghost use Rattle.ejson_value.specs.Messages.{said};
+ghost use Rattle.known_texts.specs.Places.{text_at, is_open};
+ghost use Rattle.merge_box.specs.Words.{seen_in, said_all, new_words, AreWords, IsOpenAt, HasSaid, HasTold};
 ghost use Rattle.ejson_value.specs.Changes.{news_of};
 ghost use Rattle.merge_box.specs.Slots.{named, key_in, IsNamed};
 ghost use Rattle.merge_box.specs.Inside.{changes_of, step_of, told_of, after_at, AreNamed, HasGrown, IsReady, IsInside, IsPlannedAt, IsNext, IsTaken, IsPublished};
@@ -19,6 +20,7 @@ use crate::index::{Index, list, unlist};
 use crate::kept::KeptMap;
 use ejson_value::{DataList, DataMsg, Key, Mem, Publish, Publishes};
 use kept_document::{Change, Held, told};
+use known_texts::KnownTexts;
 use std::alloc::Global;
 use std::collections::BTreeSet;
 
@@ -52,51 +54,133 @@ fn list_published(
     }
 }
 
+/// What a client is told of a publish.
+#[derive(Drop)]
+pub enum Word {
+    /// What the text says that is known of the publish at this place.
+    Known(usize),
+    /// A message. Its text is to be kept for the publish at the place, where there is one.
+    New {
+        message: DataMsg,
+        at: Option<usize>,
+    },
+}
+
+/// What a client is told, by collection and id.
+pub type Words = Vec<Word>;
+
+// The place, where a text of the publish there is to be kept.
+fn open_place(texts: &KnownTexts, place: usize) -> Option<usize>
+    ensures { IfSome result (λ at. (at ≡ place) × (is_open texts.now place ≡ true)) }
+{
+    if texts.is_open(place) {
+        Some(place)
+    } else {
+        None
+    }
+}
+
+// Where a text about the document is to be kept: nowhere, where another subscription publishes it.
+fn place_for(held: &Held, sub: u64, texts: &KnownTexts, place: usize) -> Option<usize>
+    ensures { IfSome result (IsOpenAt sub texts.now place held.now.publishers) }
+{
+    if held.is_only_by(sub) {
+        open_place(texts, place)
+    } else {
+        None
+    }
+}
+
+// Whether what a client is told of the document is known already.
+fn is_known(held: &Held, sub: u64, texts: &KnownTexts, place: usize) -> bool
+    ensures { IsTrue result → IsAlone sub held.now.publishers × IsSome (text_at texts.now place) }
+{
+    texts.get(place).is_some() && held.is_only_by(sub)
+}
+
 // Adds the message, if there is one.
-fn push_message(messages: &mut DataList, message: Option<DataMsg>) -> Result<(), Mem>
-    ensures { OnOk result (messages.new ≡ messages.old ++ option_to_list message) }
+fn push_message(words: &mut Words, message: Option<DataMsg>, at: Option<usize>) -> Result<(), Mem>
+    ensures { OnOk result (words.new.items ≡ words.old.items ++ new_words message at) }
 {
     match message {
         None => Ok(()),
-        Some(message) => messages.push(message),
+        Some(message) => {
+            words.push(Word::New { message, at })?;
+            Ok(())
+        }
     }
 }
 
 // Adds the message about a document after a change, if the client sees it otherwise then.
-fn tell(
-    messages: &mut DataList,
+fn say(
+    words: &mut Words,
     alloc: Global,
     key: &Key,
     held: &Held,
     change: &Change,
+    at: Option<usize>,
 ) -> Result<(), Mem>
     requires { IsFor held.now change.now }
-    ensures { OnOk result (map said messages.new ≡ map said messages.old ++ keyed key.now (step_of held.now change.now) []) }
+    ensures { OnOk result (HasSaid at key.now (step_of held.now change.now) words.old.items words.new.items) }
 {
     let message = told(alloc, key, held, change)?;
-    push_message(messages, message)
+    push_message(words, message, at)
+}
+
+// Adds what is told of a document after a change: what is known already is not said anew.
+fn tell(
+    words: &mut Words,
+    alloc: Global,
+    key: &Key,
+    held: &Held,
+    change: &Change,
+    sub: u64,
+    texts: &KnownTexts,
+    place: usize,
+) -> Result<(), Mem>
+    requires { IsFor held.now change.now }
+    ensures { OnOk result (HasTold sub texts.now place key.now held.now.publishers (step_of held.now change.now)
+        words.old.items words.new.items) }
+{
+    if is_known(held, sub, texts, place) {
+        words.push(Word::Known(place))?;
+        return Ok(());
+    }
+    let at = place_for(held, sub, texts, place);
+    say(words, alloc, key, held, change, at)
 }
 
 // Plans what becomes of one document.
 fn plan_held(
     held: &mut Held,
-    messages: &mut DataList,
+    words: &mut Words,
     index: &mut Index,
     alloc: Global,
     sub: u64,
     publish: &Publish,
+    texts: &KnownTexts,
+    place: usize,
 ) -> Result<Change, Mem>
     requires { has sub held.old.publishers ≡ true → is_listed (lists_of index.old.entries) sub publish.now.key ≡ true }
     ensures grown { IsDocGrown held.old held.new }
     ensures listed { (s : ℕ) (k : Key) → is_listed (lists_of index.old.entries) s k ≡ true →
         is_listed (lists_of index.new.entries) s k ≡ true }
-    ensures planned { IfOk result (λ change. IsNext sub publish.now.key publish.now.new held.new
-        (lists_of index.new.entries) (map said messages.old) (map said messages.new) change) }
+    ensures planned { IfOk result (λ change. IsNext sub texts.now place publish.now.key publish.now.new held.new
+        (lists_of index.new.entries) words.old.items words.new.items change) }
 {
     list_published(index, alloc, sub, publish, held)?;
     let change = held.change(alloc, sub, publish.new.as_ref())?;
     held.make_places(alloc, &change)?;
-    tell(messages, alloc, &publish.key, held, &change)?;
+    tell(
+        words,
+        alloc,
+        &publish.key,
+        held,
+        &change,
+        sub,
+        texts,
+        place,
+    )?;
     Ok(change)
 }
 
@@ -104,11 +188,13 @@ fn plan_held(
 fn plan_at(
     kept: &mut KeptMap,
     slot: usize,
-    messages: &mut DataList,
+    words: &mut Words,
     index: &mut Index,
     alloc: Global,
     sub: u64,
     publish: &Publish,
+    texts: &KnownTexts,
+    place: usize,
 ) -> Result<Change, Mem>
     requires slot { named kept.old.keys slot ≡ Some publish.now.key }
     requires listed { has sub (publishers_at key_cmp kept.old.docs publish.now.key) ≡ true →
@@ -119,21 +205,32 @@ fn plan_at(
     ensures listed { (s : ℕ) (k : Key) → is_listed (lists_of index.old.entries) s k ≡ true →
         is_listed (lists_of index.new.entries) s k ≡ true }
     ensures planned { IfOk result (λ change.
-        IsNext sub publish.now.key publish.now.new (kept_at key_cmp kept.new.docs publish.now.key)
-        (lists_of index.new.entries) (map said messages.old) (map said messages.new) change) }
+        IsNext sub texts.now place publish.now.key publish.now.new (kept_at key_cmp kept.new.docs publish.now.key)
+        (lists_of index.new.entries) words.old.items words.new.items change) }
 {
     let slot = &mut kept.slots[slot];
-    plan_held(&mut slot.held, messages, index, alloc, sub, publish)
+    plan_held(
+        &mut slot.held,
+        words,
+        index,
+        alloc,
+        sub,
+        publish,
+        texts,
+        place,
+    )
 }
 
 // Plans what becomes of one document. Its key is looked up here, and nowhere else.
 fn plan_publish(
     kept: &mut KeptMap,
-    messages: &mut DataList,
+    words: &mut Words,
     index: &mut Index,
     alloc: Global,
     sub: u64,
     publish: &Publish,
+    texts: &KnownTexts,
+    place: usize,
 ) -> Result<Planned, Mem>
     requires { has sub (publishers_at key_cmp kept.old.docs publish.now.key) ≡ true →
         is_listed (lists_of index.old.entries) sub publish.now.key ≡ true }
@@ -145,27 +242,32 @@ fn plan_publish(
     ensures named { IfOk result (λ planned. named kept.new.keys planned.slot ≡ Some publish.now.key) }
     ensures room { OnOk result (IsSome (at key_cmp kept.new.docs publish.now.key)) }
     ensures planned { IfOk result (λ planned.
-        IsNext sub publish.now.key publish.now.new (kept_at key_cmp kept.new.docs publish.now.key)
-        (lists_of index.new.entries) (map said messages.old) (map said messages.new) planned.change) }
+        IsNext sub texts.now place publish.now.key publish.now.new (kept_at key_cmp kept.new.docs publish.now.key)
+        (lists_of index.new.entries) words.old.items words.new.items planned.change) }
 {
     let slot = kept.slot_for(&publish.key)?;
-    let change = plan_at(kept, slot, messages, index, alloc, sub, publish)?;
+    let change = plan_at(
+        kept, slot, words, index, alloc, sub, publish, texts, place,
+    )?;
     Ok(Planned { slot, change })
 }
 
-/// Plans what becomes of each document of the news, which stand by rising key, with the messages about
-/// them, and makes places for what is new.
+/// Plans what becomes of each document of the news, which stand by rising key, with what the client is
+/// told of them, and makes places for what is new.
 pub(crate) fn plan_news(
     kept: &mut KeptMap,
-    messages: &mut DataList,
+    words: &mut Words,
     index: &mut Index,
     alloc: Global,
     sub: u64,
     news: &[Publish],
+    texts: &KnownTexts,
 ) -> Result<ChangeList, Mem>
     requires by_key { IsSorted key_cmp (news_of news.now) }
+    requires held { (k : Key) → IsHeld (kept_at key_cmp kept.old.docs k) }
     requires listed { (k : Key) → has sub (publishers_at key_cmp kept.old.docs k) ≡ true →
         is_listed (lists_of index.old.entries) sub k ≡ true }
+    requires none { words.old.items ≡ [] }
     ensures grown { HasGrown kept.old kept.new }
     ensures listed { (s : ℕ) (k : Key) → is_listed (lists_of index.old.entries) s k ≡ true →
         is_listed (lists_of index.new.entries) s k ≡ true }
@@ -178,12 +280,14 @@ pub(crate) fn plan_news(
         IsSome (at key_cmp kept.new.docs k)) }
     ensures listed_here { IfOk result (λ plan. (k : Key) → IsPublished (last_news key_cmp (news_of news.now) k) →
         is_listed (lists_of index.new.entries) sub k ≡ true) }
-    ensures told { IfOk result (λ plan.
-        map said messages.new ≡ map said messages.old ++ told_of kept.new.docs (changes_of kept.new.keys plan.items)) }
+    ensures words { OnOk result (AreWords sub kept.old.docs (news_of news.now) texts.now words.new.items) }
+    ensures told { IfOk result (λ plan. said_all (seen_in kept.old.docs) (news_of news.now) words.new.items ≡
+        told_of kept.new.docs (changes_of kept.new.keys plan.items)) }
 {
     let mut plan = Vec::with_capacity(alloc, news.len())?;
     for publish in news {
-        let planned = plan_publish(kept, messages, index, alloc, sub, publish)?;
+        let place = plan.len();
+        let planned = plan_publish(kept, words, index, alloc, sub, publish, texts, place)?;
         plan.push(planned)?;
     }
     Ok(plan)

@@ -1,6 +1,7 @@
 //! The box as a client sees it. Expected messages are written by hand.
 use ejson_value::{Doc, Key, Mem, Publish, Publishes, Text, Value, Whole};
-use merge_box::{DataList, DataMsg, MergeBox};
+use known_texts::KnownTexts;
+use merge_box::{DataMsg, MergeBox, Word, Words};
 use std::alloc::Global;
 use std::test::Fail;
 
@@ -128,25 +129,42 @@ fn news_of(alloc: Global, id: &str, new: Option<Doc>) -> Result<Publishes, Mem> 
     Ok(news)
 }
 
-fn put(merge: &mut MergeBox, alloc: Global, sub: u64, act: &str) -> Result<DataList, Mem> {
+fn apply(
+    merge: &mut MergeBox,
+    alloc: Global,
+    sub: u64,
+    news: &Publishes,
+) -> Result<Words, Mem> {
+    let words = merge.plan(sub, news, &KnownTexts::new(alloc))?;
+    merge.commit();
+    Ok(words)
+}
+
+fn drop_sub(merge: &mut MergeBox, sub: u64) -> Result<Words, Mem> {
+    let words = merge.plan_drop(sub)?;
+    merge.commit();
+    Ok(words)
+}
+
+fn put(merge: &mut MergeBox, alloc: Global, sub: u64, act: &str) -> Result<Words, Mem> {
     let (id, fields) = match act.split_once(" ") {
         None => (act, ""),
         Some((id, fields)) => (id, fields),
     };
     let doc = doc_of(alloc, fields)?;
     let news = news_of(alloc, id, Some(doc))?;
-    merge.apply(sub, &news)
+    apply(merge, alloc, sub, &news)
 }
 
-fn call(merge: &mut MergeBox, alloc: Global, sub: u64, act: &str) -> Result<DataList, Mem> {
+fn call(merge: &mut MergeBox, alloc: Global, sub: u64, act: &str) -> Result<Words, Mem> {
     if act == "drop" {
-        return merge.drop_sub(sub);
+        return drop_sub(merge, sub);
     }
     match act.strip_prefix("gone ") {
         None => put(merge, alloc, sub, act),
         Some(id) => {
             let news = news_of(alloc, id, None)?;
-            merge.apply(sub, &news)
+            apply(merge, alloc, sub, &news)
         }
     }
 }
@@ -200,29 +218,31 @@ fn write_message(out: &mut String, alloc: Global, message: &DataMsg) -> Result<(
 }
 
 // The messages as text, each with a semicolon behind it.
-fn text_of(alloc: Global, messages: &DataList) -> Result<String, Mem> {
+fn text_of(alloc: Global, words: &Words) -> Result<String, Mem> {
     let mut out = String::new(alloc);
-    for message in messages.as_slice() {
-        write_message(&mut out, alloc, message)?;
+    for word in words {
+        match word {
+            Word::Known(_) => out.push_str("known")?,
+            Word::New { message, .. } => write_message(&mut out, alloc, message)?,
+        }
         out.push_str(";")?;
     }
     Ok(out)
 }
 
 fn called(merge: &mut MergeBox, alloc: Global, sub: u64, act: &str) -> Result<String, Mem> {
-    let messages = call(merge, alloc, sub, act)?;
-    text_of(alloc, &messages)
+    let words = call(merge, alloc, sub, act)?;
+    text_of(alloc, &words)
 }
 
 fn planned(merge: &mut MergeBox, alloc: Global, sub: u64) -> Result<String, Mem> {
-    let plan = merge.plan_drop(sub)?;
-    text_of(alloc, plan.messages())
+    let words = merge.plan_drop(sub)?;
+    text_of(alloc, &words)
 }
 
 fn carried_out(merge: &mut MergeBox, alloc: Global, sub: u64) -> Result<String, Mem> {
-    let plan = merge.plan_drop(sub)?;
-    let messages = merge.commit(plan);
-    text_of(alloc, &messages)
+    let words = drop_sub(merge, sub)?;
+    text_of(alloc, &words)
 }
 
 fn shown(merge: &MergeBox, alloc: Global, id: &str) -> Result<String, Mem> {

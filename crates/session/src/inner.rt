@@ -2,6 +2,7 @@
 ghost use Rattle.std.specs.Prelude.{◌≡◌, ◌≤◌, true, false, OnOk, OnErr};
 ghost use Rattle.journal_model.specs.Methods.{is_blocked_by};
 ghost use Rattle.session_parts.specs.Adding.{call_by};
+ghost use Rattle.session_parts.specs.Known.{AreRightBy, AreLearntBy};
 ghost use Rattle.session_laws.specs.Session.{new_session, is_full, is_at_work, tested};
 ghost use Rattle.session.specs.Kept.{seen, IsKept};
 ghost use Rattle.session.specs.Adding.{IsAddedTo, AreAlike, Follows};
@@ -9,6 +10,7 @@ ghost use Rattle.session.specs.Adding.{IsAddedTo, AreAlike, Follows};
 use app_model::App;
 use ejson_value::Mem;
 use json::Scratch;
+use known_texts::KnownTexts;
 use method_queue::MethodQueue;
 use session_laws::EventFault;
 use session_parts::{Addition, News, Parts};
@@ -97,5 +99,24 @@ pub(crate) fn add(inner: &mut Inner, addition: Addition, news: &News<'_>) -> Res
     ensures added { OnOk result (IsAddedTo addition (call_by news.now) inner.old inner.new) }
     ensures same { OnErr result (AreAlike inner.old inner.new) }
 {
-    inner.parts.add(inner.alloc, addition, news)
+    let mut known = KnownTexts::new(inner.alloc);
+    add_known(inner, addition, news, &mut known)
+}
+
+/// The same, by the texts that are known of what is told.
+pub(crate) fn add_known(
+    inner: &mut Inner,
+    addition: Addition,
+    news: &News<'_>,
+    known: &mut KnownTexts,
+) -> Result<(), Mem>
+    requires right { AreRightBy news.now (seen inner.old).carried.box known.old }
+    requires kept { IsKept inner.old }
+    requires room { is_full (seen inner.old) ≡ false }
+    requires follows { Follows addition.step (seen inner.old).carried.own }
+    ensures added { OnOk result (IsAddedTo addition (call_by news.now) inner.old inner.new) }
+    ensures same { OnErr result (AreAlike inner.old inner.new) }
+    ensures learnt { AreLearntBy news.now (seen inner.old).carried.box known.old known.new }
+{
+    inner.parts.add(inner.alloc, addition, news, known)
 }

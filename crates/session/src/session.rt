@@ -7,6 +7,8 @@ ghost use Rattle.session_state.specs.Own.{as_blocking};
 ghost use Rattle.session_state.specs.Subs.{as_live, observers_of};
 ghost use Rattle.session_work.specs.Work.{as_work, work_of, running_from};
 ghost use Rattle.session_journal.specs.Journal.{runs};
+ghost use Rattle.ejson_value.specs.Changes.{news_of};
+ghost use Rattle.session_parts.specs.Known.{AreRight, AreLearnt};
 ghost use Rattle.session.specs.Limits.{is_limited, watched_count};
 ghost use Rattle.session.specs.Lines.{lines_of};
 
@@ -20,6 +22,7 @@ use app_model::App;
 use ejson_value::{Contents, Mem, Publishes, Text};
 use history_log::Batch;
 use json::Scratch;
+use known_texts::KnownTexts;
 use program_steps::Status;
 use selector_match::Steps;
 use session_journal::Line;
@@ -107,11 +110,20 @@ impl Session {
         advance(&mut self.inner, sub, batch, steps)
     }
 
-    /// The subscription goes `count` entries on, by news that were made elsewhere.
-    pub fn feed(&mut self, sub: u64, count: u64, news: &Publishes) -> Result<(), EventFault>
-        ensures { Feeds sub count news.now self.old self.new result }
+    /// The subscription goes `count` entries on, by news that were made elsewhere. Of a document that no
+    /// other subscription publishes it says the text that is known, and makes one known that was not.
+    pub fn feed(
+        &mut self,
+        sub: u64,
+        count: u64,
+        news: &Publishes,
+        known: &mut KnownTexts,
+    ) -> Result<(), EventFault>
+        requires right { AreRight sub self.old.carried.box (news_of news.now) known.old }
+        ensures feeds { Feeds sub count news.now self.old self.new result }
+        ensures learnt { AreLearnt sub self.old.carried.box (news_of news.now) known.old known.new }
     {
-        feed(&mut self.inner, sub, count, news)
+        feed(&mut self.inner, sub, count, news, known)
     }
 
     /// The run of the call of this number has this status at some moment of the store.

@@ -9,13 +9,16 @@ ghost use Rattle.session_state.specs.Subs.{observers_of, observer_at};
 ghost use Rattle.session_laws.specs.Session.{can_load, can_advance, place_on, place_after, HadRoom};
 ghost use Rattle.session_laws.specs.Events.{HasLoaded, HasAdvanced, HasFed, Loads, Advances, Feeds, observer_of};
 ghost use Rattle.session_laws.specs.Showing.{StandsAnywhere};
+ghost use Rattle.ejson_value.specs.Changes.{news_of};
+ghost use Rattle.session_parts.specs.Known.{AreRight, AreLearnt};
 ghost use Rattle.session.specs.Kept.{seen, IsKept};
 ghost use Rattle.session.specs.Limits.{watched_count};
 ghost use Rattle.session.specs.Observed.{IsObserved, committed};
 
-use crate::inner::{Inner, add, is_at_work, test};
+use crate::inner::{Inner, add, add_known, is_at_work, test};
 use ejson_value::{Contents, Mem, Publishes};
 use history_log::Batch;
+use known_texts::KnownTexts;
 use live_observer::{Observer, Plan};
 use publication::query;
 use selector_match::Steps;
@@ -114,11 +117,20 @@ fn place_after(inner: &Inner, sub: u64, count: u64) -> Option<u64>
 }
 
 // Adds the item of a subscription that goes on to a place.
-fn go_on(inner: &mut Inner, sub: u64, count: u64, at: u64, news: &Publishes) -> Result<(), Mem>
+fn go_on(
+    inner: &mut Inner,
+    sub: u64,
+    count: u64,
+    at: u64,
+    news: &Publishes,
+    known: &mut KnownTexts,
+) -> Result<(), Mem>
     requires kept { IsKept inner.old }
     requires can { HadRoom (can_advance sub count (seen inner.old)) (seen inner.old) }
     requires place { place_after sub count (seen inner.old) ≡ Some at }
+    requires right { AreRight sub (seen inner.old).carried.box (news_of news.now) known.old }
     ensures gone { OnOk result (HasFed sub count news.now (seen inner.old) (seen inner.new)) }
+    ensures learnt { AreLearnt sub (seen inner.old).carried.box (news_of news.now) known.old known.new }
     ensures same { OnErr result (seen inner.new ≡ seen inner.old) }
     ensures kept { IsKept inner.new }
 {
@@ -128,7 +140,7 @@ fn go_on(inner: &mut Inner, sub: u64, count: u64, at: u64, news: &Publishes) -> 
         step: Step::Show { sub, at },
         words: Texts::new(inner.alloc),
     };
-    add(inner, addition, &News::Of { sub, news })
+    add_known(inner, addition, &News::Of { sub, news }, known)
 }
 
 // What the subscription's observer tells of the changes.
@@ -180,7 +192,8 @@ fn advance_to<L: Ledger>(
     ensures ticks { steps.new ≤ steps.old + watched_count (observer_of sub (seen inner.old)) * (2 * length batch.now.changes) }
 {
     let (news, plan) = observed(inner, sub, batch, steps)?;
-    go_on(inner, sub, batch.count, at, &news)?;
+    let mut known = KnownTexts::new(inner.alloc);
+    go_on(inner, sub, batch.count, at, &news, &mut known)?;
     commit(&mut inner.parts.own, sub, plan);
     Ok(())
 }
@@ -221,16 +234,19 @@ pub(crate) fn feed(
     sub: u64,
     count: u64,
     news: &Publishes,
+    known: &mut KnownTexts,
 ) -> Result<(), EventFault>
-    requires { IsKept inner.old }
+    requires kept { IsKept inner.old }
+    requires right { AreRight sub (seen inner.old).carried.box (news_of news.now) known.old }
     ensures feeds { Feeds sub count news.now (seen inner.old) (seen inner.new) result }
+    ensures learnt { AreLearnt sub (seen inner.old).carried.box (news_of news.now) known.old known.new }
     ensures kept { IsKept inner.new }
 {
     know_observer(inner, sub);
     let place = place_after(inner, sub, count);
     test(inner, place.is_some())?;
     match place {
-        Some(at) => Ok(go_on(inner, sub, count, at, news)?),
+        Some(at) => Ok(go_on(inner, sub, count, at, news, known)?),
         None => Err(EventFault::Idle),
     }
 }

@@ -1,5 +1,5 @@
 -- What the texts of messages about documents say.
-use Rattle.std.proofs.Common.{◌≡◌, List, [], ◌∷◌, map, refl, ap₂}
+use Rattle.std.proofs.Common.{◌≡◌, List, [], ◌∷◌, map, refl, ap}
 use Rattle.map_model.specs.Differences.{diff}
 use Rattle.map_model.specs.DifferenceLaws.{one_diff, diff_is}
 use Rattle.map_model.specs.MapLaws.{sorted-filter_map_entries}
@@ -15,15 +15,16 @@ use Rattle.journal_model.specs.Texts.{server_text}
 use Rattle.journal_model.specs.Shown.{difference}
 use Rattle.journal_model.specs.Out.{about}
 use Rattle.session_texts.specs.Said.{data_text}
+use Rattle.session_parts.specs.Known.{text_about}
 
-text_is : (m : DataMsg) → data_text m ≡ server_text (about (said m))
+pub text_is : (m : DataMsg) → data_text m ≡ server_text (about (said m))
 text_is (message.Added key fields) = refl
 text_is (message.Changed key fields cleared) = refl
 text_is (message.Removed key) = refl
 
-pub texts_are : (ms : List DataMsg) → map data_text ms ≡ map server_text (map about (map said ms))
+pub texts_are : (told : Told) → map text_about told ≡ map server_text (map about told)
 texts_are [] = refl
-texts_are (m ∷ ms) = ap₂ (λ t ts. t ∷ ts) (text_is m) (texts_are ms)
+texts_are (t ∷ told) = ap (λ ts. text_about t ∷ ts) (texts_are told)
 
 -- what is told is the difference of what a client sees of the two boxes
 pub told_is : (old new : KeptDocs) (messages : Told) → IsBox new → Tells old new messages → messages ≡ difference (merged old) (merged new)

@@ -1,2 +1,3 @@
+pub mod Known
 pub mod Adding
 pub mod Parts

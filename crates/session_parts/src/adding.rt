@@ -1,16 +1,20 @@
 //! One more item: its texts, and what it makes of the parts of a session.
-ghost use Rattle.std.specs.Prelude.{◌≡◌, ◌++◌, map, IfOk, OnOk, OnErr, None};
-ghost use Rattle.merge_box.specs.State.{IsPlan};
+ghost use Rattle.std.specs.Prelude.{◌≡◌, ◌++◌, ℕ, map, option_map, IfOk, OnOk, OnErr, None};
+ghost use Rattle.merge_box.specs.State.{KeptDocs, IsPlan};
 ghost use Rattle.session_relation.specs.Fired.{unfired};
 ghost use Rattle.session_texts.specs.Said.{data_text};
 ghost use Rattle.session_state.specs.declared.own.Step.TheVariants as step;
+ghost use Rattle.known_texts.specs.Places.{Texts};
+ghost use Rattle.merge_box.specs.Words.{NewsList, seen_in, said_by, said_all, IsWord, AreWords};
 ghost use Rattle.session_parts.specs.Adding.{call_by, armed_by, CanArm, updated_text};
+ghost use Rattle.session_parts.specs.Known.{text_about, AreRight, AreLearnt, sub_by, news_by, known_by, kept_text};
 
 use ejson_value::{DataMsg, Mem, Names, Publishes, Text};
-use merge_box::{MergeBox, MergePlan};
+use known_texts::KnownTexts;
+use merge_box::{MergeBox, Word, Words};
 use session_relation::Stored;
 use session_state::{Progress, Step};
-use session_texts::{Texts, data_texts, updated_text};
+use session_texts::{Texts, data_text, updated_text};
 use std::alloc::Global;
 use write_fence::Fences;
 
@@ -57,14 +61,17 @@ pub(crate) fn plan_of(
     shown: &mut MergeBox,
     alloc: Global,
     news: &News<'_>,
-) -> Result<MergePlan, Mem>
+    known: &KnownTexts,
+) -> Result<Words, Mem>
     ensures same { shown.new.kept ≡ shown.old.kept }
-    ensures planned { IfOk result (λ plan. IsPlan (call_by news.now) shown.new plan) }
+    ensures planned { IfOk result (λ plan. IsPlan (call_by news.now) shown.new
+        (said_all (seen_in shown.old.kept) (news_by news.now) plan.items)) }
+    ensures words { IfOk result (λ plan. AreWords (sub_by news.now) shown.old.kept (news_by news.now) (known_by news.now known.now) plan.items) }
     ensures err { OnErr result (shown.new ≡ shown.old) }
 {
     match news {
-        News::Nothing => shown.plan(0, &Publishes::new(alloc)),
-        News::Of { sub, news } => shown.plan(*sub, news),
+        News::Nothing => shown.plan(0, &Publishes::new(alloc), &KnownTexts::new(alloc)),
+        News::Of { sub, news } => shown.plan(*sub, news, known),
         News::Gone { sub } => shown.plan_drop(*sub),
     }
 }
@@ -79,17 +86,79 @@ fn push_updateds(alloc: Global, texts: &mut Texts, ids: &Names) -> Result<(), Me
     Ok(())
 }
 
+// The text of a message, which is kept where there is a place for it.
+fn new_text(
+    alloc: Global,
+    known: &mut KnownTexts,
+    message: &DataMsg,
+    at: Option<usize>,
+) -> Result<Text, Mem>
+    ensures text { IfOk result (λ text. text ≡ data_text message.now) }
+    ensures kept { OnOk result (known.new ≡ kept_text at (data_text message.now) known.old) }
+    ensures err { OnErr result (known.new ≡ known.old) }
+{
+    let text = data_text(alloc, message)?;
+    if let Some(place) = at {
+        known.put(place, text.copy()?);
+    }
+    Ok(text)
+}
+
+// The text of a word, if it has one.
+fn word_text(
+    alloc: Global,
+    known: &mut KnownTexts,
+    word: &Word,
+) -> Result<Option<Text>, Mem>
+    ensures text { (sub : ℕ) (box : KeptDocs) (news : NewsList) (before : Texts) → AreRight sub box news before →
+        AreLearnt sub box news before known.old → IsWord sub box news before word.now →
+        IfOk result (λ text. text ≡ option_map text_about (said_by (seen_in box) news word.now)) }
+    ensures learnt { (sub : ℕ) (box : KeptDocs) (news : NewsList) (before : Texts) → AreLearnt sub box news before known.old →
+        IsWord sub box news before word.now → AreLearnt sub box news before known.new }
+{
+    match word {
+        Word::Known(place) => match known.get(*place) {
+            Some(text) => Ok(Some(text.copy()?)),
+            None => Ok(None),
+        },
+        Word::New { message, at } => Ok(Some(new_text(alloc, known, message, *at)?)),
+    }
+}
+
+// The texts of what a client is told of documents.
+fn word_texts(alloc: Global, known: &mut KnownTexts, plan: &[Word]) -> Result<Texts, Mem>
+    ensures texts { (sub : ℕ) (box : KeptDocs) (news : NewsList) → AreRight sub box news known.old →
+        AreWords sub box news known.old plan.now →
+        IfOk result (λ texts. texts.items ≡ map text_about (said_all (seen_in box) news plan.now)) }
+    ensures learnt { (sub : ℕ) (box : KeptDocs) (news : NewsList) → AreRight sub box news known.old →
+        AreWords sub box news known.old plan.now → AreLearnt sub box news known.old known.new }
+{
+    let mut texts = Texts::new(alloc);
+    texts.reserve(plan.len())?;
+    for word in plan {
+        if let Some(text) = word_text(alloc, known, word)? {
+            texts.push_back(text)?;
+        }
+    }
+    Ok(texts)
+}
+
 /// The texts of an item: those about documents, what it says itself, and an `updated` for each call
 /// whose fence is open then.
 pub(crate) fn texts_of(
     alloc: Global,
-    messages: &[DataMsg],
+    known: &mut KnownTexts,
+    plan: &[Word],
     words: &mut Texts,
     updated: &Names,
 ) -> Result<Texts, Mem>
-    ensures { IfOk result (λ texts. texts.items ≡ map data_text messages.now ++ (words.old.items ++ map updated_text updated.now)) }
+    ensures texts { (sub : ℕ) (box : KeptDocs) (news : NewsList) → AreRight sub box news known.old →
+        AreWords sub box news known.old plan.now →
+        IfOk result (λ texts. texts.items ≡ map text_about (said_all (seen_in box) news plan.now) ++ (words.old.items ++ map updated_text updated.now)) }
+    ensures learnt { (sub : ℕ) (box : KeptDocs) (news : NewsList) → AreRight sub box news known.old →
+        AreWords sub box news known.old plan.now → AreLearnt sub box news known.old known.new }
 {
-    let mut texts = data_texts(alloc, messages)?;
+    let mut texts = word_texts(alloc, known, plan)?;
     texts.append(words)?;
     push_updateds(alloc, &mut texts, updated)?;
     Ok(texts)

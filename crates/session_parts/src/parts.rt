@@ -1,15 +1,19 @@
 //! The parts of a session that an item changes.
-ghost use Rattle.std.specs.Prelude.{◌≡◌, ◌<◌, ◌≤◌, ◌+◌, length, IfOk, OnOk, OnErr, IsTrue};
+ghost use Rattle.std.specs.Prelude.{◌≡◌, ◌<◌, ◌≤◌, ◌+◌, ◌++◌, ℕ, length, map, IfOk, OnOk, OnErr, IsTrue};
 ghost use Rattle.std.specs.VecDeque.{deque_len, deque_capacity};
 ghost use Rattle.session_journal.specs.Journal.{max_items};
 ghost use Rattle.session_state.specs.Own.{as_state, stepped, told_with, CanStep, HasRoom, SameOwn};
 ghost use Rattle.session_state.specs.Progress.{progress_of};
-ghost use Rattle.session_parts.specs.Adding.{call_by, CanArm, texts_with};
+ghost use Rattle.merge_box.specs.State.{KeptDocs};
+ghost use Rattle.merge_box.specs.Words.{NewsList, seen_in, said_all, AreWords};
+ghost use Rattle.session_parts.specs.Adding.{call_by, CanArm, updated_text};
+ghost use Rattle.session_parts.specs.Known.{text_about, AreRight, AreLearnt, AreRightBy, AreLearntBy};
 ghost use Rattle.session_parts.specs.Parts.{IsNew, HasGained, AreSame};
 
 use crate::adding::{Addition, News, arm, fire_all, plan_of, texts_of};
-use ejson_value::{DataMsg, Mem};
-use merge_box::MergeBox;
+use ejson_value::Mem;
+use known_texts::KnownTexts;
+use merge_box::{MergeBox, Word};
 use session_journal::{Journal, Line};
 use session_state::{Own, Progress, Step};
 use session_texts::Texts;
@@ -31,17 +35,22 @@ pub struct Parts {
 fn texts_with(
     alloc: Global,
     own: &Own,
-    messages: &[DataMsg],
+    known: &mut KnownTexts,
+    plan: &[Word],
     words: &mut Texts,
     step: &Step,
     progress: &Progress,
 ) -> Result<Texts, Mem>
     requires can { CanStep step.now (as_state own.now) }
     requires progress { progress.now ≡ progress_of (stepped step.now (as_state own.now)).subs }
-    ensures { IfOk result (λ texts. texts.items ≡ texts_with messages.now words.old.items (told_with step.now (as_state own.now))) }
+    ensures texts { (sub : ℕ) (box : KeptDocs) (news : NewsList) → AreRight sub box news known.old →
+        AreWords sub box news known.old plan.now →
+        IfOk result (λ texts. texts.items ≡ map text_about (said_all (seen_in box) news plan.now) ++ (words.old.items ++ map updated_text (told_with step.now (as_state own.now)))) }
+    ensures learnt { (sub : ℕ) (box : KeptDocs) (news : NewsList) → AreRight sub box news known.old →
+        AreWords sub box news known.old plan.now → AreLearnt sub box news known.old known.new }
 {
     let updated = own.told(alloc, step, progress)?;
-    let texts = texts_of(alloc, messages, words, &updated)?;
+    let texts = texts_of(alloc, known, plan, words, &updated)?;
     Ok(texts)
 }
 
@@ -87,13 +96,21 @@ impl Parts {
 
     /// Adds an item: the texts of what is shown otherwise, the item's words, and an `updated` for
     /// each call whose fence is open then are to be sent.
-    pub fn add(&mut self, alloc: Global, addition: Addition, news: &News<'_>) -> Result<(), Mem>
+    pub fn add(
+        &mut self,
+        alloc: Global,
+        addition: Addition,
+        news: &News<'_>,
+        known: &mut KnownTexts,
+    ) -> Result<(), Mem>
         requires few { length self.old.journal.lines < max_items }
         requires opened { self.old.own.opened < max_items }
         requires steps { CanStep addition.step (as_state self.old.own) }
         requires arms { CanArm addition.step self.old.fences }
+        requires right { AreRightBy news.now self.old.shown.kept known.old }
         ensures gained { OnOk result (HasGained addition (call_by news.now) (stepped addition.step (as_state self.old.own)) self.old self.new) }
         ensures same { OnErr result (AreSame self.old self.new) }
+        ensures learnt { AreLearntBy news.now self.old.shown.kept known.old known.new }
     {
         let Addition {
             item,
@@ -104,11 +121,12 @@ impl Parts {
         self.shown.known();
         self.fences.known();
         let progress = self.own.progress_after(&step);
-        let plan = plan_of(&mut self.shown, alloc, news)?;
+        let plan = plan_of(&mut self.shown, alloc, news, known)?;
         let mut texts = texts_with(
             alloc,
             &self.own,
-            plan.messages().as_slice(),
+            known,
+            plan.as_slice(),
             &mut words,
             &step,
             &progress,
@@ -116,7 +134,7 @@ impl Parts {
         let count = count_of(&texts);
         reserve(&mut self.own, &mut self.outbox, &mut self.journal, count)?;
         arm(&mut self.fences, &step)?;
-        let _messages = self.shown.commit(plan);
+        self.shown.commit();
         self.shown.known();
         self.outbox.append(&mut texts).unwrap();
         self.journal.push(Line { item, id }, count);

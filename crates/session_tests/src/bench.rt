@@ -6,6 +6,7 @@ use crate::looks::{limits_told, live_told, work_told};
 use crate::moments::{Moments, app, halves, news, number, value};
 use ejson_codec::Lines;
 use ejson_value::{Fault, Text};
+use known_texts::KnownTexts;
 use program_steps::{End, Outcome, Status};
 use selector_match::Steps;
 use session::{Batch, EventFault, Place, Session};
@@ -214,7 +215,7 @@ impl Bench {
         let (sub, rest) = halves(rest, " ")?;
         let (count, rest) = halves(rest, " ")?;
         let (sub, count) = (number(sub)?, number(count)?);
-        word(self.session.feed(sub, count, &news(alloc, rest)?))
+        word(self.session.feed(sub, count, &news(alloc, rest)?, &mut KnownTexts::new(alloc)))
     }
 
     // The run of the call has ended with a result, or without one.

@@ -7,7 +7,7 @@ mod taking;
 
 pub use publications::making;
 pub use said::{
-    Texts, answer_texts, data_texts, error_of, nosub_text, ready_text, refused_texts, result_text,
+    Texts, answer_texts, data_text, error_of, nosub_text, ready_text, refused_texts, result_text,
     session_name, unknown_texts, updated_text,
 };
 pub use taking::{Answer, Taken, taken_from};

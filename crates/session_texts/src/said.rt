@@ -211,20 +211,9 @@ pub fn refused_texts(alloc: Global, id: &Text) -> Result<Texts, Mem>
     both_texts(alloc, id, fault)
 }
 
-// The text of a message about a document.
-fn data_text(alloc: Global, message: &DataMsg) -> Result<Text, Mem>
+/// The text of a message about a document.
+pub fn data_text(alloc: Global, message: &DataMsg) -> Result<Text, Mem>
     ensures { IfOk result (λ text. text ≡ data_text message.now) }
 {
     ddp_messages::data_text(alloc, message)
-}
-
-/// The texts of messages about documents.
-pub fn data_texts(alloc: Global, messages: &[DataMsg]) -> Result<Texts, Mem>
-    ensures { IfOk result (λ texts. texts.items ≡ map data_text messages.now) }
-{
-    let mut texts = Texts::new(alloc);
-    for message in messages {
-        texts.push_back(data_text(alloc, message)?)?;
-    }
-    Ok(texts)
 }

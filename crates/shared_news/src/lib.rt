@@ -9,3 +9,4 @@ mod params;
 mod source;
 
 pub use news::SharedNews;
+pub use source::Span;

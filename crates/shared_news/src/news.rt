@@ -9,8 +9,8 @@ ghost use Rattle.shared_news.specs.Leading.{IsLead};
 ghost use Rattle.shared_news.specs.Telling.{CursorsAt, nothing_told, batch_of, IsTold, AreTold, IsSource};
 ghost use Rattle.shared_news.specs.Sources.{IsPlaceOf, LeadsBy};
 
-use crate::source::Source;
-use ejson_value::{Mem, Publishes};
+use crate::source::{Source, Span};
+use ejson_value::Mem;
 use history_log::Batch;
 use live_observer::Observer;
 use session_state::Sub;
@@ -73,13 +73,13 @@ fn span_at(
     observer: &Observer,
     from: u64,
     until: u64,
-) -> Result<Option<Arc<Publishes>>, Mem>
+) -> Result<Option<Span>, Mem>
     requires place { IsPlaceOf sources.old.items sub.now place }
     requires observer { sub.now.observer ≡ Some observer.now }
     requires order { from ≤ until }
     requires within { until ≤ length machine.now.history }
     ensures told { (cursors_at : CursorsAt) → AllByRecursion (IsTold cursors_at (programs machine.now.app) machine.now.history) sources.old.items → IsSource cursors_at sub.now →
-        IfOk result (λ answer. IfSome answer (λ told. LeadsBy sub.now.cursors machine.now from until (arc_value told))) }
+        IfOk result (λ answer. IfSome answer (λ told. LeadsBy sub.now.cursors machine.now from until told.told)) }
     ensures keeps { (cursors_at : CursorsAt) → AllByRecursion (IsTold cursors_at (programs machine.now.app) machine.now.history) sources.old.items → IsSource cursors_at sub.now →
         AllByRecursion (IsTold cursors_at (programs machine.now.app) machine.now.history) sources.new.items }
 {
@@ -89,6 +89,12 @@ fn span_at(
             Ok(Some(told))
         }
         None => Ok(None),
+    }
+}
+
+fn learn_at(sources: &mut Vec<Source>, place: usize, span: Span) {
+    if let Some(source) = sources.get_mut(place) {
+        source.learn(span);
     }
 }
 
@@ -182,12 +188,12 @@ impl SharedNews {
         observer: &Observer,
         from: u64,
         until: u64,
-    ) -> Result<Option<Arc<Publishes>>, Mem>
+    ) -> Result<Option<Span>, Mem>
         requires observer { sub.now.observer ≡ Some observer.now }
         requires order { from ≤ until }
         requires within { until ≤ length machine.now.history }
         ensures told { (cursors_at : CursorsAt) → AreTold cursors_at machine.now self.old → IsSource cursors_at sub.now →
-            IfOk result (λ answer. IfSome answer (λ told. LeadsBy sub.now.cursors machine.now from until (arc_value told))) }
+            IfOk result (λ answer. IfSome answer (λ told. LeadsBy sub.now.cursors machine.now from until told.told)) }
         ensures keeps { (cursors_at : CursorsAt) → AreTold cursors_at machine.now self.old → IsSource cursors_at sub.now → AreTold cursors_at machine.now self.new }
     {
         let place = self.place(sub, from)?;
@@ -211,17 +217,24 @@ impl SharedNews {
         sub: &Sub,
         from: u64,
         count: u64,
-    ) -> Result<Option<Arc<Publishes>>, Mem>
+    ) -> Result<Option<Span>, Mem>
         requires { from + count ≤ length machine.now.history }
         ensures told { (cursors_at : CursorsAt) → AreTold cursors_at machine.now self.old → IsSource cursors_at sub.now →
             IfOk result (λ answer. IfSome answer (λ told.
-            IsLead (published sub.now.cursors (held_after machine.now from).rows) (published sub.now.cursors (held_after machine.now (from + count)).rows) (news_of (arc_value told)))) }
+            IsLead (published sub.now.cursors (held_after machine.now from).rows) (published sub.now.cursors (held_after machine.now (from + count)).rows) (news_of told.told))) }
         ensures keeps { (cursors_at : CursorsAt) → AreTold cursors_at machine.now self.old → IsSource cursors_at sub.now → AreTold cursors_at machine.now self.new }
     {
         machine.length();
         match &sub.observer {
             Some(observer) => self.told(machine, sub, observer, from, from + count),
             None => Ok(None),
+        }
+    }
+
+    /// The span of the subscription's publication, with the texts that are known now, is kept.
+    pub fn learn(&mut self, sub: &Sub, span: Span) {
+        if let Some(place) = place_of(self.sources.as_slice(), sub) {
+            learn_at(&mut self.sources, place, span);
         }
     }
 }

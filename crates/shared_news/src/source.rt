@@ -10,6 +10,7 @@ use crate::joining::joined;
 use crate::observing::observed;
 use crate::params::same_params;
 use ejson_value::{Items, Mem, Publishes, Text};
+use known_texts::KnownTexts;
 use live_observer::Observer;
 use session_state::Sub;
 use std::alloc::Global;
@@ -23,12 +24,17 @@ const MAX_ENTRIES: usize = 256;
 /// How many entries a span has at most that is put together of them.
 const MAX_SPAN: u64 = 64;
 
-/// What is told of the entries between two places.
+/// What is told of the entries between two places: the news, and the texts of them that clients were
+/// told before.
 #[derive(Drop)]
-pub(crate) struct Span {
+pub struct Span {
     from: u64,
     until: u64,
-    told: Arc<Publishes>,
+    /// By key, each key of which the entries say something, with the document that is published then or
+    /// none.
+    pub told: Arc<Publishes>,
+    /// The texts that are known, each by the place of its publish.
+    pub texts: KnownTexts,
 }
 
 /// What a publication, called with its parameters, tells of entries of a history, one after another, and
@@ -230,43 +236,34 @@ impl Source {
         }
     }
 
-    // What is told of the span, where it was asked for last.
-    fn known(&self, from: u64, until: u64) -> Result<Option<Arc<Publishes>>, Mem>
-        ensures { IfOk result (λ answer. IfSome answer (λ told. self.now.last ≡ Some (record { from = from; until = until; told = arc_value told }))) }
+    // What is told of the span, where it was learnt last. It is taken out.
+    fn known(&mut self, from: u64, until: u64) -> Option<Span>
+        ensures known { IfSome result (λ span. self.old.last ≡ Some span) }
+        ensures kept { IsAlike self.old self.new }
     {
         match &self.last {
-            Some(last) if is_between(last, from, until) => Ok(Some(Arc::try_clone(&last.told)?)),
-            _ => Ok(None),
+            Some(last) if is_between(last, from, until) => self.last.take(),
+            _ => None,
         }
     }
 
-    // The span is the one that was asked for last.
-    fn remember(&mut self, from: u64, until: u64, told: &Arc<Publishes>) -> Result<(), Mem>
-        ensures ok { OnOk result (self.new ≡ with_last self.old from until (arc_value told.now)) }
-        ensures err { OnErr result (self.new ≡ self.old) }
-    {
-        let told = Arc::try_clone(told)?;
-        self.last = Some(Span { from, until, told });
-        Ok(())
-    }
-
-    // What is told of a span that was not asked for last.
-    fn learnt(
+    // What is told of a span that was not asked for last: no text of it is known.
+    fn fresh(
         &mut self,
         machine: &Machine,
         observer: &Observer,
         from: u64,
         until: u64,
-    ) -> Result<Arc<Publishes>, Mem>
-        requires order { from ≤ until }
-        requires within { until ≤ length machine.now.history }
-        ensures same { IsAlike self.old self.new }
-        ensures keeps { HaveNoLimit (cursors_of observer.now) → IsToldBy (cursors_of observer.now) machine.now self.old → IsToldBy (cursors_of observer.now) machine.now self.new }
-        ensures told { HaveNoLimit (cursors_of observer.now) → IsToldBy (cursors_of observer.now) machine.now self.old → IfOk result (λ told. LeadsBy (cursors_of observer.now) machine.now from until (arc_value told)) }
+    ) -> Result<Span, Mem>
     {
         let told = self.made(machine, observer, from, until)?;
-        self.remember(from, until, &told)?;
-        Ok(told)
+        let texts = KnownTexts::places(self.allocator(), told.len())?;
+        Ok(Span {
+            from,
+            until,
+            told,
+            texts,
+        })
     }
 
     /// What is told of the entries between the places, to an observer of the publication.
@@ -276,16 +273,19 @@ impl Source {
         observer: &Observer,
         from: u64,
         until: u64,
-    ) -> Result<Arc<Publishes>, Mem>
+    ) -> Result<Span, Mem>
         requires order { from ≤ until }
         requires within { until ≤ length machine.now.history }
-        ensures same { IsAlike self.old self.new }
-        ensures keeps { HaveNoLimit (cursors_of observer.now) → IsToldBy (cursors_of observer.now) machine.now self.old → IsToldBy (cursors_of observer.now) machine.now self.new }
-        ensures told { HaveNoLimit (cursors_of observer.now) → IsToldBy (cursors_of observer.now) machine.now self.old → IfOk result (λ told. LeadsBy (cursors_of observer.now) machine.now from until (arc_value told)) }
     {
-        match self.known(from, until)? {
-            Some(told) => Ok(told),
-            None => self.learnt(machine, observer, from, until),
+        match self.known(from, until) {
+            Some(span) => Ok(span),
+            None => self.fresh(machine, observer, from, until),
         }
+    }
+
+    /// The span, with the texts that are known now, is kept.
+    pub(crate) fn learn(&mut self, span: Span)
+    {
+        self.last = Some(span);
     }
 }

@@ -1,6 +1,5 @@
-use Rattle.std.proofs.Common.{IfOk, map, unwrap_or, ap, sym, subst, ◌∙◌}
+use Rattle.std.proofs.Common.{IfOk, unwrap_or, ap, sym, subst, ◌∙◌}
 use Rattle.merge_model.specs.Kept.{has, nothing_kept}
-use Rattle.ejson_value.specs.Messages.{said}
 use Rattle.kept_document.specs.Held.{KeptDoc}
 use Rattle.slab.specs.Slab.{with_value}
 use Rattle.merge_box.specs.Index.{lists_of}
@@ -30,5 +29,5 @@ pub returns-clause-planned : goal.returns-clause-planned
 returns-clause-planned c =
     let written = held_written c.kept.inside.places.entries c.kept.inside.slots c.kept.invariant c.args.slot c.index_mut-slot.result.now c.plan_held.new.held c.args.kept.now c.args.publish.now.key
     c.index_mut-slot.ensures.value c.kept.view_is c.requires.slot in
-    subst (λ e. IfOk c.plan_held.result (IsNext c.args.sub c.args.publish.now.key c.args.publish.now.new e (lists_of c.plan_held.new.index.entries) (map said c.args.messages.now) (map said c.plan_held.new.messages)))
+    subst (λ e. IfOk c.plan_held.result (IsNext c.args.sub c.args.texts.now c.args.place c.args.publish.now.key c.args.publish.now.new e (lists_of c.plan_held.new.index.entries) c.args.words.now.items c.plan_held.new.words.items))
     (sym (ap (λ x. unwrap_or x nothing_kept) written.after)) c.plan_held.ensures.planned

@@ -1,8 +1,9 @@
 use Rattle.std.proofs.Common.{◌≡◌, ◌∷◌, [], ◌++◌, List, ℕ, length, map, ap, ap₂, sym, subst, ◌∙◌}
 use Rattle.std.specs.Prelude.{is_ok, if◌then◌else◌}
 use Rattle.merge_model.specs.Kept.{merged}
-use Rattle.ejson_value.specs.Messages.{said}
+use Rattle.known_texts.specs.Places.{Texts}
 use Rattle.merge_box.specs.State.{KeptDocs, Told, IsBoxAfter, Tells}
+use Rattle.merge_box.specs.Words.{seen_in, said_all, AreWords}
 use Rattle.journal_model.specs.State.{State}
 use Rattle.journal_model.specs.Texts.{server_text}
 use Rattle.journal_model.specs.Shown.{difference}
@@ -14,6 +15,8 @@ use Rattle.session_journal.specs.Journal.{AJournal}
 use Rattle.session_state.specs.declared.progress.Progress.{Progress}
 use Rattle.session_state.specs.Own.{as_state, stepped, told_with, observers_after}
 use Rattle.session_parts.specs.Adding.{call_by, armed_by, updated_text}
+use Rattle.session_parts.specs.Known.{sub_by, news_by, AreLearntBy}
+use Rattle.session_parts.proofs.Known.{all_known, nothing_learnt}
 use Rattle.session_parts.specs.Parts.{gained_texts, line_of}
 use Rattle.session_parts.proofs.Said.{texts_are, told_is}
 use Rattle.session_parts.proofs.parts.Parts.add.Goals as goal
@@ -27,14 +30,17 @@ returns-clause-gained c =
     let state = stepped step st in
     let words = c.args.addition.words.items in
     let planned = c.in_ok-plan.ensures.planned in
-    let kept = c.commit-messages.new.self.kept in
+    let kept = c.commit.new.self.kept in
     let after : IsBoxAfter call old.shown.kept kept =
-    subst (λ (n : KeptDocs). IsBoxAfter call old.shown.kept n) (sym c.commit-messages.ensures.kept) (subst (λ (o : KeptDocs). IsBoxAfter call o c.plan_of.new.shown.planned) c.plan_of.ensures.same planned.after) in
-    let tells : Tells old.shown.kept kept c.in_ok-plan.plan =
-    subst (λ (n : KeptDocs). Tells old.shown.kept n c.in_ok-plan.plan) (sym c.commit-messages.ensures.kept) (subst (λ (o : KeptDocs). Tells o c.plan_of.new.shown.planned c.in_ok-plan.plan) c.plan_of.ensures.same planned.told) in
-    let messages : map said c.messages.result.now ≡ difference (merged old.shown.kept) (merged kept) = c.messages.ensures ∙ told_is old.shown.kept kept c.in_ok-plan.plan c.known-3.ensures.kept tells in
+    subst (λ (n : KeptDocs). IsBoxAfter call old.shown.kept n) (sym c.commit.ensures.kept) (subst (λ (o : KeptDocs). IsBoxAfter call o c.plan_of.new.shown.planned) c.plan_of.ensures.same planned.after) in
+    let told = said_all (seen_in old.shown.kept) (news_by c.args.news.now) c.in_ok-plan.plan.items in
+    let tells : Tells old.shown.kept kept told =
+    subst (λ (n : KeptDocs). Tells old.shown.kept n told) (sym c.commit.ensures.kept) (subst (λ (o : KeptDocs). Tells o c.plan_of.new.shown.planned told) c.plan_of.ensures.same planned.told) in
+    let right = c.requires.right in
+    let are = subst (λ (ts : Texts). AreWords (sub_by c.args.news.now) old.shown.kept (news_by c.args.news.now) ts c.in_ok-plan.plan.items) (all_known c.args.news.now old.shown.kept c.args.known.now right) c.in_ok-plan.ensures.words in
     let texts : c.in_ok-texts.texts.items ≡ gained_texts state words old.shown.kept kept =
-    c.in_ok-texts.ensures ∙ ap (λ (ts : List (List ℕ)). ts ++ (words ++ map updated_text (told_with step st))) (texts_are c.as_slice.result.now ∙ ap (λ (ms : Told). map server_text (map about ms)) (ap (map said) c.as_slice.ensures ∙ messages)) in
+    c.in_ok-texts.ensures.texts (sub_by c.args.news.now) old.shown.kept (news_by c.args.news.now) right are
+    ∙ ap (λ (ts : List (List ℕ)). ts ++ (words ++ map updated_text (told_with step st))) (texts_are told ∙ ap (λ (ms : Told). map server_text (map about ms)) (told_is old.shown.kept kept told c.known-3.ensures.kept tells)) in
     let with_texts : List (List ℕ) → List (List ℕ) = λ xs. xs ++ c.in_ok-texts.texts.items in
     record {
       lines = ap (λ (j : AJournal). j.lines) c.push.ensures ∙ ap (λ (ls : List Line). ls ++ line_of c.args.addition ∷ []) c.reserve.ensures.lines;
@@ -47,3 +53,14 @@ returns-clause-gained c =
       whole = c.known-3.ensures.kept;
       rising = c.known-2.ensures;
     }
+
+-- what is learnt of the texts, also where memory ends after them
+pub returns-clause-learnt : goal.returns-clause-learnt
+returns-clause-learnt c =
+    let old = c.args.self.now in
+    let handed = c.args.news.now in
+    c.in_ok-texts.ensures.learnt (sub_by handed) old.shown.kept (news_by handed) c.requires.right
+    (subst (λ (ts : Texts). AreWords (sub_by handed) old.shown.kept (news_by handed) ts c.in_ok-plan.plan.items) (all_known handed old.shown.kept c.args.known.now c.requires.right) c.in_ok-plan.ensures.words)
+
+pub returns-in_err-plan-clause-learnt : goal.returns-in_err-plan-clause-learnt
+returns-in_err-plan-clause-learnt c = nothing_learnt (sub_by c.args.news.now) c.args.self.now.shown.kept (news_by c.args.news.now) c.args.known.now c.requires.right
