@@ -1,5 +1,5 @@
 -- What the steps of a stub left so far, kept beside the view that they work on.
-use Rattle.std.specs.Prelude.{◌≡◌, ℕ, ◌+◌, Bool, true, false, not, ◌&&◌, ◌||◌, nat_lt, List, [], ◌∷◌, ◌++◌, length, map, filter, Option, Some, None, is_some, is_none, option_and_then}
+use Rattle.std.specs.Prelude.{◌≡◌, ℕ, ◌+◌, Bool, true, false, not, ◌&&◌, ◌||◌, nat_lt, List, [], ◌∷◌, ◌++◌, length, map, filter, Option, Some, None, is_some, is_none, option_map, option_and_then}
 use Rattle.std.specs.List.{list_any}
 use Rattle.std.specs.Ordering.{eq_by_cmp}
 use Rattle.std.specs.BTreeMap.{insert_entry}
@@ -18,10 +18,12 @@ use Rattle.collection_store.specs.Applied.{matching}
 use Rattle.program_steps.specs.declared.step.ProgramStep.{ProgramStep}
 use Rattle.program_steps.specs.declared.step.ProgramStep.TheVariants as step
 use Rattle.program_steps.specs.Template.{filled}
+use Rattle.program_steps.specs.Runs.{outcome_view}
 use Rattle.program_model.specs.Run.{if_ok}
-use Rattle.program_model.specs.Steps.{Stepped}
+use Rattle.program_model.specs.Steps.{Stepped, stepped, client_setting}
 use Rattle.program_run.specs.declared.run.Effect.{Effect}
 use Rattle.program_run.specs.Progress.{Progress, run_of}
+use Rattle.program_run.specs.Planned.{stepped_as}
 use Rattle.stub_simulation.specs.declared.draft.Draft.{Draft}
 use Rattle.stub_simulation.specs.declared.fitting.Totals.{Totals}
 use Rattle.stub_simulation.specs.Simulating.{keys_put, each_once, changed_keys}
@@ -62,6 +64,14 @@ IsWindow params made rows (step.Update collection selector modifier all) window 
 IsWindow params made rows (step.Remove collection selector) window = IsFoundBy (selector_by params made selector) collection rows window
 IsWindow params made rows (step.Require collection selector fault) window = IsFoundBy (selector_by params made selector) collection rows window
 IsWindow params made rows _ window = window ≡ []
+
+-- the step was made over the documents that it looks at
+pub record IsMade (names : List (List ℕ)) (params : List Val) (steps : List ProgramStep) (view : Rows) (draft : Draft) (s : ProgramStep) (run next : Progress) (effect : Effect) : Type 0 where
+  pub window : Rows
+  pub looks : IsWindow params draft.made (shown_by view draft) s window
+  pub left : Rows
+  pub does : stepped (client_setting names) window (run_of steps run) ≡ stepped_as left effect (run_of steps next)
+  pub told : option_map outcome_view effect.outcome ≡ next.outcome
 
 -- ---- whether it is taken
 

@@ -3,7 +3,9 @@ ghost use Rattle.std.specs.Prelude.{◌≡◌, [], map, length, IfOk};
 ghost use Rattle.std.specs.Option.{option_copied};
 ghost use Rattle.map_model.specs.Maps.{at};
 ghost use Rattle.ejson_value.specs.Key.{key_cmp};
+ghost use Rattle.value_model.specs.Val.{Val};
 ghost use Rattle.ejson_value.specs.View.{view as value_view};
+ghost use Rattle.program_run.specs.Progress.{run_of};
 ghost use Rattle.app_model.specs.App.{method as method_of};
 ghost use Rattle.program_model.specs.Run.{begun};
 ghost use Rattle.program_model.specs.Steps.{steps_of, stub_of, client_setting, whole_run};
@@ -40,6 +42,17 @@ fn stub_of<'a>(app: &'a App, method: &Text) -> Option<&'a ProgramSteps>
     }
 }
 
+// Makes the steps of a run that has begun.
+fn drafted(call: &StubCall, run: &mut Run, totals: Totals) -> Result<Draft, Mem>
+    requires documents { totals.documents ≡ length call.now.view.now }
+    requires bytes { totals.bytes ≡ bytes_of call.now.view.now }
+    ensures { IfOk result (λ draft. (seed : Val) → run_of call.now.steps.now run.old ≡ begun call.now.params.now seed call.now.steps.now → IsLeftBy call.now.view.now (whole_run (client_setting call.now.names.now) call.now.view.now (begun call.now.params.now seed call.now.steps.now)) draft) }
+{
+    let mut draft = Draft::new(call.alloc, totals);
+    make_steps(call, run, &mut draft)?;
+    Ok(draft)
+}
+
 // Runs the steps over the view, and answers what they left.
 fn run_stub(call: &StubCall, seed: &Value, totals: Totals) -> Result<Draft, Mem>
     requires documents { totals.documents ≡ length call.now.view.now }
@@ -47,9 +60,7 @@ fn run_stub(call: &StubCall, seed: &Value, totals: Totals) -> Result<Draft, Mem>
     ensures { IfOk result (λ draft. IsLeftBy call.now.view.now (whole_run (client_setting call.now.names.now) call.now.view.now (begun call.now.params.now (value_view seed.now) call.now.steps.now)) draft) }
 {
     let mut run = Run::begin(call.alloc, call.steps, call.params, seed)?;
-    let mut draft = Draft::new(call.alloc, totals);
-    make_steps(call, &mut run, &mut draft)?;
-    Ok(draft)
+    drafted(call, &mut run, totals)
 }
 
 // A copy of what stands at the key.

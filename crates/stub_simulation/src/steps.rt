@@ -6,7 +6,7 @@ ghost use Rattle.program_steps.specs.Runs.{outcome_view};
 ghost use Rattle.program_model.specs.Steps.{Stepped, client_setting, stepped, further, all_stepped};
 ghost use Rattle.program_run.specs.Progress.{run_of};
 ghost use Rattle.program_run.specs.Planned.{stepped_as};
-ghost use Rattle.stub_simulation.specs.Drafts.{IsWithin, IsDraft, IsFollowed};
+ghost use Rattle.stub_simulation.specs.Drafts.{IsWithin, IsDraft, IsMade, IsFollowed};
 
 use crate::draft::Draft;
 use crate::fitting::is_taken;
@@ -52,6 +52,15 @@ fn made_over(call: &StubCall, run: &mut Run, window: Contents) -> Result<Effect,
     run.step(call.alloc, call.steps, None, &mut store, STUB_ROOM)
 }
 
+// Makes the step over the documents that it looks at.
+fn made(call: &StubCall, run: &mut Run, draft: &Draft, step: &ProgramStep) -> Result<Effect, Mem>
+    requires { IsWithin draft.now }
+    ensures { IfOk result (IsMade call.now.names.now call.now.params.now call.now.steps.now call.now.view.now draft.now step.now run.old run.new) }
+{
+    let window = window(call.alloc, call.params, call.view, draft, step)?;
+    made_over(call, run, window)
+}
+
 // Takes what the step did over the documents that it looks at, or the stub is refused there.
 fn follow(
     view: &Contents,
@@ -80,8 +89,7 @@ fn make(call: &StubCall, run: &mut Run, draft: &mut Draft, step: &ProgramStep) -
 {
     call.view.known();
     draft.left.known();
-    let window = window(call.alloc, call.params, call.view, draft, step)?;
-    let effect = made_over(call, run, window)?;
+    let effect = made(call, run, draft, step)?;
     follow(call.view, draft, step, &effect)?;
     Ok(())
 }
