@@ -35,7 +35,7 @@ pub use copying::copy;
 pub use fault::Fault;
 pub use key::Key;
 pub use list::{Copied, ListOf, copy_option};
-pub use measure::{depth, document_depth, document_size, size, text_size};
+pub use measure::{depth, document_depth, document_size, size};
 pub use members::Fields;
 pub use memory::Mem;
 pub use message::DataMsg;

@@ -61,8 +61,8 @@ fn escape_size(byte: u8) -> u64
     }
 }
 
-/// How many bytes the text has as JSON, with its quotes and escapes, 2^64 - 1 where it has more.
-pub fn text_size(text: &Text) -> u64
+// How many bytes the text has as JSON, with its quotes and escapes, 2^64 - 1 where it has more.
+fn text_size(text: &Text) -> u64
     ensures { result ≡ capped (text_size text.now) }
 {
     let mut total = 2u64;

@@ -1,4 +1,4 @@
-use Rattle.std.proofs.Common.{ap, sym, subst, ◌∙◌}
+use Rattle.std.proofs.Common.{sym, subst, ◌∙◌}
 use Rattle.value_model.specs.Val.{fields_of}
 use Rattle.value_model.specs.Size.{fields_size}
 use Rattle.ejson_value.specs.View.{view, held_fields}

@@ -1,5 +1,5 @@
-use Rattle.std.proofs.Common.{◌≡◌, List, ℕ, Option, None, Some, IsSome, option_map, is_some, subst, sym, ap, ◌∙◌}
-use Rattle.std.specs.BTreeMap.{is_at, insert_entry}
+use Rattle.std.proofs.Common.{List, ℕ, Option, None, Some, IsSome, option_map, is_some, subst, sym, ap, ◌∙◌}
+use Rattle.std.specs.BTreeMap.{is_at}
 use Rattle.std.specs.List.Sorted.{IsStrictlySortedBy}
 use Rattle.map_model.specs.Maps.{at}
 use Rattle.value_model.specs.Order.{text_cmp}
@@ -11,7 +11,6 @@ use Rattle.ejson_value.specs.View.{view, entries}
 use Rattle.ejson_value.specs.Entries.{keys_of-entries, entries-insert, lookup-entries}
 use Rattle.ejson_value.proofs.Places.{IsDocument-put}
 use Rattle.ejson_value.proofs.PutAll.{written_by, nothing}
-use Rattle.ejson_value.proofs.table.Table.replace.Goals.{in-None, in-Some}
 use Rattle.ejson_value.proofs.table.Table.replace.Goals as goal
 
 some_held : (o : Option Value) → IsSome (option_map view o) → IsSome o
@@ -26,37 +25,36 @@ pub invariant_of-self : goal.invariant_of-self
 invariant_of-self c =
     let es = c.self.inside.fields.entries in
     let name = c.args.member.name in
-    elim c.match-get_mut.branch [
-      | in-Some w ↦
-          let v = w.replace.new.dest in
-          let holds = c.get_mut.follows.holds v in
-          let sorted = subst (IsStrictlySortedBy text_cmp) (keys_of-entries es) c.self.invariant.names in
-          let is_put = written_by name_order es (c.get_mut.follows.lender v).entries name v sorted holds.4 (holds.3 (ap is_some (sym w.in-Some.ensures.value))).0 in
-          let same = ap (λ s. entries s.fields.entries) w.self-inside-is ∙ (ap entries is_put ∙ (entries-insert es name v ∙ ap (λ v. put (entries es) name (view v)) w.replace.ensures.after)) in
-          subst IsDocument (sym same) (IsDocument-put _ name (view c.args.member.value) c.self.invariant c.known.ensures)
-      | in-None w ↦ absurd (nothing _ w.in-None.ensures.value (held es name (rw (← c.self.view_is) at c.requires)))
-    ]
+    let v = c.replace.new.dest in
+    let holds = c.get_mut.follows.holds v in
+    let sorted = subst (IsStrictlySortedBy text_cmp) (keys_of-entries es) c.self.invariant.names in
+    let is_put = written_by name_order es (c.get_mut.follows.lender v).entries name v sorted holds.4 (holds.3 (ap is_some (sym c.in-Some.ensures.value))).0 in
+    let same = ap entries is_put ∙ (entries-insert es name v ∙ ap (λ v. put (entries es) name (view v)) c.replace.ensures.after) in
+    subst IsDocument (sym same) (IsDocument-put _ name (view c.args.member.value) c.self.invariant c.known.ensures)
+
+pub returns-in-Some-clause-value : goal.returns-in-Some-clause-value
+returns-in-Some-clause-value c =
+    let es = c.self.inside.fields.entries in
+    let name = c.args.member.name in
+    rw (← c.self.view_is)
+    (ap (λ v. Some (view v)) c.replace.ensures.value ∙ (ap (λ o. option_map view o) c.in-Some.ensures.value ∙ sym (lookup-entries (is_at (text_cmp name)) es)))
+
+pub returns-in-Some-clause-put : goal.returns-in-Some-clause-put
+returns-in-Some-clause-put c =
+    let es = c.self.inside.fields.entries in
+    let name = c.args.member.name in
+    let v = c.replace.new.dest in
+    let holds = c.get_mut.follows.holds v in
+    let sorted = subst (IsStrictlySortedBy text_cmp) (keys_of-entries es) c.self.invariant.names in
+    let is_put = written_by name_order es (c.get_mut.follows.lender v).entries name v sorted holds.4 (holds.3 (ap is_some (sym c.in-Some.ensures.value))).0 in
+    rw (← c.self.view_is) (ap entries is_put ∙ (entries-insert es name v ∙ ap (λ v. put (entries es) name (view v)) c.replace.ensures.after))
 
 pub returns-clause-value : goal.returns-clause-value
 returns-clause-value c =
     let es = c.self.inside.fields.entries in
-    let name = c.args.member.name in
-    elim c.match-get_mut.branch [
-      | in-Some w ↦ rw (w.result-is, ← c.self.view_is) (ap (λ v. Some (view v)) w.replace.ensures.value ∙ (ap (λ o. option_map view o) w.in-Some.ensures.value ∙ sym (lookup-entries (is_at (text_cmp name)) es)))
-      | in-None w ↦ absurd (nothing _ w.in-None.ensures.value (held es name (rw (← c.self.view_is) at c.requires)))
-    ]
+    absurd (nothing _ c.in-None.ensures.value (held es c.args.member.name (rw (← c.self.view_is) at c.requires)))
 
 pub returns-clause-put : goal.returns-clause-put
 returns-clause-put c =
     let es = c.self.inside.fields.entries in
-    let name = c.args.member.name in
-    elim c.match-get_mut.branch [
-      | in-Some w ↦
-          let v = w.replace.new.dest in
-          let holds = c.get_mut.follows.holds v in
-          let sorted = subst (IsStrictlySortedBy text_cmp) (keys_of-entries es) c.self.invariant.names in
-          let is_put = written_by name_order es (c.get_mut.follows.lender v).entries name v sorted holds.4 (holds.3 (ap is_some (sym w.in-Some.ensures.value))).0 in
-          rw (← c.self.view_is)
-          (ap (λ s. entries s.fields.entries) w.self-inside-is ∙ (ap entries is_put ∙ (entries-insert es name v ∙ ap (λ v. put (entries es) name (view v)) w.replace.ensures.after)))
-      | in-None w ↦ absurd (nothing _ w.in-None.ensures.value (held es name (rw (← c.self.view_is) at c.requires)))
-    ]
+    absurd (nothing _ c.in-None.ensures.value (held es c.args.member.name (rw (← c.self.view_is) at c.requires)))
