@@ -1,5 +1,5 @@
 -- Templates: values in which placeholders stand for what is known only later.
-use Rattle.std.specs.Prelude.{◌≡◌, ◌≤◌, ℕ, ℤ, pos, negsuc, List, codes, Option, None, Some, ok_or, Result, Ok, Err, slice_get, option_map, nat_lt, if◌then◌else◌}
+use Rattle.std.specs.Prelude.{◌≡◌, ◌≤◌, ℕ, ℤ, pos, negsuc, List, codes, Option, None, Some, ok_or, Result, Ok, Err, slice_get, option_map, option_and_then, nat_lt, if◌then◌else◌, ◌||◌}
 use Rattle.value_model.specs.Val.{Val, int, text, list, object, Vals, no_vals, val, Fields, no_fields, field}
 use Rattle.value_model.specs.Depth.{depth}
 use Rattle.value_model.specs.Size.{size, is_name}
@@ -66,10 +66,27 @@ limited (Err e) = Err e
 abbrev pub filled : List Val → List (List ℕ) → Val → Filling Val
 filled params ids template = limited (filling params ids template)
 
--- A value that holds no others and is short; and a template that is filled to one, whatever ids were made.
+-- the most bytes of a short value
 abbrev pub max_short : ℕ
 max_short = 8192
 
+-- the value, where it holds no others and is short
+abbrev pub if_short : Val → Option Val
+if_short v = if nat_lt 0 (depth v) || nat_lt max_short (size v) then None else Some v
+
+-- the parameter that stands for a placeholder, where it is short
+abbrev pub short_in_place : List Val → Option Placeholder → Option Val
+short_in_place params (Some (placeholder.Parameter z)) = option_and_then if_short (nth params z)
+short_in_place params _ = None
+
+-- What a template is filled to without a look at what it holds: a short value that holds no others, or a placeholder of a
+-- short parameter.
+abbrev pub filled_short : List Val → Val → Option Val
+filled_short params (list vs) = None
+filled_short params (object fs) = short_in_place params (placeholder_in fs)
+filled_short params v = if_short v
+
+-- a short value that holds no others; and a template that is filled to one, whatever ids were made
 pub record IsShort (v : Val) : Type 0 where
   pub flat : depth v ≡ 0
   pub short : size v ≤ max_short

@@ -1,10 +1,10 @@
 //! Templates.
-ghost use Rattle.std.specs.Prelude.{◌≡◌, Option, Some, ok_or, option_map, IfOk, IfSome};
+ghost use Rattle.std.specs.Prelude.{◌≡◌, Option, Some, ok_or, option_map, IfOk};
 ghost use Rattle.value_model.specs.Val.{text, list, object, vals_of, fields_of};
 ghost use Rattle.ejson_value.specs.View.{view};
 ghost use Rattle.ejson_value.specs.Results.{made};
 ghost use Rattle.program_steps.specs.declared.fault.FillFault.TheVariants.{NoParam};
-ghost use Rattle.program_steps.specs.Template.{placeholder_named, placeholder_in, nth, in_place, filling, items_filling, fields_filling, filled, IsShort, FillsShort, Gives};
+ghost use Rattle.program_steps.specs.Template.{placeholder_named, placeholder_in, nth, in_place, filling, items_filling, fields_filling, filled, if_short, short_in_place, filled_short, Gives};
 
 use crate::fault::FillFault;
 use crate::measuring::{measure, past_limits};
@@ -168,7 +168,7 @@ const MAX_SHORT: u64 = 8192;
 
 // A copy of a value that holds no others and is short.
 fn short(value: &Value) -> Result<Option<Value>, Mem>
-    ensures { IfOk result (λ o. IfSome o (λ short. (view short ≡ view value.now) × IsShort (view short))) }
+    ensures { IfOk result (λ o. option_map view o ≡ if_short (view value.now)) }
 {
     if depth(value) > 0 || size(value) > MAX_SHORT {
         return Ok(None);
@@ -188,7 +188,7 @@ fn param_at(params: &Items, number: i64) -> Option<&Value>
 
 // What stands for the object, where that is a short parameter.
 fn short_param(fields: &Doc, params: &Items) -> Result<Option<Value>, Mem>
-    ensures { IfOk result (λ o. IfSome o (λ value. FillsShort params.now (object (fields_of fields.now)) (view value))) }
+    ensures { IfOk result (λ o. option_map view o ≡ short_in_place params.now (placeholder_in (fields_of fields.now))) }
 {
     let Some(Placeholder::Parameter(number)) = placeholder_in(fields) else {
         return Ok(None);
@@ -202,7 +202,7 @@ fn short_param(fields: &Doc, params: &Items) -> Result<Option<Value>, Mem>
 /// What the template is filled to, where that is a short value with no others in it and depends on no
 /// id that was made.
 pub fn fill_short(template: &Value, params: &Items) -> Result<Option<Value>, Mem>
-    ensures { IfOk result (λ o. IfSome o (λ value. FillsShort params.now (view template.now) (view value))) }
+    ensures { IfOk result (λ o. option_map view o ≡ filled_short params.now (view template.now)) }
 {
     match template {
         Value::Object(fields) => short_param(fields, params),
