@@ -18,7 +18,7 @@ pub fn seed_of(alloc: Global, session: &Text, number: u32) -> Result<Text, Mem>
     ensures { IfOk result (λ seed. seed ≡ session.now ++ codes "-" ++ decimal number) }
 {
     let name = session.as_str();
-    Text::from_string(format!(in alloc; "{name}-{number}")?)
+    Ok(Text::from_string(format!(in alloc; "{name}-{number}")?)?)
 }
 
 /// The number from 1 to `count` that the id is, if it is one.

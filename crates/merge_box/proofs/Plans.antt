@@ -9,9 +9,7 @@ use Rattle.std.proofs.lemmas.List.{map-append}
 use Rattle.ejson_value.specs.declared.change.Publish.{Publish}
 use Rattle.map_model.specs.Maps.{keyed}
 use Rattle.map_model.specs.Orders.{IsAbove}
-use Rattle.map_model.specs.Differences.{Step}
 use Rattle.map_model.specs.OrderLaws.{filter_map_entries-append}
-use Rattle.value_model.specs.Val.{Val}
 use Rattle.merge_box.specs.Index.{lists_of, is_listed}
 use Rattle.std.specs.Ordering.{eq_by_cmp, is_eq}
 use Rattle.std.specs.List.Sorted.{IsStrictlySortedBy}

@@ -1,5 +1,5 @@
 -- What the words of a plan say, one after another.
-use Rattle.std.proofs.Common.{◌≡◌, ℕ, zero, suc, ◌<◌, arith, length, get_or, option_and_then, option_map, option_to_list, append_assoc, append-nil, true, ◌++◌, List, [], ◌∷◌, Option, Some, None, is_some, IsSome, IfSome, refl, sym, ap, ap₂, subst, ◌∙◌, true≢false}
+use Rattle.std.proofs.Common.{◌≡◌, ℕ, zero, suc, ◌<◌, arith, length, get_or, option_and_then, option_map, option_to_list, append_assoc, append-nil, ◌++◌, List, [], ◌∷◌, Option, Some, None, is_some, IfSome, refl, sym, ap, ap₂, subst, ◌∙◌, true≢false}
 use Rattle.std.specs.Prelude.{slice_get}
 use Rattle.map_model.specs.Maps.{keyed}
 use Rattle.map_model.specs.Differences.{Step, between}
@@ -61,7 +61,7 @@ module _ (sub : ℕ) (a b : KeptDocs) (news : NewsList) (texts : Texts) (publish
   words_on (New message None ∷ words) are = (tt, words_on words are.1)
   words_on (New message (Some at) ∷ words) are =
       let it = are.0 in
-      (record { one = it.one; is = (it.is.0, ap (has_other sub) (publishers it.one.0) ∙ it.is.1); told = told_same (seen_in b) (seen_in a) same it.one ∙ it.told; open = it.open }, words_on words are.1)
+      (record { one = it.one; is = (it.is.0, ap (has_other sub) (publishers it.one.0) ∙ it.is.1); told = told_same (seen_in b) (seen_in a) same it.one ∙ it.told; free = it.free }, words_on words are.1)
 
 -- ---- where no text is known, each word is a message of no place
 module _ (sub : ℕ) (kept : KeptDocs) (news : NewsList) where
@@ -69,7 +69,7 @@ module _ (sub : ℕ) (kept : KeptDocs) (news : NewsList) where
   unknown_words others texts [] are = tt
   unknown_words others texts (Known place ∷ words) are = absurd (true≢false (sym are.0.known))
   unknown_words others texts (New message None ∷ words) are = (tt, unknown_words others texts words are.1)
-  unknown_words others texts (New message (Some at) ∷ words) are = absurd (true≢false (sym are.0.open))
+  unknown_words others texts (New message (Some at) ∷ words) are = absurd (true≢false (sym are.0.free))
 
   pub unknown_said : (seen : Seen) (others : NewsList) (words : List Word) → AreWords sub kept news [] words → said_all seen others words ≡ said_all seen news words
   unknown_said seen others [] are = refl
@@ -79,7 +79,7 @@ module _ (sub : ℕ) (kept : KeptDocs) (news : NewsList) where
 -- ---- the words of one publish
 -- a message that is added, or none
 pub said_told : (sub : ℕ) (texts : Texts) (place : ℕ) (key : Key) (publishers : List ℕ) (step : Option (Step (List ℕ) Val)) (before after : List Word) (at : Option ℕ) → IfSome at (IsOpenAt sub texts place publishers) → HasSaid at key step before after → HasTold sub texts place key publishers step before after
-said_told sub texts place key publishers step before after at open has = record { words = new_words has.message at; more = has.more; told = told has.message has.says }
+said_told sub texts place key publishers step before after at free has = record { words = new_words has.message at; more = has.more; told = told has.message has.says }
   where
     silent : (s : Option (Step (List ℕ) Val)) → None ≡ keyed_step key s → s ≡ None
     silent None is = refl
@@ -87,7 +87,7 @@ said_told sub texts place key publishers step before after at open has = record 
 
     told : (message : Option DataMsg) → option_map said message ≡ keyed_step key step → IsToldBy sub texts place key publishers step (new_words message at)
     told None is = silent step is
-    told (Some message) is = (is, open)
+    told (Some message) is = (is, free)
 
 pub news_get : (news : List Publish) (i : ℕ) (p : Publish) → p ≡ get_or news i p → i < length news → slice_get (news_of news) i ≡ Some (p.key, p.new)
 news_get [] i p is h = absurd (omega arith)
@@ -122,19 +122,25 @@ module _ (sub : ℕ) (texts : Texts) (place : ℕ) (key : Key) (doc : Option Ent
 
   told_words : (words : List Word) → IsToldBy sub texts place key e.publishers (step_of e change) words → AreWords sub kept news texts words
   told_words [] none = tt
-  told_words (Known at ∷ []) told = (record {
-    one = (key, doc);
-    is = (ap (slice_get news) told.0 ∙ there, ap (has_other sub) publishers ∙ told.1);
-    known = ap (λ p. is_some (text_at texts p)) told.0 ∙ told.2;
-  }, tt)
+  told_words (Known at ∷ []) told = (
+    record {
+      one = (key, doc);
+      is = (ap (slice_get news) told.0 ∙ there, ap (has_other sub) publishers ∙ told.1);
+      known = ap (λ p. is_some (text_at texts p)) told.0 ∙ told.2;
+    },
+    tt,
+  )
   told_words (New message None ∷ []) told = (tt, tt)
   told_words (New message (Some at) ∷ []) told =
-      let open = told.1 in (record {
-        one = (key, doc);
-        is = (ap (slice_get news) open.here ∙ there, ap (has_other sub) publishers ∙ open.alone);
-        told = told_alone open.alone ∙ sym told.0;
-        open = ap (is_open texts) open.here ∙ open.open;
-      }, tt)
+      let place_is = told.1 in (
+        record {
+          one = (key, doc);
+          is = (ap (slice_get news) place_is.here ∙ there, ap (has_other sub) publishers ∙ place_is.alone);
+          told = told_alone place_is.alone ∙ sym told.0;
+          free = ap (is_open texts) place_is.here ∙ place_is.free;
+        },
+        tt,
+      )
   told_words (word ∷ next ∷ words) told = absurd told
 
   -- what is told of it is added

@@ -1,8 +1,8 @@
 -- What a box keeps inside: documents with places for what a plan brings, and the changes of the last plan.
-use Rattle.std.specs.Prelude.{◌≡◌, ◌++◌, ℕ, true, false, List, [], ◌∷◌, map, Option, Some, None, IsSome, if◌then◌else◌}
+use Rattle.std.specs.Prelude.{◌≡◌, ℕ, true, false, List, [], ◌∷◌, map, Option, Some, None, IsSome, if◌then◌else◌}
 use Rattle.std.specs.Ordering.{eq_by_cmp}
 use Rattle.std.specs.Option.{option_flatten}
-use Rattle.map_model.specs.Maps.{at, keyed, IsSorted, union, filter_map_entries}
+use Rattle.map_model.specs.Maps.{at, IsSorted, union, filter_map_entries}
 use Rattle.map_model.specs.Differences.{Step, between}
 use Rattle.value_model.specs.Val.{Val, Entries}
 use Rattle.value_model.specs.Order.{text_cmp}

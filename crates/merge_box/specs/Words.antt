@@ -47,11 +47,11 @@ abbrev pub IsPlace : ℕ → KeptDocs → NewsList → ℕ → Key × Option Ent
 IsPlace sub kept news place one = (slice_get news place ≡ Some one) × IsAlone sub (publishers_at key_cmp kept one.0)
 
 -- the message is what the client is told of the publish, of which no text is known
-pub record IsOpenFor (sub : ℕ) (kept : KeptDocs) (news : NewsList) (texts : Texts) (told : Key × Step (List ℕ) Val) (place : ℕ) : Type 0 where
+pub record IsOpenFor (sub : ℕ) (kept : KeptDocs) (news : NewsList) (texts : Texts) (says : Key × Step (List ℕ) Val) (place : ℕ) : Type 0 where
   pub one : Key × Option Entries
   pub is : IsPlace sub kept news place one
-  pub told : told_by (seen_in kept) one ≡ Some told
-  pub open : is_open texts place ≡ true
+  pub told : told_by (seen_in kept) one ≡ Some says
+  pub free : is_open texts place ≡ true
 
 -- a text is known of the publish at this place
 pub record IsKnownOf (sub : ℕ) (kept : KeptDocs) (news : NewsList) (texts : Texts) (place : ℕ) : Type 0 where
@@ -84,7 +84,7 @@ pub record HasSaid (at : Option ℕ) (key : Key) (step : Option (Step (List ℕ)
 pub record IsOpenAt (sub : ℕ) (texts : Texts) (place : ℕ) (publishers : List ℕ) (at : ℕ) : Type 0 where
   pub here : at ≡ place
   pub alone : IsAlone sub publishers
-  pub open : is_open texts place ≡ true
+  pub free : is_open texts place ≡ true
 
 -- the word is of the publish at this place, and a message says what the change does
 abbrev pub IsOneTold : ℕ → Texts → ℕ → Key → List ℕ → Option (Step (List ℕ) Val) → Word → Type 0

@@ -98,12 +98,7 @@ impl MergeBox {
     }
 
     // Plans what a subscription publishes now, where the news stand by rising key.
-    fn plan_by_key(
-        &mut self,
-        sub: u64,
-        news: &[Publish],
-        texts: &KnownTexts,
-    ) -> Result<Words, Mem>
+    fn plan_by_key(&mut self, sub: u64, news: &[Publish], texts: &KnownTexts) -> Result<Words, Mem>
         requires { IsSorted key_cmp (news_of news.now) }
         ensures same { self.new.kept ≡ self.old.kept }
         ensures planned { IfOk result (λ words. IsPlan (applied sub (news_of news.now)) self.new

@@ -60,10 +60,7 @@ pub enum Word {
     /// What the text says that is known of the publish at this place.
     Known(usize),
     /// A message. Its text is to be kept for the publish at the place, where there is one.
-    New {
-        message: DataMsg,
-        at: Option<usize>,
-    },
+    New { message: DataMsg, at: Option<usize> },
 }
 
 /// What a client is told, by collection and id.
@@ -171,16 +168,7 @@ fn plan_held(
     list_published(index, alloc, sub, publish, held)?;
     let change = held.change(alloc, sub, publish.new.as_ref())?;
     held.make_places(alloc, &change)?;
-    tell(
-        words,
-        alloc,
-        &publish.key,
-        held,
-        &change,
-        sub,
-        texts,
-        place,
-    )?;
+    tell(words, alloc, &publish.key, held, &change, sub, texts, place)?;
     Ok(change)
 }
 
@@ -246,9 +234,7 @@ fn plan_publish(
         (lists_of index.new.entries) words.old.items words.new.items planned.change) }
 {
     let slot = kept.slot_for(&publish.key)?;
-    let change = plan_at(
-        kept, slot, words, index, alloc, sub, publish, texts, place,
-    )?;
+    let change = plan_at(kept, slot, words, index, alloc, sub, publish, texts, place)?;
     Ok(Planned { slot, change })
 }
 

@@ -129,12 +129,7 @@ fn news_of(alloc: Global, id: &str, new: Option<Doc>) -> Result<Publishes, Mem> 
     Ok(news)
 }
 
-fn apply(
-    merge: &mut MergeBox,
-    alloc: Global,
-    sub: u64,
-    news: &Publishes,
-) -> Result<Words, Mem> {
+fn apply(merge: &mut MergeBox, alloc: Global, sub: u64, news: &Publishes) -> Result<Words, Mem> {
     let words = merge.plan(sub, news, &KnownTexts::new(alloc))?;
     merge.commit();
     Ok(words)

@@ -4,7 +4,7 @@ use Rattle.std.proofs.Common.{ap, sym, ◌∙◌}
 use Rattle.map_model.specs.Maps.{at, set}
 use Rattle.map_model.specs.Differences.{taken, changed}
 use Rattle.view_model.specs.Views.{refusal}
-use Rattle.value_model.specs.Val.{Val, Entries}
+use Rattle.value_model.specs.Val.{Entries}
 use Rattle.value_model.specs.Order.{text_cmp}
 use Rattle.ejson_value.specs.declared.key.Key.{Key}
 use Rattle.ejson_value.specs.declared.memory.Mem.{Mem}

@@ -71,7 +71,7 @@ loop-publish-preserved c =
     let was = c.requires.held p.key in
     let start = c.args.kept.now.docs in
     let seen = sym (merged_same (kept_at key_cmp start p.key) (kept_at key_cmp now.docs p.key) first.same was.by_name (first.held was).by_name) in
-    let there = ap (slice_get (news_of news)) (c.len-place.ensures ∙ before.count) ∙ news_get news i p c.publish-item.is c.loop-publish-test.true in
+    let there = ap (slice_get (news_of news)) (c.len-place.ensures ∙ c.loop-publish.plan.ok.0 ∙ before.count) ∙ news_get news i p c.publish-item.is c.loop-publish-test.true in
     let words = c.loop-publish.words.items in
     let put = λ (k : Key). ap (λ m. at key_cmp m k) push ∙ at_push plan p.key planned.change above k in
     record {

@@ -8,7 +8,7 @@ use Rattle.merge_box.proofs.plan.tell.Goals as goal
 
 pub returns-then-is_known : goal.returns-then-is_known
 returns-then-is_known c =
-    let known = c.if-is_known.ensures c.if-is_known.true in
+    let known = c.if-is_known.ensures refl in
     record { words = Known c.args.place ∷ []; more = c.in_ok-push.ensures.items; told = (refl, known.0, known.1) }
 
 pub returns : goal.returns

@@ -1,4 +1,4 @@
-use Rattle.std.specs.Prelude.{◌≡◌, is_some, option_map, ◌^◌, ◌-◌, ◌<◌, ◌+◌}
+use Rattle.std.specs.Prelude.{◌^◌, ◌-◌, ◌<◌, ◌+◌}
 use Rattle.std.proofs.Common.{ap, arith, sym, ◌∙◌}
 use Rattle.value_model.specs.Size.{size, escape_wrapper}
 use Rattle.collection_store.specs.Limits.{bytes_of, document}

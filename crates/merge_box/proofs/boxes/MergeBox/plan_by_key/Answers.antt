@@ -1,7 +1,7 @@
-use Rattle.std.proofs.Common.{◌≡◌, ap, ap₂, sym, subst, ◌∙◌}
+use Rattle.std.proofs.Common.{ap, ap₂, sym, subst, ◌∙◌}
 use Rattle.ejson_value.specs.declared.key.Key.{Key}
 use Rattle.merge_box.specs.Index.{lists_of}
-use Rattle.merge_box.specs.Inside.{Changes, changes_of, docs_of, carried_out, told_of, IsInside}
+use Rattle.merge_box.specs.Inside.{Changes, changes_of, docs_of, carried_out, IsInside}
 use Rattle.ejson_value.specs.Changes.{news_of}
 use Rattle.merge_box.proofs.MakePlan.{inside_grown, kept_grown, counted_grown, planned_grown, inside_planned, plan_is, on_err}
 use Rattle.merge_box.specs.State.{KeptDocs}

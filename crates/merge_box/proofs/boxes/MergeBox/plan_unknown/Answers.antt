@@ -1,10 +1,9 @@
-use Rattle.std.proofs.Common.{List, ap, sym, subst, ◌∙◌}
+use Rattle.std.proofs.Common.{sym, subst}
 use Rattle.merge_model.specs.Publishing.{apply}
 use Rattle.ejson_value.specs.Changes.{news_of}
 use Rattle.known_texts.specs.Places.{Texts}
-use Rattle.merge_box.specs.declared.plan.Word.{Word}
 use Rattle.merge_box.specs.State.{Told, IsPlan}
-use Rattle.merge_box.specs.Words.{NewsList, seen_in, said_all, AreWords}
+use Rattle.merge_box.specs.Words.{NewsList, seen_in, AreWords}
 use Rattle.merge_box.proofs.MakePlan.{map_ok, both_ok}
 use Rattle.merge_box.proofs.Words.{unknown_words, unknown_said}
 use Rattle.merge_box.proofs.boxes.MergeBox.plan_unknown.Goals as goal
