@@ -1,4 +1,4 @@
--- What a log keeps of an entry: the line that is printed of it, where the entry can be read back from the line.
+-- What a log keeps of an entry: the line that is printed of it, where the entry can be read back from the line, or a text that tells of it.
 use Rattle.std.specs.Prelude.{◌≡◌, ◌≤◌, nat_le, Bool, ℕ, pos, List, [], ◌∷◌, Result, Ok, Err}
 use Rattle.value_model.specs.Val.{Val, int, text, list, list_of}
 use Rattle.ejson_codec.specs.declared.fault.ParseFault.{ParseFault}
@@ -40,12 +40,22 @@ abbrev pub admin_in : List Val → Entry
 admin_in (word ∷ op ∷ more) = entry.Admin (items_in op)
 admin_in words = entry.Admin []
 
+-- the operation that stands behind the first word
+abbrev pub operation_among : List Val → List Val
+operation_among (word ∷ op ∷ more) = items_in op
+operation_among words = []
+
+-- the operation that a text tells of, which need not be a line that is printed
+abbrev pub told_operation : List ℕ → List Val
+told_operation line = operation_among (words_in (parsed line))
+
 -- ---- what is kept
 
 abbrev pub entry_of : Form → Entry
 entry_of (form.Step session k) = entry.Step session k
 entry_of (form.Begin session line) = begin_in session (words_in (parsed line))
 entry_of (form.Admin line) = admin_in (words_in (parsed line))
+entry_of (form.Told line) = entry.Admin (told_operation line)
 entry_of (form.Whole e) = e.value
 
 -- a line is the one that is printed of its entry
@@ -53,6 +63,7 @@ abbrev pub HasLine : Form → Type 0
 HasLine (form.Step session k) = Unit {0}
 HasLine (form.Begin session line) = line ≡ line_of (entry_value (begin_in session (words_in (parsed line))))
 HasLine (form.Admin line) = line ≡ line_of (entry_value (admin_in (words_in (parsed line))))
+HasLine (form.Told line) = Unit {0}
 HasLine (form.Whole e) = Unit {0}
 
 -- a value that is read back from its text

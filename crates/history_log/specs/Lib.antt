@@ -2,3 +2,4 @@ pub mod Log
 pub mod LogLaws
 pub mod Lines
 pub mod Entries
+pub mod ToldLaws

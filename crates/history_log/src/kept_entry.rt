@@ -3,10 +3,11 @@ ghost use Rattle.std.specs.Prelude.{◌≡◌, ℕ, List, IfOk, IfSome, IsTrue};
 ghost use Rattle.std.specs.List.{list_all};
 ghost use Rattle.ejson_value.specs.View.{view, views};
 ghost use Rattle.history_model.specs.declared.entry.Entry.TheVariants.{Begin, Admin};
-ghost use Rattle.history_log.specs.Entries.{is_shallow, IsReadBack, Says, Keeps};
+ghost use Rattle.history_log.specs.Entries.{items_in, operation_among, told_operation, is_shallow, IsReadBack, Says, Keeps};
 ghost use Rattle.history_log.specs.Lines.{entry_value, line_of};
 
 use crate::lines::{entry_line, step_line};
+use ejson_codec::{ParseFault, parse};
 use ejson_value::{Items, Mem, Text, Value, depth};
 use history_model::entry::Entry;
 use std::alloc::Global;
@@ -19,7 +20,7 @@ const MAX_LEVELS: u64 = 32;
 const MAX_NUMBER: u64 = 9_007_199_254_740_991;
 
 /// An entry of a history. It is kept as the line that is printed of it, where it can be read back from
-/// the line. A contract sees it as the entry.
+/// the line, or as a text that tells of it. A contract sees it as the entry.
 #[derive(Drop)]
 pub struct KeptEntry {
     form: Form,
@@ -30,6 +31,8 @@ enum Form {
     Step { session: u32, k: u64 },
     Begin { session: u32, line: Text },
     Admin { line: Text },
+    // An operation, as the text that tells of it.
+    Told { text: Text },
     // What can't be read back from its line.
     Whole(Box<Entry>),
 }
@@ -142,6 +145,57 @@ fn form_of(alloc: Global, room: &mut Vec<u8>, entry: Entry) -> Result<Form, Mem>
     }
 }
 
+// The list that the value is, an empty one where it is none.
+fn list_of_value(alloc: Global, value: &Value) -> Result<Items, Mem>
+    ensures { IfOk result (λ items. items ≡ items_in (view value.now)) }
+{
+    match value {
+        Value::List(items) => items.copy(),
+        Value::Null
+        | Value::Bool(_)
+        | Value::Int(_)
+        | Value::Text(_)
+        | Value::Date(_)
+        | Value::Bytes(_)
+        | Value::Object(_)
+        | Value::User { .. } => Ok(Items::new(alloc)),
+    }
+}
+
+// The operation that stands behind the first word.
+fn operation_among(alloc: Global, words: &[Value]) -> Result<Items, Mem>
+    ensures { IfOk result (λ op. op ≡ operation_among (views words.now)) }
+{
+    match words {
+        [_, op, ..] => list_of_value(alloc, op),
+        _ => Ok(Items::new(alloc)),
+    }
+}
+
+// The operation that the text tells of.
+fn told_operation(alloc: Global, text: &Text) -> Result<Items, Mem>
+    ensures { IfOk result (λ op. op ≡ told_operation text.now) }
+{
+    match parse(alloc, text) {
+        Ok(value) => {
+            let words = list_of_value(alloc, &value)?;
+            operation_among(alloc, words.as_slice())
+        }
+        Err(ParseFault::NotJson) => Ok(Items::new(alloc)),
+        Err(ParseFault::Ejson(_)) => Ok(Items::new(alloc)),
+        Err(ParseFault::Memory) => Err(Mem),
+    }
+}
+
+// The line that is printed of the operation that the text tells of.
+fn told_line(alloc: Global, room: &mut Vec<u8>, text: &Text) -> Result<Text, Mem>
+    ensures { IfOk result (λ line. line ≡ line_of (entry_value (Admin (told_operation text.now)))) }
+{
+    let op = told_operation(alloc, text)?;
+    let entry = Entry::Admin { op };
+    entry_line(alloc, room, &entry)
+}
+
 impl KeptEntry {
     /// Keeps the entry, whose line is written in the room.
     pub(crate) fn of(alloc: Global, room: &mut Vec<u8>, entry: Entry) -> Result<KeptEntry, Mem>
@@ -149,6 +203,16 @@ impl KeptEntry {
     {
         Ok(KeptEntry {
             form: form_of(alloc, room, entry)?,
+        })
+    }
+
+    /// Keeps the operation that the text tells of, as the text.
+    pub(crate) fn told(alloc: Global, text: &str) -> Result<KeptEntry, Mem>
+        ensures { IfOk result (λ kept. kept ≡ Admin (told_operation text.now)) }
+    {
+        let text = Text::from_str(alloc, text)?;
+        Ok(KeptEntry {
+            form: Form::Told { text },
         })
     }
 
@@ -160,6 +224,7 @@ impl KeptEntry {
             Form::Step { session, k } => step_line(alloc, room, *session, *k),
             Form::Begin { line, .. } => line.copy(),
             Form::Admin { line } => line.copy(),
+            Form::Told { text } => told_line(alloc, room, text),
             Form::Whole(entry) => entry_line(alloc, room, entry.as_ref()),
         }
     }

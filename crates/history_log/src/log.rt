@@ -1,5 +1,7 @@
 //! The log.
 ghost use Rattle.std.specs.Prelude.{◌≡◌, ◌+◌, ◌≤◌, ◌<◌, ◌++◌, ◌∷◌, [], length, IfOk, OnOk, OnErr};
+ghost use Rattle.history_model.specs.declared.entry.Entry.TheVariants.{Admin};
+ghost use Rattle.history_log.specs.Entries.{told_operation};
 ghost use Rattle.history_log.specs.Log.{entries_in, changes_behind, rows_after, without_last, settled};
 ghost use Rattle.history_log.specs.Lines.{store_lines, history_lines};
 
@@ -72,6 +74,19 @@ impl Log {
     {
         let alloc = self.allocator();
         let entry = KeptEntry::of(alloc, &mut self.room, entry)?;
+        let changes = Changes::new(alloc);
+        self.logged.push(Logged { entry, changes })?;
+        Ok(())
+    }
+
+    /// Puts the operation that the text tells of behind the other entries, as `push` does. The text is
+    /// kept as it stands: the line that is printed of the entry is made of it when it is asked for.
+    pub fn push_told(&mut self, text: &str) -> Result<(), Mem>
+        ensures ok { OnOk result (self.new ≡ self.old ++ record { entry = Admin (told_operation text.now); changes = [] } ∷ []) }
+        ensures err { OnErr result (self.new ≡ self.old) }
+    {
+        let alloc = self.allocator();
+        let entry = KeptEntry::told(alloc, text)?;
         let changes = Changes::new(alloc);
         self.logged.push(Logged { entry, changes })?;
         Ok(())
