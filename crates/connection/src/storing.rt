@@ -300,9 +300,9 @@ pub(crate) fn feed(
 ) -> Result<Answer, Mem>
     requires kept { IsKept side.old }
     requires right { AreRight sub (seen side.old).session.carried.box (news_of news.now) known.old }
-    ensures learnt { AreLearnt sub (seen side.old).session.carried.box (news_of news.now) known.old known.new }
     ensures kept { IsKept side.new }
     ensures feeds { FeedsBy sub count news.now (seen side.old) (seen side.new) result }
+    ensures learnt { AreLearnt sub (seen side.old).session.carried.box (news_of news.now) known.old known.new }
 {
     match side.session.feed(sub, count, news, known) {
         Ok(()) => Ok(Answer::Done),

@@ -91,7 +91,25 @@ pub(crate) fn is_blocked_by(inner: &Inner, k: u64) -> bool
     }
 }
 
-/// Adds an item.
+/// Adds an item, by the texts that are known of what is told.
+pub(crate) fn add_known(
+    inner: &mut Inner,
+    addition: Addition,
+    news: &News<'_>,
+    known: &mut KnownTexts,
+) -> Result<(), Mem>
+    requires kept { IsKept inner.old }
+    requires room { is_full (seen inner.old) ≡ false }
+    requires follows { Follows addition.step (seen inner.old).carried.own }
+    requires right { AreRightBy news.now (seen inner.old).carried.box known.old }
+    ensures added { OnOk result (IsAddedTo addition (call_by news.now) inner.old inner.new) }
+    ensures same { OnErr result (AreAlike inner.old inner.new) }
+    ensures learnt { AreLearntBy news.now (seen inner.old).carried.box known.old known.new }
+{
+    inner.parts.add(inner.alloc, addition, news, known)
+}
+
+/// The same, where no text is known.
 pub(crate) fn add(inner: &mut Inner, addition: Addition, news: &News<'_>) -> Result<(), Mem>
     requires kept { IsKept inner.old }
     requires room { is_full (seen inner.old) ≡ false }
@@ -101,22 +119,4 @@ pub(crate) fn add(inner: &mut Inner, addition: Addition, news: &News<'_>) -> Res
 {
     let mut known = KnownTexts::new(inner.alloc);
     add_known(inner, addition, news, &mut known)
-}
-
-/// The same, by the texts that are known of what is told.
-pub(crate) fn add_known(
-    inner: &mut Inner,
-    addition: Addition,
-    news: &News<'_>,
-    known: &mut KnownTexts,
-) -> Result<(), Mem>
-    requires right { AreRightBy news.now (seen inner.old).carried.box known.old }
-    requires kept { IsKept inner.old }
-    requires room { is_full (seen inner.old) ≡ false }
-    requires follows { Follows addition.step (seen inner.old).carried.own }
-    ensures added { OnOk result (IsAddedTo addition (call_by news.now) inner.old inner.new) }
-    ensures same { OnErr result (AreAlike inner.old inner.new) }
-    ensures learnt { AreLearntBy news.now (seen inner.old).carried.box known.old known.new }
-{
-    inner.parts.add(inner.alloc, addition, news, known)
 }

@@ -116,8 +116,8 @@ fn place_after(inner: &Inner, sub: u64, count: u64) -> Option<u64>
     }
 }
 
-// Adds the item of a subscription that goes on to a place.
-fn go_on(
+// Adds the item of a subscription that goes on to a place, by the texts that are known of the news.
+fn go_on_known(
     inner: &mut Inner,
     sub: u64,
     count: u64,
@@ -141,6 +141,19 @@ fn go_on(
         words: Texts::new(inner.alloc),
     };
     add_known(inner, addition, &News::Of { sub, news }, known)
+}
+
+// The same, where no text is known.
+fn go_on(inner: &mut Inner, sub: u64, count: u64, at: u64, news: &Publishes) -> Result<(), Mem>
+    requires kept { IsKept inner.old }
+    requires can { HadRoom (can_advance sub count (seen inner.old)) (seen inner.old) }
+    requires place { place_after sub count (seen inner.old) ≡ Some at }
+    ensures gone { OnOk result (HasFed sub count news.now (seen inner.old) (seen inner.new)) }
+    ensures same { OnErr result (seen inner.new ≡ seen inner.old) }
+    ensures kept { IsKept inner.new }
+{
+    let mut known = KnownTexts::new(inner.alloc);
+    go_on_known(inner, sub, count, at, news, &mut known)
 }
 
 // What the subscription's observer tells of the changes.
@@ -192,8 +205,7 @@ fn advance_to<L: Ledger>(
     ensures ticks { steps.new ≤ steps.old + watched_count (observer_of sub (seen inner.old)) * (2 * length batch.now.changes) }
 {
     let (news, plan) = observed(inner, sub, batch, steps)?;
-    let mut known = KnownTexts::new(inner.alloc);
-    go_on(inner, sub, batch.count, at, &news, &mut known)?;
+    go_on(inner, sub, batch.count, at, &news)?;
     commit(&mut inner.parts.own, sub, plan);
     Ok(())
 }
@@ -246,7 +258,7 @@ pub(crate) fn feed(
     let place = place_after(inner, sub, count);
     test(inner, place.is_some())?;
     match place {
-        Some(at) => Ok(go_on(inner, sub, count, at, news, known)?),
+        Some(at) => Ok(go_on_known(inner, sub, count, at, news, known)?),
         None => Err(EventFault::Idle),
     }
 }

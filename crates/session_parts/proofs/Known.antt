@@ -20,7 +20,7 @@ use Rattle.session_parts.proofs.Said.{text_is}
 use Rattle.merge_box.specs.Words.{NewsList, Seen, seen_in, told_by, said_by, said_all, IsKnownOf, IsWord, AreWords}
 use Rattle.session_parts.specs.declared.adding.News.{News}
 use Rattle.session_parts.specs.declared.adding.News.TheVariants as news
-use Rattle.session_parts.specs.Known.{text_about, text_told, IsRight, AreRight, IsLearnt, AreLearnt, known_by, AreRightBy, kept_text}
+use Rattle.session_parts.specs.Known.{text_about, text_told, IsRight, AreRight, IsLearnt, AreLearnt, sub_by, news_by, known_by, AreRightBy, kept_text}
 
 module _ (sub : ℕ) (box : KeptDocs) where
   -- nothing is learnt
@@ -48,11 +48,11 @@ module _ (sub : ℕ) (box : KeptDocs) where
 
   -- a text is learnt of a publish of which none was known
   put_open : (o one : Key × Option Entries) (was now : Option (List ℕ)) (text : List ℕ) → Some o ≡ Some one → has_none (Some now) ≡ true → IsAlone sub (publishers_at key_cmp box one.0) → text_told box one ≡ Some text → IsLearnt sub box o was now → IsLearnt sub box o was (Some text)
-  put_open o one None now text there open alone told learnt =
+  put_open o one None now text there free alone told learnt =
       let same : one ≡ o = cc there in
       (subst (λ (p : Key × Option Entries). IsAlone sub (publishers_at key_cmp box p.0)) same alone, subst (λ p. text_told box p ≡ Some text) same told)
-  put_open o one (Some t) None text there open alone told learnt = cc learnt
-  put_open o one (Some t) (Some u) text there open alone told learnt = absurd (true≢false (sym open))
+  put_open o one (Some t) None text there free alone told learnt = cc learnt
+  put_open o one (Some t) (Some u) text there free alone told learnt = absurd (true≢false (sym free))
 
   -- what was known stays known
   pub known_stays : (news : NewsList) (old new : Texts) (place : ℕ) (text : List ℕ) → AreLearnt sub box news old new → text_at old place ≡ Some text → text_at new place ≡ Some text
@@ -67,16 +67,16 @@ module _ (sub : ℕ) (box : KeptDocs) where
   known_stays (one ∷ news) (was ∷ old) (now ∷ new) (suc place) text learnt known = known_stays news old new place text learnt.1 known
 
   pub set_learnt : (news : NewsList) (old new : Texts) (place : ℕ) (one : Key × Option Entries) (text : List ℕ) → AreLearnt sub box news old new → slice_get news place ≡ Some one → is_open new place ≡ true → IsAlone sub (publishers_at key_cmp box one.0) → text_told box one ≡ Some text → AreLearnt sub box news old (slice_set new place (Some text))
-  set_learnt news [] [] place one text learnt there open alone told = absurd (true≢false (sym open))
-  set_learnt news [] (now ∷ new) place one text learnt there open alone told = absurd learnt
-  set_learnt news (was ∷ old) [] place one text learnt there open alone told = absurd learnt
-  set_learnt [] (was ∷ old) (now ∷ new) place one text learnt there open alone told = absurd learnt
-  set_learnt (o ∷ news) (was ∷ old) (now ∷ new) zero one text learnt there open alone told = (put_open o one was now text there open alone told learnt.0, learnt.1)
-  set_learnt (o ∷ news) (was ∷ old) (now ∷ new) (suc place) one text learnt there open alone told = (learnt.0, set_learnt news old new place one text learnt.1 there open alone told)
+  set_learnt news [] [] place one text learnt there free alone told = absurd (true≢false (sym free))
+  set_learnt news [] (now ∷ new) place one text learnt there free alone told = absurd learnt
+  set_learnt news (was ∷ old) [] place one text learnt there free alone told = absurd learnt
+  set_learnt [] (was ∷ old) (now ∷ new) place one text learnt there free alone told = absurd learnt
+  set_learnt (o ∷ news) (was ∷ old) (now ∷ new) zero one text learnt there free alone told = (put_open o one was now text there free alone told learnt.0, learnt.1)
+  set_learnt (o ∷ news) (was ∷ old) (now ∷ new) (suc place) one text learnt there free alone told = (learnt.0, set_learnt news old new place one text learnt.1 there free alone told)
 
   pub put_learnt : (news : NewsList) (old new : Texts) (place : ℕ) (one : Key × Option Entries) (text : List ℕ) → AreLearnt sub box news old new → slice_get news place ≡ Some one → IsAlone sub (publishers_at key_cmp box one.0) → text_told box one ≡ Some text → AreLearnt sub box news old (put_text new place text)
   put_learnt news old new place one text learnt there alone told = elim (is_open new place) as (λ b. is_open new place ≡ b → AreLearnt sub box news old (cond b (slice_set new place (Some text)) new)) [
-    | true ↦ λ open. set_learnt news old new place one text learnt there open alone told
+    | true ↦ λ free. set_learnt news old new place one text learnt there free alone told
     | false ↦ λ _. learnt
   ] refl
 
@@ -85,10 +85,15 @@ no_texts : (sub : ℕ) (box : KeptDocs) (texts : Texts) → AreRight sub box [] 
 no_texts sub box [] right = refl
 no_texts sub box (text ∷ texts) right = absurd right
 
-pub all_known : (handed : News) (box : KeptDocs) (texts : Texts) → AreRightBy handed box texts → known_by handed texts ≡ texts
+all_known : (handed : News) (box : KeptDocs) (texts : Texts) → AreRightBy handed box texts → known_by handed texts ≡ texts
 all_known news.Nothing box texts right = no_texts 0 box texts right
 all_known (news.Of sub changes) box texts right = refl
 all_known (news.Gone sub) box texts right = no_texts sub box texts right
+
+-- the words of a plan, where texts are known of these news
+pub words_by : (handed : News) (box : KeptDocs) (texts : Texts) (plan words : List Word) → words ≡ plan → AreRightBy handed box texts → AreWords (sub_by handed) box (news_by handed) (known_by handed texts) plan → AreWords (sub_by handed) box (news_by handed) texts words
+words_by handed box texts plan words same right are =
+    subst (AreWords (sub_by handed) box (news_by handed) texts) (sym same) (subst (λ (ts : Texts). AreWords (sub_by handed) box (news_by handed) ts plan) (all_known handed box texts right) are)
 
 -- ---- one word after another
 module _ (sub : ℕ) (box : KeptDocs) (news : NewsList) (texts : Texts) where

@@ -1,5 +1,5 @@
 -- What the texts of messages about documents say.
-use Rattle.std.proofs.Common.{◌≡◌, List, [], ◌∷◌, map, refl, ap}
+use Rattle.std.proofs.Common.{◌≡◌, [], ◌∷◌, map, refl, ap}
 use Rattle.map_model.specs.Differences.{diff}
 use Rattle.map_model.specs.DifferenceLaws.{one_diff, diff_is}
 use Rattle.map_model.specs.MapLaws.{sorted-filter_map_entries}

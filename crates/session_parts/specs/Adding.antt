@@ -1,16 +1,14 @@
 -- What one more item brings.
-use Rattle.std.specs.Prelude.{◌≡◌, ℕ, List, [], ◌++◌, map, None, Some}
+use Rattle.std.specs.Prelude.{◌≡◌, ℕ, List, [], None, Some}
 use Rattle.std.specs.Ordering.{nat_cmp}
 use Rattle.map_model.specs.Maps.{at, set}
 use Rattle.merge_model.specs.Publishing.{Call, apply, drop_sub}
 use Rattle.value_model.specs.Val.{Entries}
 use Rattle.ejson_value.specs.declared.key.Key.{Key}
-use Rattle.ejson_value.specs.declared.message.DataMsg.{DataMsg}
 use Rattle.ejson_value.specs.Changes.{news_of}
 use Rattle.journal_model.specs.Texts.{server_text}
 use Rattle.journal_model.specs.Out.{updated}
 use Rattle.session_relation.specs.Fired.{Armed}
-use Rattle.session_texts.specs.Said.{data_text}
 use Rattle.session_state.specs.declared.own.Step.{Step}
 use Rattle.session_state.specs.declared.own.Step.TheVariants as step
 use Rattle.session_parts.specs.declared.adding.News.{News}
@@ -34,7 +32,3 @@ CanArm s armed = Unit {0}
 
 abbrev pub updated_text : List ℕ → List ℕ
 updated_text id = server_text (updated id)
-
--- the texts of messages about documents, then these words, then an `updated` for each of these ids
-abbrev pub texts_with : List DataMsg → List (List ℕ) → List (List ℕ) → List (List ℕ)
-texts_with messages words ids = map data_text messages ++ (words ++ map updated_text ids)

@@ -1,5 +1,5 @@
 //! One more item: its texts, and what it makes of the parts of a session.
-ghost use Rattle.std.specs.Prelude.{◌≡◌, ◌++◌, ℕ, map, option_map, IfOk, OnOk, OnErr, None};
+ghost use Rattle.std.specs.Prelude.{◌≡◌, ◌++◌, ℕ, map, option_map, option_to_list, IfOk, OnOk, OnErr, None};
 ghost use Rattle.merge_box.specs.State.{KeptDocs, IsPlan};
 ghost use Rattle.session_relation.specs.Fired.{unfired};
 ghost use Rattle.session_texts.specs.Said.{data_text};
@@ -105,11 +105,7 @@ fn new_text(
 }
 
 // The text of a word, if it has one.
-fn word_text(
-    alloc: Global,
-    known: &mut KnownTexts,
-    word: &Word,
-) -> Result<Option<Text>, Mem>
+fn word_text(alloc: Global, known: &mut KnownTexts, word: &Word) -> Result<Option<Text>, Mem>
     ensures text { (sub : ℕ) (box : KeptDocs) (news : NewsList) (before : Texts) → AreRight sub box news before →
         AreLearnt sub box news before known.old → IsWord sub box news before word.now →
         IfOk result (λ text. text ≡ option_map text_about (said_by (seen_in box) news word.now)) }
@@ -125,6 +121,16 @@ fn word_text(
     }
 }
 
+// Puts the text behind the others, if there is one.
+fn push_text(texts: &mut Texts, text: Option<Text>) -> Result<(), Mem>
+    ensures { OnOk result (texts.new.items ≡ texts.old.items ++ option_to_list text) }
+{
+    if let Some(text) = text {
+        texts.push_back(text)?;
+    }
+    Ok(())
+}
+
 // The texts of what a client is told of documents.
 fn word_texts(alloc: Global, known: &mut KnownTexts, plan: &[Word]) -> Result<Texts, Mem>
     ensures texts { (sub : ℕ) (box : KeptDocs) (news : NewsList) → AreRight sub box news known.old →
@@ -136,9 +142,8 @@ fn word_texts(alloc: Global, known: &mut KnownTexts, plan: &[Word]) -> Result<Te
     let mut texts = Texts::new(alloc);
     texts.reserve(plan.len())?;
     for word in plan {
-        if let Some(text) = word_text(alloc, known, word)? {
-            texts.push_back(text)?;
-        }
+        let text = word_text(alloc, known, word)?;
+        push_text(&mut texts, text)?;
     }
     Ok(texts)
 }

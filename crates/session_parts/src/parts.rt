@@ -1,19 +1,18 @@
 //! The parts of a session that an item changes.
-ghost use Rattle.std.specs.Prelude.{◌≡◌, ◌<◌, ◌≤◌, ◌+◌, ◌++◌, ℕ, length, map, IfOk, OnOk, OnErr, IsTrue};
+ghost use Rattle.std.specs.Prelude.{◌≡◌, ◌<◌, ◌≤◌, ◌+◌, length, IfOk, OnOk, OnErr, IsTrue};
 ghost use Rattle.std.specs.VecDeque.{deque_len, deque_capacity};
 ghost use Rattle.session_journal.specs.Journal.{max_items};
-ghost use Rattle.session_state.specs.Own.{as_state, stepped, told_with, CanStep, HasRoom, SameOwn};
+ghost use Rattle.session_state.specs.Own.{as_state, stepped, CanStep, HasRoom, SameOwn};
 ghost use Rattle.session_state.specs.Progress.{progress_of};
-ghost use Rattle.merge_box.specs.State.{KeptDocs};
-ghost use Rattle.merge_box.specs.Words.{NewsList, seen_in, said_all, AreWords};
-ghost use Rattle.session_parts.specs.Adding.{call_by, CanArm, updated_text};
-ghost use Rattle.session_parts.specs.Known.{text_about, AreRight, AreLearnt, AreRightBy, AreLearntBy};
-ghost use Rattle.session_parts.specs.Parts.{IsNew, HasGained, AreSame};
+ghost use Rattle.merge_box.specs.State.{IsBoxAfter};
+ghost use Rattle.session_parts.specs.Adding.{call_by, CanArm};
+ghost use Rattle.session_parts.specs.Known.{AreRightBy, AreLearntBy};
+ghost use Rattle.session_parts.specs.Parts.{IsNew, HasGained, AreSame, gained_texts};
 
 use crate::adding::{Addition, News, arm, fire_all, plan_of, texts_of};
 use ejson_value::Mem;
 use known_texts::KnownTexts;
-use merge_box::{MergeBox, Word};
+use merge_box::MergeBox;
 use session_journal::{Journal, Line};
 use session_state::{Own, Progress, Step};
 use session_texts::Texts;
@@ -31,26 +30,29 @@ pub struct Parts {
     pub outbox: Texts,
 }
 
-// The texts of an item.
-fn texts_with(
+// Plans what the client is shown otherwise, and makes the texts of an item.
+fn planned_texts(
     alloc: Global,
     own: &Own,
+    shown: &mut MergeBox,
+    news: &News<'_>,
     known: &mut KnownTexts,
-    plan: &[Word],
     words: &mut Texts,
     step: &Step,
     progress: &Progress,
 ) -> Result<Texts, Mem>
     requires can { CanStep step.now (as_state own.now) }
     requires progress { progress.now ≡ progress_of (stepped step.now (as_state own.now)).subs }
-    ensures texts { (sub : ℕ) (box : KeptDocs) (news : NewsList) → AreRight sub box news known.old →
-        AreWords sub box news known.old plan.now →
-        IfOk result (λ texts. texts.items ≡ map text_about (said_all (seen_in box) news plan.now) ++ (words.old.items ++ map updated_text (told_with step.now (as_state own.now)))) }
-    ensures learnt { (sub : ℕ) (box : KeptDocs) (news : NewsList) → AreRight sub box news known.old →
-        AreWords sub box news known.old plan.now → AreLearnt sub box news known.old known.new }
+    requires right { AreRightBy news.now shown.old.kept known.old }
+    ensures same { shown.new.kept ≡ shown.old.kept }
+    ensures after { OnOk result (IsBoxAfter (call_by news.now) shown.old.kept shown.new.planned) }
+    ensures texts { IfOk result (λ texts. texts.items ≡ gained_texts (stepped step.now (as_state own.now)) words.old.items shown.old.kept shown.new.planned) }
+    ensures learnt { AreLearntBy news.now shown.old.kept known.old known.new }
 {
     let updated = own.told(alloc, step, progress)?;
-    let texts = texts_of(alloc, known, plan, words, &updated)?;
+    let plan = plan_of(shown, alloc, news, known)?;
+    shown.known();
+    let texts = texts_of(alloc, known, plan.as_slice(), words, &updated)?;
     Ok(texts)
 }
 
@@ -121,12 +123,12 @@ impl Parts {
         self.shown.known();
         self.fences.known();
         let progress = self.own.progress_after(&step);
-        let plan = plan_of(&mut self.shown, alloc, news, known)?;
-        let mut texts = texts_with(
+        let mut texts = planned_texts(
             alloc,
             &self.own,
+            &mut self.shown,
+            news,
             known,
-            plan.as_slice(),
             &mut words,
             &step,
             &progress,

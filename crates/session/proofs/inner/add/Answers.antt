@@ -1,20 +1,8 @@
-use Rattle.std.proofs.Common.{refl}
-use Rattle.std.proofs.lemmas.Result.{on_ok_weaker}
-use Rattle.session_state.specs.Own.{as_state}
-use Rattle.session_parts.specs.Adding.{call_by}
-use Rattle.session.specs.declared.inner.Inner.{Inner}
-use Rattle.session.proofs.Counted.{can_step}
-use Rattle.session.proofs.Keeping.{room_left, is_added}
+use Rattle.std.proofs.Common.{sym, subst}
+use Rattle.known_texts.specs.Places.{Texts}
+use Rattle.session_parts.specs.Known.{AreRightBy}
+use Rattle.session.specs.Kept.{seen}
 use Rattle.session.proofs.inner.add.Goals as goal
 
-pub add-requires-clause-few : goal.add-requires-clause-few
-add-requires-clause-few c = room_left c.args.inner.now c.requires.room
-
-pub add-requires-clause-steps : goal.add-requires-clause-steps
-add-requires-clause-steps c = can_step c.args.addition.step (as_state c.args.inner.now.parts.own) c.requires.follows
-
-pub returns-clause-added : goal.returns-clause-added
-returns-clause-added c =
-    let old = c.args.inner.now in
-    let new : Inner = record old { parts = c.add.new.self } in
-    on_ok_weaker c.add.result (λ g. is_added c.args.addition (call_by c.args.news.now) old new c.requires.kept c.requires.follows g (record { app = refl; number = refl; taken = refl; queue = refl; places = refl; dropped = refl })) c.add.ensures.gained
+pub add_known-requires-clause-right : goal.add_known-requires-clause-right
+add_known-requires-clause-right c = subst (λ (ts : Texts). AreRightBy c.args.news.now (seen c.args.inner.now).carried.box ts) (sym c.new-known.ensures) tt

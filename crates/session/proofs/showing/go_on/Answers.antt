@@ -1,17 +1,9 @@
-use Rattle.std.proofs.Common.{None, refl}
-use Rattle.std.proofs.lemmas.Result.{on_ok_weaker}
-use Rattle.session_relation.specs.declared.stored.Stored.TheVariants.{Advance}
-use Rattle.session_state.specs.declared.own.Step.TheVariants.{Show}
-use Rattle.session_parts.specs.declared.adding.Addition.{Addition}
-use Rattle.session.proofs.Keeping.{HasMoved, HasStayed}
-use Rattle.session.proofs.Shown.{has_gone}
+use Rattle.std.proofs.Common.{sym, subst}
+use Rattle.ejson_value.specs.Changes.{news_of}
+use Rattle.known_texts.specs.Places.{Texts}
+use Rattle.session_parts.specs.Known.{AreRight}
+use Rattle.session.specs.Kept.{seen}
 use Rattle.session.proofs.showing.go_on.Goals as goal
 
-pub returns-clause-gone : goal.returns-clause-gone
-returns-clause-gone c =
-    let old = c.args.inner.now in
-    let mid = c.add.new.inner in
-    let a : Addition = record { item = Advance c.args.sub c.args.count; id = None; step = Show c.args.sub c.args.at; words = c.new.result } in
-    let m : HasMoved mid mid = record { app = refl; number = refl; journal = refl; outbox = refl; own = refl; fences = refl; shown = refl; dropped = refl } in
-    let s : HasStayed mid mid = record { taken = refl; limit = refl; waiting = refl; places = refl } in
-    on_ok_weaker c.add.result (λ d. has_gone c.args.sub c.args.at a old mid mid refl c.args.count c.args.news.now d m s c.requires.place refl refl c.new.ensures.items refl) c.add.ensures.added
+pub go_on_known-requires-clause-right : goal.go_on_known-requires-clause-right
+go_on_known-requires-clause-right c = subst (λ (ts : Texts). AreRight c.args.sub (seen c.args.inner.now).carried.box (news_of c.args.news.now) ts) (sym c.new-known.ensures) tt
