@@ -154,6 +154,13 @@ impl Client {
         !self.subs.some_waits() && are_settled(self.calls.as_slice())
     }
 
+    /// How many texts are to be sent out of the client.
+    pub fn waiting(&self) -> usize
+        ensures { result ≡ length self.now.client.waiting }
+    {
+        self.waiting.len()
+    }
+
     /// Takes the next text that is to be sent out of the client.
     pub fn next_out(&mut self) -> Option<Text>
         ensures { IsSent self.old self.new result }

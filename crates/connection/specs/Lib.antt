@@ -1,3 +1,4 @@
 pub mod Kept
 pub mod Answers
 pub mod Storing
+pub mod Asks

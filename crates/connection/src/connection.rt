@@ -15,6 +15,7 @@ ghost use Rattle.connection_laws.specs.Printing.{kept_journal};
 ghost use Rattle.link_laws.specs.Session.{IsServed};
 ghost use Rattle.ejson_value.specs.Changes.{news_of};
 ghost use Rattle.session_parts.specs.Known.{AreRight, AreLearnt};
+ghost use Rattle.connection.specs.Asks.{asks_nothing};
 ghost use Rattle.connection.specs.Answers.{AnswersIn, Answers, Takes, Does, DoesAsked};
 ghost use Rattle.connection.specs.Storing.{Begins, StepsOn, Learns, AdvancesBy, FeedsBy};
 
@@ -22,6 +23,7 @@ use crate::acting::{handle, recv, send, take, up};
 use crate::asking::{call, leave, raw, subscribe, unsubscribe};
 use crate::link::Link;
 use crate::printing::journal;
+use crate::resting::asks_nothing;
 use crate::side::Side;
 use crate::storing::{advance, advance_over, begin, feed, learn, load, step};
 use app_model::App;
@@ -121,6 +123,14 @@ impl Connection {
         ensures { IfOk result (λ calls. calls.items ≡ running_from 0 self.now.session.carried.own.methods) }
     {
         self.side.session.running()
+    }
+
+    /// Whether the client asks for nothing: none of its texts goes up, no message waits to be handled, and
+    /// none of its calls blocks or runs.
+    pub fn asks_nothing(&self) -> Result<bool, Mem>
+        ensures { IfOk result (λ nothing. nothing ≡ asks_nothing self.now) }
+    {
+        asks_nothing(&self.side)
     }
 
     /// Whether the client, and its session, are gone.

@@ -6,6 +6,7 @@ mod asking;
 mod connection;
 mod link;
 mod printing;
+mod resting;
 mod side;
 mod storing;
 

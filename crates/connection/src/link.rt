@@ -1,5 +1,5 @@
 //! The texts that go one way between a client and its session.
-ghost use Rattle.std.specs.Prelude.{◌≡◌, ◌<◌, ◌≤◌, suc, [], length, drop, not, nat_lt, slice_get};
+ghost use Rattle.std.specs.Prelude.{◌≡◌, ◌<◌, ◌≤◌, ◌==◌, suc, [], length, drop, not, nat_lt, slice_get};
 ghost use Rattle.std.specs.Option.{option_copied};
 ghost use Rattle.core_model.specs.Conn.{link_limit};
 
@@ -35,6 +35,14 @@ impl Link {
         ensures { result ≡ not (nat_lt (length (drop self.now.taken self.now.texts.items)) link_limit) }
     {
         self.texts.len() - self.taken >= LINK_LIMIT
+    }
+
+    /// Whether it holds no text.
+    pub(crate) fn is_empty(&self) -> bool
+        requires { self.now.taken ≤ length self.now.texts.items }
+        ensures { result ≡ (length (drop self.now.taken self.now.texts.items) == 0) }
+    {
+        self.texts.len() - self.taken == 0
     }
 
     /// The text that is taken next.

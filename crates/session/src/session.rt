@@ -176,6 +176,13 @@ impl Session {
         self.inner.parts.own.subs.as_slice()
     }
 
+    /// How many messages wait to be handled.
+    pub fn waiting(&self) -> usize
+        ensures { result ≡ length self.now.carried.waiting }
+    {
+        self.inner.places.len()
+    }
+
     /// The call that blocks, if one does.
     pub fn blocking(&self) -> Option<&Call>
         ensures { option_map as_blocking (option_copied result) ≡ self.now.carried.own.blocking }
