@@ -1,8 +1,10 @@
 -- A subscription goes on by what is told of a span, or by its changes.
 use Rattle.std.specs.Prelude.{◌≡◌, ℕ, ◌+◌, ◌<◌, ◌≤◌, List, length, map, false, Option, None, Some, IfSome, Result, Ok, Err, IfOk, refl}
+use Rattle.std.specs.Arc.{arc_value}
 use Rattle.std.proofs.Common.{ap, ap₂, sym, subst, ◌∙◌}
 use Rattle.ejson_value.specs.declared.change.Publish.{Publish}
 use Rattle.ejson_value.specs.Changes.{news_of}
+use Rattle.known_texts.specs.Places.{Texts}
 use Rattle.history_log.specs.declared.batch.Batch.{Batch}
 use Rattle.store_machine.specs.State.{MachineState, held_after}
 use Rattle.publication.specs.Published.{published}
@@ -17,10 +19,16 @@ use Rattle.core_model.specs.Store.{moments}
 use Rattle.connection_laws.specs.Connection.{AConnection, IsConnection}
 use Rattle.connection.specs.Answers.{AnswersIn}
 use Rattle.connection.specs.Storing.{AdvancesBy, FeedsBy}
+use Rattle.shared_news.specs.declared.news.Lent.{Lent}
 use Rattle.shared_news.specs.Leading.{IsLead}
-use Rattle.shared_news.specs.Telling.{batch_of, IsSource}
+use Rattle.shared_news.specs.Telling.{ANews, batch_of, IsSource}
+use Rattle.shared_news.specs.Spans.{IsLent}
+use Rattle.shared_news.specs.Lending.{with_texts, known_of, known_with}
+use Rattle.session_parts.specs.Known.{AreRight, AreLearnt}
 use Rattle.source_laws.specs.Sources.{cursors_at_of, has_limit, IsSub}
 use Rattle.source_laws.specs.Found.{is_source, place_is, told_feeds}
+use Rattle.source_laws.specs.Texts.{known_are_right, learnt_are_known}
+use Rattle.client_rounds.specs.Lending.{IsLentTo}
 
 -- the one with the number, among those that the session lists
 pub sub_is : (number : ℕ) (subs : List Sub) (sub : Sub) (s : ASession) → map as_live subs ≡ s.carried.own.subs → observers_of subs ≡ s.observers → Some (as_live sub) ≡ live_of number (map as_live subs) →
@@ -39,6 +47,30 @@ module _ (m : MachineState) (x : AConnection) (p : IsConnection m.app x.own.name
   feeds value start count placed fits (Ok (Some told)) d =
       told_feeds m x.own.name x number start count sub (value told) p is (sym (place_is m.app x.own.name m.history x p number sub is) ∙ placed) fits none d
   feeds value start count placed fits (Err e) d = tt
+
+  -- a span is lent to it
+  pub lends : {E : Type 0} (from until : ℕ) (news : ANews) → cursor_of number x.session.carried.own.subs ≡ Some from → (result : Result (Option Lent) E) →
+      IfOk result (λ answer. IfSome answer (IsLent m sub from until news.sources)) → IfOk result (λ answer. IfSome answer (IsLentTo m x number from until news))
+  lends from until news placed (Ok None) lent = tt
+  lends from until news placed (Ok (Some l)) lent = record { sub = sub; is = is; placed = sym (place_is m.app x.own.name m.history x p number sub is) ∙ placed; unlimited = none; span = lent }
+  lends from until news placed (Err e) lent = tt
+
+module _ (m : MachineState) (x : AConnection) (p : IsConnection m.app x.own.name m.history x) (number from until : ℕ) (news : ANews) (lent : Lent) (is : IsLentTo m x number from until news lent) where
+  pub lent_source : IsSource (cursors_at_of m.app) is.sub
+  lent_source = source m x p number is.sub is.is is.unlimited
+
+  -- the texts that are known of it are right for the client
+  pub right : (told : List Publish) → told ≡ arc_value lent.span.told → AreRight number x.session.carried.box (news_of told) lent.span.texts
+  right told same =
+      subst (λ (ps : List Publish). AreRight number x.session.carried.box (news_of ps) lent.span.texts) (sym same)
+      (known_are_right m x.own.name x p number from is.sub is.is is.placed (arc_value lent.span.told) lent.span.texts (known_of m is.sub from until news.sources lent is.span))
+
+  -- and what is learnt of the client is known
+  pub learns : (told : List Publish) (texts : Texts) → told ≡ arc_value lent.span.told → AreLearnt number x.session.carried.box (news_of told) lent.span.texts texts → IsLent m is.sub from until news.sources (with_texts lent texts)
+  learns told texts same learnt =
+      known_with m is.sub from until news.sources lent is.span texts
+      (learnt_are_known m x.own.name x p number from is.sub is.is is.placed (arc_value lent.span.told) lent.span.texts texts (known_of m is.sub from until news.sources lent is.span)
+      (subst (λ (ps : List Publish). AreLearnt number x.session.carried.box (news_of ps) lent.span.texts texts) same learnt))
 
 module _ (m : MachineState) (x y : AConnection) (sub count : ℕ) (few : length m.history < 18446744073709551616) where
   pub fed_in : {E : Type 0} (news : List Publish) → IsFeed (moments m.app x.session.carried.number m.history) sub count news x.session → (result : Result Answer E) → FeedsBy sub count news x y result →

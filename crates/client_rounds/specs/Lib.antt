@@ -1,2 +1,3 @@
 pub mod Visit
 pub mod Acting
+pub mod Lending

@@ -8,12 +8,13 @@ ghost use Rattle.core_model.specs.Store.{moments};
 ghost use Rattle.connection_laws.specs.Connection.{IsConnection};
 ghost use Rattle.connection.specs.Answers.{AnswersIn};
 ghost use Rattle.source_laws.specs.News.{AreNews};
+ghost use Rattle.client_rounds.specs.Lending.{IsLentTo};
 
 use connection::Connection;
 use core_model::Answer;
 use ejson_value::Mem;
 use session_state::sub_of;
-use shared_news::{SharedNews, Span};
+use shared_news::{Lent, SharedNews};
 use store_machine::Machine;
 
 // What the subscription's publication tells of the entries to all that ask, where none of its cursors
@@ -25,13 +26,14 @@ fn told(
     sub: u64,
     from: u64,
     count: u64,
-) -> Result<Option<Span>, Mem>
+) -> Result<Option<Lent>, Mem>
     requires connection { IsConnection machine.now.app connection.now.own.name machine.now.history connection.now }
     requires news { AreNews machine.now news.old }
     requires is { cursor_of sub connection.now.session.carried.own.subs ≡ Some from }
     requires within { from + count ≤ length machine.now.history }
     ensures keeps { AreNews machine.now news.new }
-    ensures feeds { IfOk result (λ told. IfSome told (λ answer. IsFeed (moments machine.now.app connection.now.session.carried.number machine.now.history) sub count answer.told connection.now.session)) }
+    ensures feeds { IfOk result (λ told. IfSome told (λ lent. IsFeed (moments machine.now.app connection.now.session.carried.number machine.now.history) sub count (arc_value lent.span.told) connection.now.session)) }
+    ensures lent { IfOk result (λ told. IfSome told (IsLentTo machine.now connection.now sub from (from + count) news.new)) }
 {
     match sub_of(connection.subs(), sub) {
         Some(live) if !live.cursors.limited() => news.span(machine, live, from, count),
@@ -59,30 +61,8 @@ fn advance_alone(
     connection.advance_over(sub, &batch)
 }
 
-// The span is kept, with what is known of it now.
-fn learn(connection: &Connection, news: &mut SharedNews, sub: u64, span: Span)
-{
-    if let Some(live) = sub_of(connection.subs(), sub) {
-        news.learn(live, span);
-    }
-}
-
-// The subscription goes on over the entries by what is told of them to all.
-fn feed(
-    connection: &mut Connection,
-    news: &mut SharedNews,
-    sub: u64,
-    count: u64,
-    span: Span,
-) -> Result<Answer, Mem>
-{
-    let mut span = span;
-    let answer = connection.feed(sub, count, &span.told, &mut span.texts)?;
-    learn(connection, news, sub, span);
-    Ok(answer)
-}
-
-// The subscription goes on over entries that the history has.
+// The subscription goes on over entries that the history has. What is told of them to all is put back,
+// with the texts that are known of it now.
 fn advance_within(
     connection: &mut Connection,
     machine: &Machine,
@@ -100,7 +80,12 @@ fn advance_within(
     ensures advances { AnswersIn machine.now.app machine.now.history (act.Advance sub count) connection.old connection.new result }
 {
     match told(connection, machine, news, sub, from, count)? {
-        Some(span) => feed(connection, news, sub, count, span),
+        Some(lent) => {
+            let mut lent = lent;
+            let answer = connection.feed(sub, count, &lent.span.told, &mut lent.span.texts)?;
+            news.learn(lent);
+            Ok(answer)
+        }
         None => advance_alone(connection, machine, news, sub, from, count),
     }
 }

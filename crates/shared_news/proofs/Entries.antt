@@ -17,7 +17,7 @@ use Rattle.live_observer.specs.Observing.{IsDifference}
 use Rattle.store_machine.specs.State.{MachineState, programs, held_after}
 use Rattle.shared_news.specs.Leading.{News, AreDifferences, differ_behind, differ_first, differ_with}
 use Rattle.shared_news.specs.Telling.{ASpan, ASource, documents_of, IsSpan}
-use Rattle.shared_news.specs.Sources.{max_entries, next_of, reached, trimmed, with_one, with_last, IsToldBy, IsAlike, LeadsBy}
+use Rattle.shared_news.specs.Sources.{max_entries, next_of, reached, trimmed, with_one, with_last, without_last, IsToldBy, IsAlike}
 
 -- ---- one after another
 
@@ -95,12 +95,16 @@ module _ (cursors : ACursors) (m : MachineState) where
       (subst (λ n. IsDifference (published cursors (held_after m n).rows) (published cursors (held_after m (n + 1)).rows) (news_of one)) same differs) (told_trimmed s told))
   told_kept (Err e) s new one ok err within differs told = subst (IsToldBy cursors m) (sym err) (told_trimmed s told)
 
-  pub told_last : (s : ASource) (from until : ℕ) (told : List Publish) → from ≤ until → until ≤ length m.history → LeadsBy cursors m from until told → IsToldBy cursors m s → IsToldBy cursors m (with_last s from until told)
-  told_last s from until told order within leads is = record { within = is.within; each = is.each; last = record { order = order; within = within; leads = leads } }
+  -- a span is kept, or none
+  pub told_last : (s : ASource) (span : ASpan) → IsSpan cursors (programs m.app) m.history span → IsToldBy cursors m s → IsToldBy cursors m (with_last s span)
+  told_last s span is told = record { within = told.within; each = told.each; last = is }
 
-  -- the span that was asked for last
-  pub told_known : (s : ASource) (from until : ℕ) (answer : List Publish) → s.last ≡ Some (record { from = from; until = until; told = answer }) → IsToldBy cursors m s → LeadsBy cursors m from until answer
-  told_known s from until answer is told = (subst (λ (o : Option ASpan). IfSome o (IsSpan cursors (programs m.app) m.history)) is told.last).leads
+  pub told_without : (s : ASource) → IsToldBy cursors m s → IsToldBy cursors m (without_last s)
+  told_without s told = record { within = told.within; each = told.each; last = tt }
+
+  -- the span that is kept
+  pub told_known : (s : ASource) (span : ASpan) → s.last ≡ Some span → IsToldBy cursors m s → IsSpan cursors (programs m.app) m.history span
+  told_known s span is told = subst (λ (o : Option ASpan). IfSome o (IsSpan cursors (programs m.app) m.history)) is told.last
 
   -- the changes of entries lead from their place to the one behind them
   pub entries_lead : (place count : ℕ) (changes : List Change) → changes ≡ changes_between (programs m.app) m.history place count → Leads key_cmp (changes_of changes) (held_after m place).rows (held_after m (place + count)).rows
@@ -128,13 +132,9 @@ module _ {A : Type 0} (f : A → List Publish) where
       (differ_first cursors C count from (drop (from - first) (map news_of (map f xs)))
       (subst (λ n. AreDifferences cursors C n (drop (from - first) (map news_of (map f xs)))) place (differ_behind cursors C (from - first) first (map news_of (map f xs)) each)))
 
--- a span by its places
-pub span_is : (span : ASpan) (from until : ℕ) (told : List Publish) → (span.from == from && span.until == until) ≡ true → span.told ≡ told → span ≡ record { from = from; until = until; told = told }
-span_is span from until told test same =
-    let both = both_true (span.from == from) (span.until == until) test in
-    let begins : span.from ≡ from = eqb-true span.from from both.0 in
-    let ends : span.until ≡ until = eqb-true span.until until both.1 in
-    λ i. record { from = begins i; until = ends i; told = same i }
+-- the places of a span
+pub places_are : (a b from until : ℕ) → (a == from && b == until) ≡ true → (a ≡ from) × (b ≡ until)
+places_are a b from until test = let both = both_true (a == from) (b == until) test in (eqb-true a from both.0, eqb-true b until both.1)
   where
     both_true : (a b : Bool) → (a && b) ≡ true → (a ≡ true) × (b ≡ true)
     both_true true b e = (refl, e)

@@ -4,3 +4,4 @@ pub mod Joins
 pub mod Entries
 pub mod Sources
 pub mod Kept
+pub mod Texts

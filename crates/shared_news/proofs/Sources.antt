@@ -11,8 +11,8 @@ use Rattle.live_observer.specs.Observing.{AnObserver, cursors_of, HaveNoLimit}
 use Rattle.session_state.specs.declared.subs.Sub.{Sub}
 use Rattle.store_machine.specs.State.{MachineState, programs, held_after}
 use Rattle.shared_news.specs.Leading.{IsLead, AreDifferences}
-use Rattle.shared_news.specs.Telling.{CursorsAt, ASource, documents_of, IsSpan, IsTold, IsSource}
-use Rattle.shared_news.specs.Sources.{IsAlike, IsOf, IsPlaceOf, IsToldBy}
+use Rattle.shared_news.specs.Telling.{CursorsAt, ASpan, ASource, documents_of, IsSpan, IsTold, IsSource}
+use Rattle.shared_news.specs.Sources.{with_last, IsAlike, IsOf, IsPlaceOf, IsToldBy}
 
 -- ---- lists
 
@@ -82,9 +82,28 @@ module _ (cursors_at : CursorsAt) (sub : Sub) (o : AnObserver) (source : IsSourc
   pub alike_of : (old new : ASource) → IsOf sub old → IsAlike old new → IsOf sub new
   alike_of old new of alike = record { name = alike.name ∙ of.name; params = alike.params ∙ of.params }
 
+  -- what is told of the others stays
+  pub all_told : (m : MachineState) (sources : List ASource) (place : ℕ) (s new : ASource) → slice_get sources place ≡ Some s → IsPlaceOf sources sub place → IsAlike s new →
+      (HaveNoLimit (cursors_of o) → IsToldBy (cursors_of o) m s → IsToldBy (cursors_of o) m new) → AllByRecursion (IsTold cursors_at (programs m.app) m.history) sources →
+      AllByRecursion (IsTold cursors_at (programs m.app) m.history) (slice_set sources place new)
+  all_told m sources place s new at placed alike keeps all =
+      let P : ASource → Type 0 = IsTold cursors_at (programs m.app) m.history in
+      let of = of_place sources sub s place at placed in
+      all_with P sources place new all (told_at m new (alike_of s new of alike) (keeps unlimited (told_by m s of (all_at P sources place s all at))))
+
   -- what is told by the observer's cursors is told by the subscription's
   pub leads_by : {T E : Type 0} (m : MachineState) (value : T → List Publish) (from until : ℕ) (result : Result (Option T) E) →
       IfOk result (λ answer. IfSome answer (λ told. IsLead (published (cursors_of o) (held_after m from).rows) (published (cursors_of o) (held_after m until).rows) (news_of (value told)))) →
       IfOk result (λ answer. IfSome answer (λ told. IsLead (published sub.cursors (held_after m from).rows) (published sub.cursors (held_after m until).rows) (news_of (value told))))
   leads_by m value from until result leads =
       subst (λ (cs : ACursors). IfOk result (λ answer. IfSome answer (λ told. IsLead (published cs (held_after m from).rows) (published cs (held_after m until).rows) (news_of (value told))))) cursors_same leads
+
+-- a span of the subscription's publication is kept by its source
+pub all_learnt : (cursors_at : CursorsAt) (m : MachineState) (sub : Sub) (sources : List ASource) (place : ℕ) (s new : ASource) (span : ASpan) → slice_get sources place ≡ Some s → IsPlaceOf sources sub place → IsSource cursors_at sub →
+    IsSpan sub.cursors (programs m.app) m.history span → new ≡ with_last s span → AllByRecursion (IsTold cursors_at (programs m.app) m.history) sources → AllByRecursion (IsTold cursors_at (programs m.app) m.history) (slice_set sources place new)
+all_learnt cursors_at m sub sources place s new span at placed source is kept all =
+    let P : ASource → Type 0 = IsTold cursors_at (programs m.app) m.history in
+    let of = of_place sources sub s place at placed in
+    let told = all_at P sources place s all at in
+    let same : cursors_at s.name s.params ≡ sub.cursors = ap₂ cursors_at of.name of.params ∙ sym source.cursors in
+    all_with P sources place new all (subst P (sym kept) (record { within = told.within; each = told.each; last = subst (λ (cs : ACursors). IsSpan cs (programs m.app) m.history span) (sym same) is }))

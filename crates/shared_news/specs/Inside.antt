@@ -7,7 +7,7 @@ use Rattle.shared_news.specs.Telling.{ASpan, ASource}
 use Rattle.shared_news.specs.Sources.{max_entries}
 
 abbrev pub seen_span : Span → ASpan
-seen_span span = record { from = span.from; until = span.until; told = arc_value span.told }
+seen_span span = record { from = span.from; until = span.until; told = arc_value span.told; texts = span.texts }
 
 abbrev pub seen : Inside → ASource
 seen a = record { name = a.name; params = a.params; first = a.first; ones = map (λ one. arc_value one) a.ones.items; last = option_map seen_span a.last }

@@ -1,7 +1,10 @@
 pub mod Leading
+pub mod Known
 pub mod Telling
 pub mod Longer
 pub mod Params
 pub mod Joining
 pub mod Sources
 pub mod Inside
+pub mod Spans
+pub mod Lending

@@ -14,6 +14,7 @@ use Rattle.publication.specs.Published.{published}
 use Rattle.live_observer.specs.Observing.{IsDifference}
 use Rattle.store_machine.specs.State.{MachineState, programs}
 use Rattle.shared_news.specs.Leading.{News, AreDifferences, IsLead}
+use Rattle.shared_news.specs.Known.{AreKnown}
 use Rattle.shared_news.specs.Telling.{CursorsAt, ASpan, ASource, ANews, nothing_told, documents_of, IsSpan, IsTold, IsKept, AreTold}
 
 taken_within : {A : Type 0} (count place : ℕ) (xs more : List A) → place + count ≤ length xs → take count (drop place (xs ++ more)) ≡ take count (drop place xs)
@@ -60,6 +61,7 @@ span_longer cursors app history more (Some span) told =
       leads =
           subst (λ (rows : Rows). IsLead (published cursors rows) (published cursors (documents_of app (history ++ more) span.until)) (news_of span.told)) (same span.from (omega (arith, told.order, told.within)))
           (subst (λ (rows : Rows). IsLead (published cursors (documents_of app history span.from)) (published cursors rows) (news_of span.told)) (same span.until told.within) told.leads);
+      known = subst (λ (rows : Rows). AreKnown (published cursors rows) (news_of span.told) span.texts) (same span.from (omega (arith, told.order, told.within))) told.known;
     }
 
 source_longer : (cursors_at : CursorsAt) (app : Programs) (history more : List Entry) (source : ASource) → IsTold cursors_at app history source → IsTold cursors_at app (history ++ more) source

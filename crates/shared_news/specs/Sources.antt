@@ -6,7 +6,7 @@ use Rattle.publication.specs.Cursors.{ACursors}
 use Rattle.publication.specs.Published.{published}
 use Rattle.session_state.specs.declared.subs.Sub.{Sub}
 use Rattle.store_machine.specs.State.{MachineState, programs, held_after}
-use Rattle.shared_news.specs.Telling.{ASource, IsTold}
+use Rattle.shared_news.specs.Telling.{ASpan, ASource, IsTold}
 use Rattle.shared_news.specs.Leading.{IsLead}
 
 -- how many entries are kept at most, and of how many publications
@@ -32,9 +32,13 @@ trimmed s = if nat_le max_entries (length s.ones) then record s { first = s.firs
 abbrev pub with_one : ASource → List Publish → ASource
 with_one s one = record s { ones = s.ones ++ one ∷ [] }
 
--- the span was asked for last
-abbrev pub with_last : ASource → ℕ → ℕ → List Publish → ASource
-with_last s from until told = record s { last = Some (record { from = from; until = until; told = told }) }
+-- the span is kept
+abbrev pub with_last : ASource → ASpan → ASource
+with_last s span = record s { last = Some span }
+
+-- no span is kept
+abbrev pub without_last : ASource → ASource
+without_last s = record s { last = None }
 
 -- it is of the same publication with the same parameters
 pub record IsAlike (old new : ASource) : Type 0 where

@@ -13,17 +13,20 @@ use Rattle.publication.specs.Cursors.{ACursors}
 use Rattle.publication.specs.Published.{published}
 use Rattle.live_observer.specs.Observing.{AnObserver, cursors_of, HaveNoLimit}
 use Rattle.session_state.specs.declared.subs.Sub.{Sub}
+use Rattle.known_texts.specs.Places.{Texts}
 use Rattle.shared_news.specs.Leading.{AreDifferences, IsLead}
+use Rattle.shared_news.specs.Known.{AreKnown}
 
 -- the cursors of each publication with params
 abbrev pub CursorsAt : Type 0
 CursorsAt = List ℕ → List Val → ACursors
 
--- what is told of the entries between two places
+-- what is told of the entries between two places, and the texts that are known of it
 pub record ASpan : Type 0 where
   pub from : ℕ
   pub until : ℕ
   pub told : List Publish
+  pub texts : Texts
 
 -- what a publication, called with its params, tells of each entry from the first on, and of a span
 pub record ASource : Type 0 where
@@ -48,11 +51,12 @@ batch_of m from count = record { from = from; count = count; changes = changes_b
 abbrev pub documents_of : Programs → List Entry → ℕ → Rows
 documents_of app history place = (held_at app history place).rows
 
--- the span is the history's, and what is told of it leads from what is published at its beginning to what is published at its end
+-- the span is the history's, what is told of it leads from what is published at its beginning to what is published at its end, and a text that is known is what each client is told that sees what is published at its beginning
 pub record IsSpan (cursors : ACursors) (app : Programs) (history : List Entry) (span : ASpan) : Type 0 where
   pub order : span.from ≤ span.until
   pub within : span.until ≤ length history
   pub leads : IsLead (published cursors (documents_of app history span.from)) (published cursors (documents_of app history span.until)) (news_of span.told)
+  pub known : AreKnown (published cursors (documents_of app history span.from)) (news_of span.told) span.texts
 
 -- the entries are the history's, and what is told of each is the difference that it makes
 pub record IsTold (cursors_at : CursorsAt) (app : Programs) (history : List Entry) (source : ASource) : Type 0 where

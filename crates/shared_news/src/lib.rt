@@ -8,5 +8,5 @@ mod observing;
 mod params;
 mod source;
 
-pub use news::SharedNews;
+pub use news::{Lent, SharedNews};
 pub use source::Span;

@@ -1,13 +1,15 @@
 //! The news that sessions share.
-ghost use Rattle.std.specs.Prelude.{◌≡◌, ◌+◌, ◌≤◌, ◌==◌, ◌&&◌, length, None, Some, IfOk, IfSome, OnErr};
+ghost use Rattle.std.specs.Prelude.{◌≡◌, ℕ, ◌+◌, ◌≤◌, ◌<◌, ◌==◌, ◌&&◌, length, None, Some, is_some, IfOk, IfSome, OnErr};
 ghost use Rattle.std.specs.Arc.{arc_value};
 ghost use Rattle.std.specs.List.{AllByRecursion};
 ghost use Rattle.ejson_value.specs.Changes.{news_of};
 ghost use Rattle.publication.specs.Published.{published};
+ghost use Rattle.session_state.specs.declared.subs.Sub.{Sub as ASub};
 ghost use Rattle.store_machine.specs.State.{MachineState, programs, held_after};
 ghost use Rattle.shared_news.specs.Leading.{IsLead};
 ghost use Rattle.shared_news.specs.Telling.{CursorsAt, nothing_told, batch_of, IsTold, AreTold, IsSource};
-ghost use Rattle.shared_news.specs.Sources.{IsPlaceOf, LeadsBy};
+ghost use Rattle.shared_news.specs.Sources.{IsPlaceOf};
+ghost use Rattle.shared_news.specs.Spans.{IsAsked, IsLent};
 
 use crate::source::{Source, Span};
 use ejson_value::Mem;
@@ -21,6 +23,13 @@ use store_machine::Machine;
 
 /// How many publications are kept at most, each with its parameters.
 const MAX_SOURCES: usize = 16;
+
+/// A span that was asked for, and the place to which it is put back.
+#[derive(Drop)]
+pub struct Lent {
+    place: usize,
+    pub span: Span,
+}
 
 /// What publications, each called with its parameters, tell of the entries of one store's history: what
 /// is kept of it is made once, however many sessions ask. The last batch of changes is kept too. A
@@ -54,7 +63,8 @@ fn is_of(batch: &Batch, from: u64, count: u64) -> bool
 
 // Where the subscription's publication stands among the sources.
 fn place_of(sources: &[Source], sub: &Sub) -> Option<usize>
-    ensures { IfSome result (IsPlaceOf sources.now sub.now) }
+    ensures within { IfSome result (λ place. place < length sources.now) }
+    ensures place { IfSome result (IsPlaceOf sources.now sub.now) }
 {
     for (place, source) in sources.iter().enumerate() {
         if source.is_of(sub) {
@@ -73,26 +83,26 @@ fn span_at(
     observer: &Observer,
     from: u64,
     until: u64,
-) -> Result<Option<Span>, Mem>
+) -> Result<Span, Mem>
+    requires there { place < length sources.old.items }
     requires place { IsPlaceOf sources.old.items sub.now place }
     requires observer { sub.now.observer ≡ Some observer.now }
     requires order { from ≤ until }
     requires within { until ≤ length machine.now.history }
+    ensures place { IsPlaceOf sources.new.items sub.now place }
     ensures told { (cursors_at : CursorsAt) → AllByRecursion (IsTold cursors_at (programs machine.now.app) machine.now.history) sources.old.items → IsSource cursors_at sub.now →
-        IfOk result (λ answer. IfSome answer (λ told. LeadsBy sub.now.cursors machine.now from until told.told)) }
+        IfOk result (IsAsked sub.now.cursors machine.now from until) }
     ensures keeps { (cursors_at : CursorsAt) → AllByRecursion (IsTold cursors_at (programs machine.now.app) machine.now.history) sources.old.items → IsSource cursors_at sub.now →
         AllByRecursion (IsTold cursors_at (programs machine.now.app) machine.now.history) sources.new.items }
 {
-    match sources.get_mut(place) {
-        Some(source) => {
-            let told = source.span(machine, observer, from, until)?;
-            Ok(Some(told))
-        }
-        None => Ok(None),
-    }
+    sources[place].span(machine, observer, from, until)
 }
 
-fn learn_at(sources: &mut Vec<Source>, place: usize, span: Span) {
+// The span is kept by the source at this place, if there is one.
+fn learn_at(sources: &mut Vec<Source>, place: usize, span: Span)
+    ensures { (cursors_at : CursorsAt) (m : MachineState) (sub : ASub) (from until : ℕ) → AllByRecursion (IsTold cursors_at (programs m.app) m.history) sources.old.items → IsSource cursors_at sub →
+        IsPlaceOf sources.old.items sub place → IsAsked sub.cursors m from until span → AllByRecursion (IsTold cursors_at (programs m.app) m.history) sources.new.items }
+{
     if let Some(source) = sources.get_mut(place) {
         source.learn(span);
     }
@@ -158,6 +168,7 @@ impl SharedNews {
     // A source of the subscription's publication that begins at this place of the history. Where there
     // are as many as may be kept, the others go.
     fn begin(&mut self, sub: &Sub, from: u64) -> Result<usize, Mem>
+        ensures within { IfOk result (λ place. place < length self.new.sources) }
         ensures place { IfOk result (IsPlaceOf self.new.sources sub.now) }
         ensures keeps { (cursors_at : CursorsAt) (m : MachineState) → from ≤ length m.history → AreTold cursors_at m self.old → AreTold cursors_at m self.new }
     {
@@ -171,6 +182,7 @@ impl SharedNews {
 
     // The place of the source of the subscription's publication, which may be new.
     fn place(&mut self, sub: &Sub, from: u64) -> Result<usize, Mem>
+        ensures within { IfOk result (λ place. place < length self.new.sources) }
         ensures place { IfOk result (IsPlaceOf self.new.sources sub.now) }
         ensures keeps { (cursors_at : CursorsAt) (m : MachineState) → from ≤ length m.history → AreTold cursors_at m self.old → AreTold cursors_at m self.new }
     {
@@ -188,16 +200,15 @@ impl SharedNews {
         observer: &Observer,
         from: u64,
         until: u64,
-    ) -> Result<Option<Span>, Mem>
+    ) -> Result<Lent, Mem>
         requires observer { sub.now.observer ≡ Some observer.now }
         requires order { from ≤ until }
         requires within { until ≤ length machine.now.history }
-        ensures told { (cursors_at : CursorsAt) → AreTold cursors_at machine.now self.old → IsSource cursors_at sub.now →
-            IfOk result (λ answer. IfSome answer (λ told. LeadsBy sub.now.cursors machine.now from until told.told)) }
+        ensures told { (cursors_at : CursorsAt) → AreTold cursors_at machine.now self.old → IsSource cursors_at sub.now → IfOk result (IsLent machine.now sub.now from until self.new.sources) }
         ensures keeps { (cursors_at : CursorsAt) → AreTold cursors_at machine.now self.old → IsSource cursors_at sub.now → AreTold cursors_at machine.now self.new }
     {
         let place = self.place(sub, from)?;
-        span_at(
+        let span = span_at(
             &mut self.sources,
             place,
             machine,
@@ -205,36 +216,46 @@ impl SharedNews {
             observer,
             from,
             until,
-        )
+        )?;
+        Ok(Lent { place, span })
     }
 
     /// What the publication of the subscription, which has no limited cursor, tells of so many entries
     /// of the machine's history, behind the first `from`: by key, each key of which they say something,
-    /// with the document that is published then or none. None where no one observes.
+    /// with the document that is published then or none; and the texts of these that are known. None
+    /// where no one observes. The span is lent: `learn` puts it back.
     pub fn span(
         &mut self,
         machine: &Machine,
         sub: &Sub,
         from: u64,
         count: u64,
-    ) -> Result<Option<Span>, Mem>
+    ) -> Result<Option<Lent>, Mem>
         requires { from + count ≤ length machine.now.history }
+        ensures answers { IfOk result (λ answer. is_some answer ≡ is_some sub.now.observer) }
         ensures told { (cursors_at : CursorsAt) → AreTold cursors_at machine.now self.old → IsSource cursors_at sub.now →
-            IfOk result (λ answer. IfSome answer (λ told.
-            IsLead (published sub.now.cursors (held_after machine.now from).rows) (published sub.now.cursors (held_after machine.now (from + count)).rows) (news_of told.told))) }
+            IfOk result (λ answer. IfSome answer (λ lent.
+            IsLead (published sub.now.cursors (held_after machine.now from).rows) (published sub.now.cursors (held_after machine.now (from + count)).rows) (news_of (arc_value lent.span.told)))) }
+        ensures lent { (cursors_at : CursorsAt) → AreTold cursors_at machine.now self.old → IsSource cursors_at sub.now →
+            IfOk result (λ answer. IfSome answer (IsLent machine.now sub.now from (from + count) self.new.sources)) }
         ensures keeps { (cursors_at : CursorsAt) → AreTold cursors_at machine.now self.old → IsSource cursors_at sub.now → AreTold cursors_at machine.now self.new }
     {
         machine.length();
         match &sub.observer {
-            Some(observer) => self.told(machine, sub, observer, from, from + count),
+            Some(observer) => {
+                let lent = self.told(machine, sub, observer, from, from + count)?;
+                Ok(Some(lent))
+            }
             None => Ok(None),
         }
     }
 
-    /// The span of the subscription's publication, with the texts that are known now, is kept.
-    pub fn learn(&mut self, sub: &Sub, span: Span) {
-        if let Some(place) = place_of(self.sources.as_slice(), sub) {
-            learn_at(&mut self.sources, place, span);
-        }
+    /// The span, with the texts that are known now, is put back: a text is known of a publish where each
+    /// client is told it that sees the document as it was published before the span.
+    pub fn learn(&mut self, lent: Lent)
+        ensures { (cursors_at : CursorsAt) (m : MachineState) (sub : ASub) (from until : ℕ) → AreTold cursors_at m self.old → IsSource cursors_at sub →
+            IsLent m sub from until self.old.sources lent → AreTold cursors_at m self.new }
+    {
+        learn_at(&mut self.sources, lent.place, lent.span);
     }
 }

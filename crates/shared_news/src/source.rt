@@ -4,7 +4,9 @@ ghost use Rattle.std.specs.Arc.{arc_value};
 ghost use Rattle.publication.specs.Cursors.{ACursors};
 ghost use Rattle.live_observer.specs.Observing.{cursors_of, HaveNoLimit};
 ghost use Rattle.store_machine.specs.State.{MachineState};
-ghost use Rattle.shared_news.specs.Sources.{max_entries, source_of, reached, trimmed, with_one, next_of, IsToldBy, IsAlike, IsOf, LeadsBy, with_last};
+ghost use Rattle.shared_news.specs.Inside.{seen_span};
+ghost use Rattle.shared_news.specs.Sources.{max_entries, source_of, reached, trimmed, with_one, next_of, IsToldBy, IsAlike, IsOf, LeadsBy, with_last, without_last};
+ghost use Rattle.shared_news.specs.Spans.{IsAsked};
 
 use crate::joining::joined;
 use crate::observing::observed;
@@ -236,18 +238,20 @@ impl Source {
         }
     }
 
-    // What is told of the span, where it was learnt last. It is taken out.
+    // The span that is kept, where it is this one. None is kept then.
     fn known(&mut self, from: u64, until: u64) -> Option<Span>
-        ensures known { IfSome result (λ span. self.old.last ≡ Some span) }
-        ensures kept { IsAlike self.old self.new }
+        ensures known { IfSome result (λ span. (self.old.last ≡ Some (seen_span span)) × (span.from ≡ from) × (span.until ≡ until)) }
+        ensures left { self.new ≡ without_last self.old }
     {
-        match &self.last {
-            Some(last) if is_between(last, from, until) => self.last.take(),
-            _ => None,
+        let last = self.last.take()?;
+        if is_between(&last, from, until) {
+            Some(last)
+        } else {
+            None
         }
     }
 
-    // What is told of a span that was not asked for last: no text of it is known.
+    // What is told of a span that is not kept: no text of it is known.
     fn fresh(
         &mut self,
         machine: &Machine,
@@ -255,6 +259,11 @@ impl Source {
         from: u64,
         until: u64,
     ) -> Result<Span, Mem>
+        requires order { from ≤ until }
+        requires within { until ≤ length machine.now.history }
+        ensures same { IsAlike self.old self.new }
+        ensures keeps { HaveNoLimit (cursors_of observer.now) → IsToldBy (cursors_of observer.now) machine.now self.old → IsToldBy (cursors_of observer.now) machine.now self.new }
+        ensures told { HaveNoLimit (cursors_of observer.now) → IsToldBy (cursors_of observer.now) machine.now self.old → IfOk result (IsAsked (cursors_of observer.now) machine.now from until) }
     {
         let told = self.made(machine, observer, from, until)?;
         let texts = KnownTexts::places(self.allocator(), told.len())?;
@@ -266,7 +275,8 @@ impl Source {
         })
     }
 
-    /// What is told of the entries between the places, to an observer of the publication.
+    /// What is told of the entries between the places, to an observer of the publication. It is no
+    /// longer kept.
     pub(crate) fn span(
         &mut self,
         machine: &Machine,
@@ -276,6 +286,9 @@ impl Source {
     ) -> Result<Span, Mem>
         requires order { from ≤ until }
         requires within { until ≤ length machine.now.history }
+        ensures same { IsAlike self.old self.new }
+        ensures keeps { HaveNoLimit (cursors_of observer.now) → IsToldBy (cursors_of observer.now) machine.now self.old → IsToldBy (cursors_of observer.now) machine.now self.new }
+        ensures told { HaveNoLimit (cursors_of observer.now) → IsToldBy (cursors_of observer.now) machine.now self.old → IfOk result (IsAsked (cursors_of observer.now) machine.now from until) }
     {
         match self.known(from, until) {
             Some(span) => Ok(span),
@@ -285,6 +298,7 @@ impl Source {
 
     /// The span, with the texts that are known now, is kept.
     pub(crate) fn learn(&mut self, span: Span)
+        ensures { self.new ≡ with_last self.old (seen_span span) }
     {
         self.last = Some(span);
     }

@@ -1,0 +1,24 @@
+use Rattle.std.proofs.Common.{◌+◌, Option, IfSome, subst}
+use Rattle.shared_news.specs.declared.news.Lent.{Lent}
+use Rattle.source_laws.specs.Sources.{cursors_at_of}
+use Rattle.client_rounds.specs.Lending.{IsLentTo}
+use Rattle.client_rounds.proofs.Telling.{lent_source, right, learns}
+use Rattle.client_rounds.proofs.showing.advance_within.Goals as goal
+
+pub feed-requires : goal.feed-requires
+feed-requires c =
+    let m = c.args.machine.now in
+    let x = c.args.connection.now in
+    let until = c.args.from + c.args.count in
+    let is = subst (λ (o : Option Lent). IfSome o (IsLentTo m x c.args.sub c.args.from until c.told.new.news)) c.in-Some.is c.in_ok-lent.ensures.lent in
+    record { right = right m x c.requires.connection c.args.sub c.args.from until c.told.new.news c.in-Some.lent is c.deref.result.now c.deref.ensures }
+
+pub returns-in_ok-answer-in-Some-clause-keeps : goal.returns-in_ok-answer-in-Some-clause-keeps
+returns-in_ok-answer-in-Some-clause-keeps c =
+    let m = c.args.machine.now in
+    let x = c.args.connection.now in
+    let news = c.told.new.news in
+    let until = c.args.from + c.args.count in
+    let is = subst (λ (o : Option Lent). IfSome o (IsLentTo m x c.args.sub c.args.from until news)) c.in-Some.is c.in_ok-lent.ensures.lent in
+    let lent = learns m x c.requires.connection c.args.sub c.args.from until news c.in-Some.lent is c.deref.result.now c.feed.new.known c.deref.ensures c.feed.ensures.learnt in
+    c.learn.ensures (cursors_at_of m.app) m is.sub c.args.from until c.told.ensures.keeps (lent_source m x c.requires.connection c.args.sub c.args.from until news c.in-Some.lent is) lent
