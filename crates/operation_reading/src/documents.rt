@@ -54,3 +54,43 @@ pub(crate) fn insert_in(alloc: Global, collection: &Text, value: &Value) -> Resu
         _ => Ok(None),
     }
 }
+
+// The insert of this document, which has no `_id` any more.
+fn insert_under(collection: &Text, id: Text, mut doc: Doc) -> Result<Option<Op>, Mem>
+    ensures { IfOk result (λ o. o ≡ insert_of collection.now (if is_id id then Some (record { id = id; is_drawn = false; doc = doc }) else None)) }
+{
+    if !is_id(&id) {
+        return Ok(None);
+    }
+    doc.count();
+    let collection = collection.copy()?;
+    Ok(Some(Op::Insert {
+        collection,
+        id,
+        doc,
+    }))
+}
+
+fn insert_without_id(alloc: Global, collection: &Text, mut doc: Doc) -> Result<Option<Op>, Mem>
+    ensures { IfOk result (λ o. o ≡ insert_of collection.now (new_by [] doc (get doc (codes "_id")))) }
+{
+    let name = Text::from_str(alloc, "_id")?;
+    match doc.remove(&name)? {
+        Some(Value::Text(id)) => insert_under(collection, id, doc),
+        _ => Ok(None),
+    }
+}
+
+/// The same of a value that goes: no field is copied.
+pub(crate) fn insert_taken(
+    alloc: Global,
+    collection: &Text,
+    value: Value,
+) -> Result<Option<Op>, Mem>
+    ensures { IfOk result (λ o. o ≡ insert_of collection.now (new_of [] (view value))) }
+{
+    match value {
+        Value::Object(doc) => insert_without_id(alloc, collection, doc),
+        _ => Ok(None),
+    }
+}

@@ -3,5 +3,7 @@
 
 mod documents;
 mod operations;
+mod told;
 
 pub use operations::operation_in;
+pub use told::operation_told;

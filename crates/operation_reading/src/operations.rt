@@ -37,7 +37,12 @@ fn read_modifier(alloc: Global, value: &Value) -> Result<Option<Modifier>, Mem>
     }
 }
 
-fn remove_in(alloc: Global, collection: &Text, selector: &Value) -> Result<Option<Op>, Mem>
+/// The removal by the selector, None where this is none.
+pub(crate) fn remove_in(
+    alloc: Global,
+    collection: &Text,
+    selector: &Value,
+) -> Result<Option<Op>, Mem>
     ensures { IfOk result (λ o. o ≡ remove_of collection.now (view selector.now)) }
 {
     let collection = collection.copy()?;
@@ -50,7 +55,8 @@ fn remove_in(alloc: Global, collection: &Text, selector: &Value) -> Result<Optio
     }
 }
 
-fn update_in(
+/// The update by the selector and the modifier, None where one of them is none.
+pub(crate) fn update_in(
     alloc: Global,
     collection: &Text,
     all: bool,
