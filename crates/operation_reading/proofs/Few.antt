@@ -1,9 +1,8 @@
 -- Lists of values that are too short for an operation, or too long.
-use Rattle.std.proofs.Common.{◌≡◌, ◌<◌, ◌≤◌, ℕ, List, [], ◌∷◌, length, Option, None, refl, arith}
+use Rattle.std.proofs.Common.{◌≡◌, ◌<◌, ◌≤◌, ℕ, List, [], ◌∷◌, length, None, refl, arith}
 use Rattle.value_model.specs.Val.{Val, text}
 use Rattle.ejson_value.specs.View.{view, views}
 use Rattle.ejson_value.specs.declared.value.Value.{Value}
-use Rattle.collection_store.specs.declared.operation.Op.{Op}
 use Rattle.history_model.specs.Operations.{operation_named, operation_in}
 
 one : (v : Val) → None ≡ operation_in (v ∷ [])

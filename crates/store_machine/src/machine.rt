@@ -2,16 +2,18 @@
 ghost use Rattle.std.specs.Prelude.{◌≡◌, ◌+◌, ◌≤◌, ◌<◌, ◌||◌, [], length, IfOk, OnOk, OnErr, IsTrue, Some, None, is_some, if◌then◌else◌};
 ghost use Rattle.app_model.specs.App.{method as method_of};
 ghost use Rattle.history_model.specs.History.{status_in, status_at, changes_between, is_next};
+ghost use Rattle.history_model.specs.Operations.{operation_in};
+ghost use Rattle.history_log.specs.Entries.{told_operation};
 ghost use Rattle.history_log.specs.Lines.{store_lines, history_lines};
 ghost use Rattle.store_machine.specs.State.{programs, held_by, held_after, begin_answer, is_running, step_state, admin_answer, BeginGives, AdminGives};
 
 use crate::beginning::{begin, may_begin};
 use crate::fault::{AdminFault, BeginFault};
-use crate::making::admin;
+use crate::making::{admin, admin_told};
 use crate::parts::Parts;
 use crate::stepping::step;
 use app_model::App;
-use collection_store::Store;
+use collection_store::{Op, Store};
 use ejson_codec::Lines;
 use ejson_value::{Change, Contents, Items, Mem, Text, Value};
 use history_log::{Batch, Log};
@@ -148,6 +150,15 @@ impl Machine {
         ensures refused { OnErr result (self.new ≡ self.old) }
     {
         admin(self.alloc, &self.app, &mut self.parts, op)
+    }
+
+    /// Makes the administrator's operation that the text tells of, as `admin` does. Its entry is the text.
+    pub fn admin_told(&mut self, text: &str, operation: &Op) -> Result<(), AdminFault>
+        requires { operation_in (told_operation text.now) ≡ Some operation.now }
+        ensures gives { AdminGives (λ u. self.new) result (admin_answer self.old (told_operation text.now)) }
+        ensures refused { OnErr result (self.new ≡ self.old) }
+    {
+        admin_told(&self.app, &mut self.parts, text, operation)
     }
 
     /// The changes of the entry behind the first `entry`.

@@ -5,6 +5,7 @@ ghost use Rattle.history_model.specs.declared.entry.Entry.TheVariants.{Admin};
 ghost use Rattle.history_model.specs.Operations.{operation_in};
 ghost use Rattle.history_model.specs.History.{is_full_for_operation};
 ghost use Rattle.collection_store.specs.Limits.{new_bytes};
+ghost use Rattle.history_log.specs.Entries.{told_operation};
 ghost use Rattle.history_log.specs.Log.{settled};
 ghost use Rattle.store_machine.specs.State.{held_by, refusal_of, by_operation, admin_answer, AdminGives};
 ghost use Rattle.store_machine.specs.Standing.{seen, Stand};
@@ -95,5 +96,50 @@ pub(crate) fn admin(
     match operation {
         Some(operation) => make(app, parts, op, &operation),
         None => Err(AdminFault::Refused { code: 400 }),
+    }
+}
+
+// Makes the operation that the text tells of. Its entry is the text.
+fn make_told(app: &App, parts: &mut Parts, text: &str, operation: &Op) -> Result<(), AdminFault>
+    requires stands { Stand app.now parts.old }
+    requires reads { operation_in (told_operation text.now) ≡ Some operation.now }
+    requires free { is_full_for_operation (held_by (seen app.now parts.old)) ≡ false }
+    ensures stands { Stand app.now parts.new }
+    ensures gives { AdminGives (λ u. seen app.now parts.new) result (by_operation (seen app.now parts.old) (told_operation text.now) (Some operation.now)) }
+    ensures refused { OnErr result (seen app.now parts.new ≡ seen app.now parts.old) }
+{
+    let _app = app;
+    let room = MAX_KEPT - parts.kept;
+    parts.log.push_told(text)?;
+    match parts.store.apply(operation, room) {
+        Ok(reply) => {
+            settle(parts, reply.changes);
+            Ok(())
+        }
+        Err(fault) => {
+            parts.log.pop();
+            Err(refusal_of(fault))
+        }
+    }
+}
+
+/// Makes the operation that the text tells of. One that is refused makes no entry.
+pub(crate) fn admin_told(
+    app: &App,
+    parts: &mut Parts,
+    text: &str,
+    operation: &Op,
+) -> Result<(), AdminFault>
+    requires stands { Stand app.now parts.old }
+    requires reads { operation_in (told_operation text.now) ≡ Some operation.now }
+    ensures stands { Stand app.now parts.new }
+    ensures gives { AdminGives (λ u. seen app.now parts.new) result (admin_answer (seen app.now parts.old) (told_operation text.now)) }
+    ensures refused { OnErr result (seen app.now parts.new ≡ seen app.now parts.old) }
+{
+    let full = is_full(app, parts);
+    if full {
+        Err(AdminFault::Refused { code: 503 })
+    } else {
+        make_told(app, parts, text, operation)
     }
 }
