@@ -5,9 +5,9 @@ use ejson_value::{Mem, Text};
 use io_edge::{StdSink, StdSource};
 use std::process::ExitCode;
 use std::rt::Env;
-use std::{env, io};
+use std::{env, io, mem};
 use usage::usage_text;
-use world_commands::{Status, run_plain};
+use world_commands::{Status, World, run_plain};
 
 // The word, if there is memory for it.
 fn text_of(word: String) -> io::Result<Text> {
@@ -26,10 +26,15 @@ fn words(rt: &(impl Env + AllocGlobal)) -> io::Result<Vec<Text>> {
     Ok(words)
 }
 
-fn run_words(rt: &HostRuntime, words: &[Text], reason: &mut Text) -> Status {
+fn run_words(
+    rt: &HostRuntime,
+    words: &[Text],
+    reason: &mut Text,
+    left: &mut Option<World>,
+) -> Status {
     let mut source = StdSource::new(rt.stdin());
     let mut sink = StdSink::new(rt.stdout());
-    run_plain(rt.alloc(), words, &mut source, &mut sink, reason)
+    run_plain(rt.alloc(), words, &mut source, &mut sink, reason, left)
 }
 
 // What it comes to where the words can't be had.
@@ -41,9 +46,9 @@ fn status_of(fault: io::Error) -> Status {
     }
 }
 
-fn run(rt: &HostRuntime, reason: &mut Text) -> Status {
+fn run(rt: &HostRuntime, reason: &mut Text, left: &mut Option<World>) -> Status {
     match words(rt) {
-        Ok(words) => run_words(rt, words.as_slice(), reason),
+        Ok(words) => run_words(rt, words.as_slice(), reason, left),
         Err(fault) => status_of(fault),
     }
 }
@@ -72,7 +77,10 @@ fn tell(rt: &(impl Eprint + AllocGlobal), status: Status, reason: &Text) -> io::
 
 fn main(rt: HostRuntime) -> ExitCode {
     let mut reason = Text::new(rt.alloc());
-    let status = run(&rt, &mut reason);
+    let mut left = None;
+    let status = run(&rt, &mut reason, &mut left);
     let _ = tell(&rt, status, &reason);
+    // The process ends here, and its memory with it.
+    mem::forget(left);
     ExitCode::from(status.code())
 }

@@ -17,7 +17,7 @@ fn source_of(alloc: Global, input: &str) -> Result<MemorySource, Mem> {
 
 fn run(alloc: Global, words: &[Text], source: &mut MemorySource, sink: &mut MemorySink) -> Status {
     let mut reason = Text::new(alloc);
-    run_plain(alloc, words, source, sink, &mut reason)
+    run_plain(alloc, words, source, sink, &mut reason, &mut None)
 }
 
 fn run_into(alloc: Global, word: Text, input: &str, sink: &mut MemorySink) -> Result<Status, Mem> {

@@ -10,3 +10,4 @@ mod status;
 pub use checking::{INPUT_LIMIT, LINE_LIMIT};
 pub use run::run_plain;
 pub use status::Status;
+pub use world_core::World;

@@ -149,36 +149,47 @@ fn run_lines(
     Ok(None)
 }
 
-// Runs the lines in this world. It takes the world, so that no caller has to drop it.
+// Runs the lines in this world.
 fn run_world(
     alloc: Global,
-    mut world: World,
+    world: &mut World,
     lines: &[u8],
     output: &mut Vec<u8>,
 ) -> Result<Option<u32>, Mem>
     requires { length lines.now ≤ input_limit }
-    ensures text { OnOk result (output.new.items ≡ output.old.items ++ all_bytes (printed world (events_of (lines_in lines.now)))) }
+    ensures text { OnOk result (output.new.items ≡ output.old.items ++ all_bytes (printed world.old (events_of (lines_in lines.now)))) }
     ensures bad { IfOk result (λ bad. bad ≡ bad_line 2 (lines_in lines.now)) }
     ensures events { OnOk result (AreEvents (events_of (lines_in lines.now))) }
 {
     let mut scratch = Scratch::new(alloc);
-    run_lines(alloc, &mut world, lines, &mut scratch, output)
+    run_lines(alloc, world, lines, &mut scratch, output)
 }
 
 // Runs the lines of an application.
-fn run_app(alloc: Global, app: &App, lines: &[u8], output: &mut Vec<u8>) -> Result<Option<u32>, Mem>
+fn run_app(
+    alloc: Global,
+    app: &App,
+    lines: &[u8],
+    output: &mut Vec<u8>,
+    left: &mut Option<World>,
+) -> Result<Option<u32>, Mem>
     requires short { length lines.now ≤ input_limit }
     requires values { HasValues (programs app.now) }
     ensures text { OnOk result (output.new.items ≡ output.old.items ++ all_bytes (printed (start app.now) (events_of (lines_in lines.now)))) }
     ensures bad { IfOk result (λ bad. bad ≡ bad_line 2 (lines_in lines.now)) }
     ensures events { OnOk result (AreEvents (events_of (lines_in lines.now))) }
 {
-    let world = World::new(alloc, app)?;
+    let world = left.insert(World::new(alloc, app)?);
     run_world(alloc, world, lines, output)
 }
 
 // Runs an input up to its first bad line, and answers the number of that.
-fn run_input(alloc: Global, input: &[u8], output: &mut Vec<u8>) -> Result<Option<u32>, Mem>
+fn run_input(
+    alloc: Global,
+    input: &[u8],
+    output: &mut Vec<u8>,
+    left: &mut Option<World>,
+) -> Result<Option<u32>, Mem>
     requires { length input.now ≤ input_limit }
     ensures text { OnOk result (output.new.items ≡ output.old.items ++ all_bytes (printed_by (app_of (lines_in input.now)) (rest_of (lines_in input.now)))) }
     ensures bad { IfOk result (λ bad. bad ≡ first_bad input.now) }
@@ -190,19 +201,19 @@ fn run_input(alloc: Global, input: &[u8], output: &mut Vec<u8>) -> Result<Option
     let (line, rest) = first_line(input);
     match read_app(alloc, line)? {
         None => Ok(Some(1)),
-        Some(app) => run_app(alloc, &app, rest, output),
+        Some(app) => run_app(alloc, &app, rest, output, left),
     }
 }
 
-/// Runs an input, and answers the whole output.
-pub fn replay(alloc: Global, input: &[u8]) -> Result<Outcome, Mem>
+/// Runs an input, and answers the whole output. The world that it ran in is left.
+pub fn replay(alloc: Global, input: &[u8], left: &mut Option<World>) -> Result<Outcome, Mem>
     requires { length input.now ≤ input_limit }
     ensures text { IfOk result (λ o. o.text.items ≡ replay_text input.now) }
     ensures bad { IfOk result (λ o. o.bad_line ≡ first_bad input.now) }
     ensures events { OnOk result (AreReplayed input.now) }
 {
     let mut text = Vec::new(alloc);
-    let bad_line = run_input(alloc, input, &mut text)?;
+    let bad_line = run_input(alloc, input, &mut text, left)?;
     add_bad_line(alloc, &mut text, bad_line)?;
     Ok(Outcome { text, bad_line })
 }

@@ -13,6 +13,7 @@ use checking::{INPUT_LIMIT, LINE_LIMIT, Outcome, check, count_lines};
 use ejson_value::{Bytes, Mem, Text};
 use io_edge::{ReadAll, Sink, Source, read_all, write_all};
 use std::alloc::Global;
+use world_core::World;
 
 // Tells why a line isn't of the grammar, if there is memory for it.
 fn tell(alloc: Global, command: Command, input: &[u8], number: u32, reason: &mut Text) {
@@ -41,7 +42,12 @@ fn read_input<I: Source>(alloc: Global, input: &mut I) -> Result<Bytes, ReadAll>
 }
 
 // What a command writes for an input.
-fn outcome_of(alloc: Global, command: Command, input: &[u8]) -> Result<Outcome, Mem>
+fn outcome_of(
+    alloc: Global,
+    command: Command,
+    input: &[u8],
+    left: &mut Option<World>,
+) -> Result<Outcome, Mem>
     requires { length input.now ≤ input_limit }
     ensures text { IfOk result (λ o. o.text.items ≡ output_of command input.now) }
     ensures bad { IfOk result (λ o. o.bad_line ≡ bad_line_of command input.now) }
@@ -49,7 +55,7 @@ fn outcome_of(alloc: Global, command: Command, input: &[u8]) -> Result<Outcome, 
 {
     match command {
         Command::Check => check(alloc, input),
-        Command::Replay => replay(alloc, input),
+        Command::Replay => replay(alloc, input, left),
     }
 }
 
@@ -60,6 +66,7 @@ fn run_command<I: Source, O: Sink>(
     input: &mut I,
     output: &mut O,
     reason: &mut Text,
+    left: &mut Option<World>,
 ) -> Status
     ensures cause { CauseOf command (I.left input.old) (I.left input.new)
         (O.written output.old) (O.written output.new) result }
@@ -73,7 +80,7 @@ fn run_command<I: Source, O: Sink>(
         Err(ReadAll::TooLong) => return Status::TooLong,
         Err(ReadAll::Memory) => return Status::Memory,
     };
-    let Ok(outcome) = outcome_of(alloc, command, bytes.as_slice()) else {
+    let Ok(outcome) = outcome_of(alloc, command, bytes.as_slice(), left) else {
         return Status::Memory;
     };
     if let Err(_fault) = write_all(output, outcome.text.as_slice()) {
@@ -101,22 +108,26 @@ fn run_command<I: Source, O: Sink>(
 /// source failed, and `WriteFault` exactly where the sink did. Want of memory may come at any time.
 /// Where the status is `BadInput`, `reason` is set to a line for a person that says which line is bad
 /// and why, if there is memory for it.
+///
+/// The world that a replay ran in is handed to the caller in `left`, who drops it, or forgets it where
+/// the process ends. No clause says which world it is.
 pub fn run_plain<I: Source, O: Sink>(
     alloc: Global,
     words: &[Text],
     input: &mut I,
     output: &mut O,
     reason: &mut Text,
+    left: &mut Option<World>,
 ) -> Status
     ensures cause { Cause (command_in words.now) (I.left input.old) (I.left input.new)
         (O.written output.old) (O.written output.new) result }
-    ensures untouched { result ≡ Status.Usage → (input.new ≡ input.old) × (output.new ≡ output.old) }
+    ensures untouched { result ≡ Status.Usage → (input.new ≡ input.old) × (output.new ≡ output.old) × (left.new ≡ left.old) }
     ensures read_fault { (result ≡ Status.ReadFault) ↔ (I.faults input.old < I.faults input.new) }
     ensures write_fault { (result ≡ Status.WriteFault) ↔ (O.faults output.old < O.faults output.new) }
     ensures told { result ≢ Status.BadInput → reason.new ≡ reason.old }
 {
     match command_in(words) {
         None => Status::Usage,
-        Some(command) => run_command(alloc, command, input, output, reason),
+        Some(command) => run_command(alloc, command, input, output, reason, left),
     }
 }

@@ -156,7 +156,7 @@ fn ran(
     sink: &mut MemorySink,
 ) -> Result<String, Fail> {
     let mut reason = Text::new(alloc);
-    let status = run_plain(alloc, words, source, sink, &mut reason);
+    let status = run_plain(alloc, words, source, sink, &mut reason, &mut None);
     shown(alloc, status, sink.written(), &reason)
 }
 
