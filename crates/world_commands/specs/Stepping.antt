@@ -1,6 +1,10 @@
 -- What one line of a replay does.
 use Rattle.std.specs.Prelude.{◌≡◌, ◌⊎◌, ℕ, true, false, List, ◌++◌, Bool, Option, Some, None}
+use Rattle.collection_store.specs.declared.operation.Op.{Op}
+use Rattle.history_model.specs.Operations.{operation_in}
+use Rattle.history_log.specs.Entries.{told_operation}
 use Rattle.core_model.specs.declared.events.Event.{Event}
+use Rattle.core_model.specs.declared.events.Event.TheVariants as event
 use Rattle.core_model.specs.World.{World}
 use Rattle.core_model.specs.Events.{step, IsEvent}
 use Rattle.core_model.specs.Lines.{lines_of}
@@ -11,6 +15,12 @@ use Rattle.world_commands.specs.Replay.{event_of, all_bytes}
 abbrev pub GivesEventOf : List ℕ → Option Event → Type 0
 GivesEventOf l None = event_of l ≡ None
 GivesEventOf l (Some e) = (event_of l ≡ Some e) × IsEvent e
+
+-- the line is an event of an administrator, of which this operation is read
+pub record IsOperation (l : List ℕ) (op : Op) : Type 0 where
+  pub is_event : event_of l ≡ Some (event.Admin (told_operation l))
+  pub fits : IsEvent (event.Admin (told_operation l))
+  pub operation : operation_in (told_operation l) ≡ Some op
 
 -- a line that is an event ran as that event and gave its lines; nothing is given for another
 pub record StepsEvent (l : List ℕ) (old new : World) (lines : List (List ℕ)) : Type 0 where

@@ -8,16 +8,19 @@ ghost use Rattle.core_model.specs.Lines.{lines_of};
 ghost use Rattle.checking.specs.Input.{input_limit, lines_in, rest_of};
 ghost use Rattle.checking.specs.Output.{bytes_of, bad_lines};
 ghost use Rattle.world_commands.specs.Replay.{app_of, events_of, bad_line, first_bad, replay_text, printed, printed_by, all_bytes};
-ghost use Rattle.world_commands.specs.Stepping.{GivesEventOf, StepsLine, RunsLine};
+ghost use Rattle.world_commands.specs.Stepping.{GivesEventOf, IsOperation, StepsLine, RunsLine};
 ghost use Rattle.world_commands.specs.Truth.{AreReplayed};
 
 use app_model::{App, AppFault};
 use checking::{Outcome, add_bad, add_line, first_line, is_blank, read_value, value_in};
+use collection_store::Op;
 use ejson_codec::Lines;
 use ejson_value::Mem;
 use json::Scratch;
+use operation_reading::operation_told;
 use read_applications::read_application;
 use std::alloc::Global;
+use std::str;
 use world_core::World;
 use world_events::{Event, LineFault};
 
@@ -86,8 +89,43 @@ fn run_event(alloc: Global, world: &mut World, event: Event) -> Result<Option<Li
     Ok(Some(lines))
 }
 
-// Runs a line, if it is an event, and answers what it prints.
-fn step(
+// The line as a text and the administrator's operation that it tells of, where it is read from its tokens.
+fn operation_in<'a>(
+    alloc: Global,
+    line: &'a [u8],
+    scratch: &mut Scratch,
+) -> Result<Option<(&'a str, Op)>, Mem>
+    ensures line { IfOk result (λ told. IfSome told (λ t. t.0.now ≡ line.now)) }
+    ensures operation { IfOk result (λ told. IfSome told (λ t. IsOperation t.0.now t.1)) }
+{
+    let Ok(text) = str::from_utf8(line) else {
+        return Ok(None);
+    };
+    match operation_told(alloc, text, scratch)? {
+        Some(operation) => Ok(Some((text, operation))),
+        None => Ok(None),
+    }
+}
+
+// Makes the operation that the text tells of, and answers what it prints. It takes the operation, so that
+// no caller has to drop one.
+fn run_operation(
+    alloc: Global,
+    world: &mut World,
+    text: &str,
+    operation: Op,
+) -> Result<Option<Lines>, Mem>
+    requires { IsOperation text.now operation }
+    ensures { IfOk result (StepsLine text.now world.old world.new) }
+{
+    let printed = world.admin_told(text, &operation);
+    drop(operation);
+    let lines = printed?.lines(alloc)?;
+    Ok(Some(lines))
+}
+
+// Reads a line and runs it, if it is an event, and answers what it prints.
+fn read_and_run(
     alloc: Global,
     world: &mut World,
     line: &[u8],
@@ -98,6 +136,21 @@ fn step(
     match event_in(alloc, line, scratch)? {
         None => Ok(None),
         Some(event) => run_event(alloc, world, event),
+    }
+}
+
+// Runs a line, if it is an event, and answers what it prints.
+fn step(
+    alloc: Global,
+    world: &mut World,
+    line: &[u8],
+    scratch: &mut Scratch,
+) -> Result<Option<Lines>, Mem>
+    ensures { IfOk result (StepsLine line.now world.old world.new) }
+{
+    match operation_in(alloc, line, scratch)? {
+        Some((text, operation)) => run_operation(alloc, world, text, operation),
+        None => read_and_run(alloc, world, line, scratch),
     }
 }
 

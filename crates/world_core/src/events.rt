@@ -2,6 +2,8 @@
 ghost use Rattle.std.specs.Prelude.{◌≡◌, Some};
 ghost use Rattle.core_model.specs.declared.events.Event.TheVariants as happening;
 ghost use Rattle.core_model.specs.Events.{act_by, IsEvent};
+ghost use Rattle.history_model.specs.Operations.{operation_in};
+ghost use Rattle.history_log.specs.Entries.{told_operation};
 ghost use Rattle.world_laws.specs.World.{as_world, IsWorld};
 ghost use Rattle.world_core.specs.Kept.{seen};
 ghost use Rattle.world_core.specs.Happening.{Happens, MakesAct, actor, asked_one};
@@ -12,6 +14,7 @@ use crate::opening::open;
 use crate::printing::{history, journal, show, store};
 use crate::rounds::settle;
 use client_events::named;
+use collection_store::Op;
 use core_model::{Act, Event};
 use ejson_value::{Items, Mem, Text};
 use store_machine::AdminFault;
@@ -93,6 +96,20 @@ fn admin(inside: &mut Inside, op: &Items) -> Result<Printed, Mem>
     match inside.machine.admin(op) {
         Ok(()) => Ok(Printed::asked(true)),
         Err(AdminFault::Refused { code }) => Ok(Printed::refused(code)),
+        Err(AdminFault::Memory) => Err(Mem),
+    }
+}
+
+/// The administrator's operation that the text tells of is made, or refused.
+pub(crate) fn admin_told(inside: &mut Inside, text: &str, operation: &Op) -> Result<Printed, Mem>
+    requires world { IsWorld (seen inside.old) }
+    requires reads { operation_in (told_operation text.now) ≡ Some operation.now }
+    requires good { IsEvent (happening.Admin (told_operation text.now)) }
+    ensures { Happens (seen inside.old) (happening.Admin (told_operation text.now)) (seen inside.new) result }
+{
+    match inside.machine.admin_told(text, operation) {
+        Ok(()) => Ok(Printed::asked(true)),
+        Err(AdminFault::Refused { code, .. }) => Ok(Printed::refused(code)),
         Err(AdminFault::Memory) => Err(Mem),
     }
 }

@@ -1,20 +1,24 @@
 //! The world.
 ghost use Rattle.std.specs.Prelude.{◌≡◌, IfOk, OnOk, OnErr};
 ghost use Rattle.stored_values.specs.Values.{HasValues};
+ghost use Rattle.history_model.specs.Operations.{operation_in};
+ghost use Rattle.history_log.specs.Entries.{told_operation};
+ghost use Rattle.core_model.specs.declared.events.Event.TheVariants.{Admin};
 ghost use Rattle.core_model.specs.Store.{programs};
 ghost use Rattle.core_model.specs.World.{start};
 ghost use Rattle.core_model.specs.Settle.{settled};
-ghost use Rattle.core_model.specs.Events.{step, Reachable};
+ghost use Rattle.core_model.specs.Events.{step, IsEvent, Reachable};
 ghost use Rattle.core_model.specs.Lines.{lines_of};
 ghost use Rattle.core_model.specs.Headline.{IsTrueWorld, HaveLongAlone, AreAtRest};
 ghost use Rattle.world_laws.specs.Doing.{ActsLead};
 ghost use Rattle.world_core.specs.Promises.{IsLeft};
 
-use crate::events::happen;
+use crate::events::{admin_told, happen};
 use crate::inside::Inside;
 use crate::rounds::settle;
 use app_model::App;
 use client_names::Names;
+use collection_store::Op;
 use ejson_value::Mem;
 use heard_messages::Heard;
 use std::alloc::Global;
@@ -82,6 +86,20 @@ impl World {
     {
         event.known();
         happen(&mut self.inside, event.happening())
+    }
+
+    /// The administrator's operation happens that the text tells of, as `event` makes it happen, and what
+    /// it prints is answered. The history keeps the text.
+    pub fn admin_told(&mut self, text: &str, operation: &Op) -> Result<Printed, Mem>
+        requires reads { operation_in (told_operation text.now) ≡ Some operation.now }
+        requires good { IsEvent (Admin (told_operation text.now)) }
+        ensures step { OnOk result (self.new ≡ step self.old (Admin (told_operation text.now))) }
+        ensures lines { IfOk result (λ printed. printed ≡ lines_of self.old (Admin (told_operation text.now))) }
+        ensures left { OnErr result (IsLeft (Admin (told_operation text.now)) self.old self.new) }
+        ensures true_world { IsTrueWorld self.new }
+        ensures long_alone { HaveLongAlone self.new }
+    {
+        admin_told(&mut self.inside, text, operation)
     }
 
     /// Acts of clients, sessions and runs are made in rounds until none is left: only those clients are
