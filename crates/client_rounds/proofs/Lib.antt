@@ -4,3 +4,5 @@ mod Repeating
 mod Stepping
 mod Passing
 mod Telling
+mod Adding
+mod Asking

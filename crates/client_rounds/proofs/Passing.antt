@@ -107,7 +107,7 @@ running_is k (m ∷ ms) = ap (λ (ks : List ℕ). running_by k m.phase ++ ks) (r
     by (told place) = refl
 
 module _ (v : AVisit) (r : IsReady v) where
-  own_is : state_in (as_conn v.client) ≡ v.client.session.carried.own
+  pub own_is : state_in (as_conn v.client) ≡ v.client.session.carried.own
   own_is = state_is v.machine.app v.client.own.name v.machine.history v.client r.connection
 
   -- the calls that run, as the session lists them

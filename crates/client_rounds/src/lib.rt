@@ -3,9 +3,11 @@
 #![tactic(auto)]
 
 mod acting;
+mod downward;
 mod listing;
 mod making;
 mod rounds;
 mod showing;
 
+pub use downward::tell;
 pub use rounds::round;

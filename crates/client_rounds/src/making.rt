@@ -1,13 +1,13 @@
 //! Acts that are made one after another.
-ghost use Rattle.std.specs.Prelude.{◌≡◌, [], ◌∷◌, replicate, true};
+ghost use Rattle.std.specs.Prelude.{◌≡◌, [], ◌∷◌, replicate, true, false, All};
 ghost use Rattle.history_model.specs.History.{Rise};
 ghost use Rattle.core_model.specs.Settle.{steps};
 ghost use Rattle.core_model.specs.Store.{held_in};
 ghost use Rattle.round_laws.specs.Steps.{Covers};
 ghost use Rattle.client_rounds.specs.Visit.{visit, side, IsReady, Makes, Passes};
-ghost use Rattle.client_rounds.specs.Acting.{is_repeatable, count_of};
+ghost use Rattle.client_rounds.specs.Acting.{is_repeatable, count_of, adds_entry};
 
-use crate::acting::tries;
+use crate::acting::{tries, tries_over};
 use connection::Connection;
 use core_model::Act;
 use ejson_value::Mem;
@@ -34,20 +34,42 @@ pub(crate) fn repeat(
     Ok(made)
 }
 
-/// Makes each of the acts that can be made. Whether any was.
+/// Makes an act that adds no entry to the history until it can't be made any more. Whether it was made at
+/// all.
+pub(crate) fn repeat_over(
+    connection: &mut Connection,
+    machine: &Machine,
+    news: &mut SharedNews,
+    heard: &mut Heard,
+    act: Act,
+) -> Result<bool, Mem>
+    requires ready { IsReady (visit machine.now connection.old news.old) }
+    requires leads { is_repeatable act ≡ true }
+    requires adds { adds_entry act ≡ false }
+    ensures { let v = visit machine.now connection.old news.old in Makes (replicate (count_of machine.now.app act (side v)) act) v (visit machine.now connection.new news.new) result }
+{
+    let mut made = false;
+    while tries_over(connection, machine, news, heard, act)? {
+        made = true;
+    }
+    Ok(made)
+}
+
+/// Makes each of the acts that can be made, which add no entry to the history. Whether any was.
 pub(crate) fn each(
     connection: &mut Connection,
-    machine: &mut Machine,
+    machine: &Machine,
     news: &mut SharedNews,
     heard: &mut Heard,
     acts: &[Act],
 ) -> Result<bool, Mem>
-    requires { IsReady (visit machine.old connection.old news.old) }
-    ensures { Makes acts.now (visit machine.old connection.old news.old) (visit machine.new connection.new news.new) result }
+    requires ready { IsReady (visit machine.now connection.old news.old) }
+    requires add { All (λ act. adds_entry act ≡ false) acts.now }
+    ensures { Makes acts.now (visit machine.now connection.old news.old) (visit machine.now connection.new news.new) result }
 {
     let mut made = false;
     for act in acts {
-        if tries(connection, machine, news, heard, *act)? {
+        if tries_over(connection, machine, news, heard, *act)? {
             made = true;
         }
     }

@@ -4,7 +4,8 @@ ghost use Rattle.core_model.specs.Settle.{ups, recvs, handles, begins, steps, le
 ghost use Rattle.client_rounds.specs.Visit.{visit, IsReady, Passes};
 
 use crate::acting::tries;
-use crate::listing::{advances, learns, loads};
+use crate::downward::tells;
+use crate::listing::learns;
 use crate::making::{each, repeat, steps};
 use connection::Connection;
 use core_model::Act;
@@ -74,51 +75,6 @@ fn learnings(
     each(connection, machine, news, heard, acts.as_slice())
 }
 
-// Subscriptions are loaded.
-fn loadings(
-    alloc: Global,
-    connection: &mut Connection,
-    machine: &mut Machine,
-    news: &mut SharedNews,
-    heard: &mut Heard,
-) -> Result<bool, Mem>
-    requires { IsReady (visit machine.old connection.old news.old) }
-    ensures { Passes (loadings ∷ []) (visit machine.old connection.old news.old) (visit machine.new connection.new news.new) result }
-{
-    let acts = loads(alloc, connection.subs(), machine.length())?;
-    each(connection, machine, news, heard, acts.as_slice())
-}
-
-// Subscriptions go on to the end of the history.
-fn advancings(
-    alloc: Global,
-    connection: &mut Connection,
-    machine: &mut Machine,
-    news: &mut SharedNews,
-    heard: &mut Heard,
-) -> Result<bool, Mem>
-    requires { IsReady (visit machine.old connection.old news.old) }
-    ensures { Passes (advancings ∷ []) (visit machine.old connection.old news.old) (visit machine.new connection.new news.new) result }
-{
-    let acts = advances(alloc, connection.subs(), machine.length())?;
-    each(connection, machine, news, heard, acts.as_slice())
-}
-
-// Texts are sent while they can be, and the client takes them.
-fn texts_down(
-    connection: &mut Connection,
-    machine: &mut Machine,
-    news: &mut SharedNews,
-    heard: &mut Heard,
-) -> Result<bool, Mem>
-    requires { IsReady (visit machine.old connection.old news.old) }
-    ensures { Passes (sendings ∷ takings ∷ []) (visit machine.old connection.old news.old) (visit machine.new connection.new news.new) result }
-{
-    let sent = repeat(connection, machine, news, heard, Act::Send)?;
-    let taken = repeat(connection, machine, news, heard, Act::Take)?;
-    Ok(sent || taken)
-}
-
 // What the client asks for is taken, handled and begun.
 fn asks(
     connection: &mut Connection,
@@ -150,22 +106,6 @@ fn calls(
     Ok(stepped || learnt)
 }
 
-// Subscriptions show the end of the history.
-fn shows(
-    alloc: Global,
-    connection: &mut Connection,
-    machine: &mut Machine,
-    news: &mut SharedNews,
-    heard: &mut Heard,
-) -> Result<bool, Mem>
-    requires { IsReady (visit machine.old connection.old news.old) }
-    ensures { Passes (loadings ∷ advancings ∷ []) (visit machine.old connection.old news.old) (visit machine.new connection.new news.new) result }
-{
-    let loaded = loadings(alloc, connection, machine, news, heard)?;
-    let advanced = advancings(alloc, connection, machine, news, heard)?;
-    Ok(loaded || advanced)
-}
-
 // What the client asks for is done.
 fn serves(
     alloc: Global,
@@ -180,22 +120,6 @@ fn serves(
     let asked = asks(connection, machine, news, heard)?;
     let called = calls(alloc, connection, machine, news, heard)?;
     Ok(asked || called)
-}
-
-// What there is to show goes to the client.
-fn tells(
-    alloc: Global,
-    connection: &mut Connection,
-    machine: &mut Machine,
-    news: &mut SharedNews,
-    heard: &mut Heard,
-) -> Result<bool, Mem>
-    requires { IsReady (visit machine.old connection.old news.old) }
-    ensures { Passes (loadings ∷ advancings ∷ sendings ∷ takings ∷ []) (visit machine.old connection.old news.old) (visit machine.new connection.new news.new) result }
-{
-    let shown = shows(alloc, connection, machine, news, heard)?;
-    let sent = texts_down(connection, machine, news, heard)?;
-    Ok(shown || sent)
 }
 
 /// What a round of a settling world does with a client: its phases, one after another, each act as often as there is something

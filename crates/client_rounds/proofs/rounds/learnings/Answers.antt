@@ -7,6 +7,6 @@ use Rattle.client_rounds.proofs.rounds.learnings.Goals as goal
 pub returns : goal.returns
 returns c =
     let v = visit c.args.machine.now c.args.connection.now c.args.news.now in
-    let x = visit c.each.new.machine c.each.new.connection c.each.new.news in
+    let x = visit c.args.machine.now c.each.new.connection c.each.new.news in
     let lists = c.as_slice-2.ensures.value ∙ (c.in_ok-acts.ensures ∙ learns_are v c.requires c.as_slice.result.now c.length.result c.length.ensures (c.as_slice.ensures.value ∙ c.in_ok-calls.ensures)) in
     listed learns c.as_slice-2.result.now v x c.each.result lists c.each.ensures
