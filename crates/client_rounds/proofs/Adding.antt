@@ -6,13 +6,17 @@ use Rattle.core_model.specs.declared.events.Act.{Act}
 use Rattle.core_model.specs.declared.events.Act.TheVariants as act
 use Rattle.core_model.specs.Settle.{load_at, loads}
 use Rattle.phase_laws.specs.Listing.{behind_by, behind}
-use Rattle.client_rounds.specs.Acting.{adds_entry}
+use Rattle.client_rounds.specs.Acting.{adds_entry, learns_of}
 
 abbrev AddsNone : Act → Type 0
 AddsNone a = adds_entry a ≡ false
 
 abbrev pub AddNone : List Act → Type 0
 AddNone acts = All AddsNone acts
+
+pub learns_add : (place : ℕ) (calls : List ℕ) → AddNone (learns_of place calls)
+learns_add place [] = All-nil AddsNone
+learns_add place (k ∷ calls) = All-cons AddsNone (act.Learn k place) (learns_of place calls) refl (learns_add place calls)
 
 -- one that may stand there
 one_if : (b : Bool) (a : Act) → AddsNone a → AddNone (cond b (a ∷ []) [])

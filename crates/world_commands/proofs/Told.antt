@@ -1,17 +1,15 @@
 -- A line that tells of an operation of an administrator is its event.
-use Rattle.std.specs.Prelude.{nat_le, IsUtf8}
+use Rattle.std.specs.Prelude.{nat_le, IsUtf8, option_map, option_and_then}
 use Rattle.std.specs.List.{list_all}
 use Rattle.std.proofs.Common.{◌≡◌, ℕ, ◌≤◌, List, [], ◌∷◌, codes, true, cond, Option, None, Some, Result, Ok, Err, refl, ap, sym, subst, ◌∙◌, arith, le-leb}
 use Rattle.std.proofs.Math.Nat.{le-max_left, le-max_right}
-use Rattle.std.specs.Prelude.{option_map, option_and_then}
+use Rattle.std.proofs.lemmas.Bool.{and_from}
 use Rattle.std.specs.Result.{result_ok}
 use Rattle.serde_json.specs.Data.{Data}
 use Rattle.serde_json.specs.Read as json_text
 use Rattle.value_model.specs.Val.{Val, list, vals_of}
 use Rattle.value_model.specs.ValLaws.{list_of-vals_of}
-use Rattle.value_model.specs.Valid.{AreValues}
 use Rattle.value_model.specs.Depth.{depth, vals_depth}
-use Rattle.value_model.specs.TruthLaws.{and_from}
 use Rattle.ejson_codec.specs.declared.fault.EjsonFault.{EjsonFault}
 use Rattle.ejson_codec.specs.Reading.{max_levels, reading, as_parsed, tree_parsed, parsed}
 use Rattle.ejson_codec.specs.ReadingLaws.{reads_ok}
@@ -21,12 +19,10 @@ use Rattle.history_model.specs.Operations.{operation_in}
 use Rattle.history_log.specs.Entries.{told_operation}
 use Rattle.history_log.specs.ToldLaws.{told_operation-worded}
 use Rattle.operation_reading.specs.Tells.{told_value, Tells}
-use Rattle.core_model.specs.declared.events.Event.{Event}
 use Rattle.core_model.specs.declared.events.Event.TheVariants as event
 use Rattle.core_model.specs.Events.{IsEvent}
 use Rattle.world_events.specs.Events.{event_in}
 use Rattle.checking.specs.InputLaws.{value_of_text}
-use Rattle.world_commands.specs.Replay.{event_of}
 use Rattle.world_commands.specs.Stepping.{IsOperation}
 
 -- ---- a value that is read is not deep
@@ -47,14 +43,14 @@ inside_depth : (vs : List Val) → depth (told_value vs) ≤ max_levels → vals
 inside_depth vs h =
     let inner = le-max_left (depth (list (vals_of vs))) 0 in omega (arith, h, inner)
 
-pub shallow : (vs : List Val) → vals_depth (vals_of vs) ≤ max_levels → AreShallow vs
+shallow : (vs : List Val) → vals_depth (vals_of vs) ≤ max_levels → AreShallow vs
 shallow [] h = tt
 shallow (v ∷ vs) h =
     let here = le-max_left (depth v) (vals_depth (vals_of vs)) in
     let rest = le-max_right (depth v) (vals_depth (vals_of vs)) in
     (omega (arith, h, here), shallow vs (omega (arith, h, rest)))
 
-pub few : (vs : List Val) → vals_depth (vals_of vs) ≤ max_levels → list_all (λ v. nat_le (depth v) max_levels) vs ≡ true
+few : (vs : List Val) → vals_depth (vals_of vs) ≤ max_levels → list_all (λ v. nat_le (depth v) max_levels) vs ≡ true
 few [] h = refl
 few (v ∷ vs) h =
     let here = le-max_left (depth v) (vals_depth (vals_of vs)) in

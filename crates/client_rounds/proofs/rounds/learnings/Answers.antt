@@ -1,8 +1,12 @@
-use Rattle.std.proofs.Common.{◌∙◌}
+use Rattle.std.proofs.Common.{sym, subst, ◌∙◌}
 use Rattle.core_model.specs.Settle.{learns}
 use Rattle.client_rounds.specs.Visit.{visit}
+use Rattle.client_rounds.proofs.Adding.{AddNone, learns_add}
 use Rattle.client_rounds.proofs.Passing.{learns_are, listed}
 use Rattle.client_rounds.proofs.rounds.learnings.Goals as goal
+
+pub each-requires-clause-add : goal.each-requires-clause-add
+each-requires-clause-add c = subst AddNone (sym (c.as_slice-2.ensures.value ∙ c.in_ok-acts.ensures)) (learns_add c.length.result c.as_slice.result.now)
 
 pub returns : goal.returns
 returns c =
