@@ -207,10 +207,10 @@ impl KeptEntry {
     }
 
     /// Keeps the operation that the text tells of, as the text.
-    pub(crate) fn told(alloc: Global, text: &str) -> Result<KeptEntry, Mem>
+    pub(crate) fn told(text: &Text) -> Result<KeptEntry, Mem>
         ensures { IfOk result (λ kept. kept ≡ Admin (told_operation text.now)) }
     {
-        let text = Text::from_str(alloc, text)?;
+        let text = text.copy()?;
         Ok(KeptEntry {
             form: Form::Told { text },
         })

@@ -10,7 +10,7 @@ use crate::changes::{joined, made};
 use crate::kept_entry::KeptEntry;
 use crate::lines::{first_line, push_docs, push_entries};
 use ejson_codec::Lines;
-use ejson_value::{Change, Changes, Contents, Mem};
+use ejson_value::{Change, Changes, Contents, Mem, Text};
 use history_model::entry::Entry;
 use std::alloc::Global;
 use std::marker::Model;
@@ -81,12 +81,12 @@ impl Log {
 
     /// Puts the operation that the text tells of behind the other entries, as `push` does. The text is
     /// kept as it stands: the line that is printed of the entry is made of it when it is asked for.
-    pub fn push_told(&mut self, text: &str) -> Result<(), Mem>
+    pub fn push_told(&mut self, text: &Text) -> Result<(), Mem>
         ensures ok { OnOk result (self.new ≡ self.old ++ record { entry = Admin (told_operation text.now); changes = [] } ∷ []) }
         ensures err { OnErr result (self.new ≡ self.old) }
     {
         let alloc = self.allocator();
-        let entry = KeptEntry::told(alloc, text)?;
+        let entry = KeptEntry::told(text)?;
         let changes = Changes::new(alloc);
         self.logged.push(Logged { entry, changes })?;
         Ok(())

@@ -153,7 +153,7 @@ impl Machine {
     }
 
     /// Makes the administrator's operation that the text tells of, as `admin` does. Its entry is the text.
-    pub fn admin_told(&mut self, text: &str, operation: &Op) -> Result<(), AdminFault>
+    pub fn admin_told(&mut self, text: &Text, operation: &Op) -> Result<(), AdminFault>
         requires { operation_in (told_operation text.now) ≡ Some operation.now }
         ensures gives { AdminGives (λ u. self.new) result (admin_answer self.old (told_operation text.now)) }
         ensures refused { OnErr result (self.new ≡ self.old) }

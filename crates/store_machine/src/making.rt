@@ -14,7 +14,7 @@ use crate::fault::AdminFault;
 use crate::parts::{MAX_ENTRIES, MAX_KEPT, Parts, entries_with};
 use app_model::App;
 use collection_store::{Op, OpFault, Reply, Store};
-use ejson_value::{Changes, Items, Mem};
+use ejson_value::{Changes, Items, Mem, Text};
 use history_log::{Entry, new_bytes};
 use operation_reading::operation_in;
 use std::alloc::Global;
@@ -100,7 +100,7 @@ pub(crate) fn admin(
 }
 
 // Makes the operation that the text tells of. Its entry is the text.
-fn make_told(app: &App, parts: &mut Parts, text: &str, operation: &Op) -> Result<(), AdminFault>
+fn make_told(app: &App, parts: &mut Parts, text: &Text, operation: &Op) -> Result<(), AdminFault>
     requires stands { Stand app.now parts.old }
     requires reads { operation_in (told_operation text.now) ≡ Some operation.now }
     requires free { is_full_for_operation (held_by (seen app.now parts.old)) ≡ false }
@@ -127,7 +127,7 @@ fn make_told(app: &App, parts: &mut Parts, text: &str, operation: &Op) -> Result
 pub(crate) fn admin_told(
     app: &App,
     parts: &mut Parts,
-    text: &str,
+    text: &Text,
     operation: &Op,
 ) -> Result<(), AdminFault>
     requires stands { Stand app.now parts.old }

@@ -101,7 +101,7 @@ fn admin(inside: &mut Inside, op: &Items) -> Result<Printed, Mem>
 }
 
 /// The administrator's operation that the text tells of is made, or refused.
-pub(crate) fn admin_told(inside: &mut Inside, text: &str, operation: &Op) -> Result<Printed, Mem>
+pub(crate) fn admin_told(inside: &mut Inside, text: &Text, operation: &Op) -> Result<Printed, Mem>
     requires world { IsWorld (seen inside.old) }
     requires reads { operation_in (told_operation text.now) ≡ Some operation.now }
     requires good { IsEvent (happening.Admin (told_operation text.now)) }

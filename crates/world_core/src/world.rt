@@ -19,7 +19,7 @@ use crate::rounds::settle;
 use app_model::App;
 use client_names::Names;
 use collection_store::Op;
-use ejson_value::Mem;
+use ejson_value::{Mem, Text};
 use heard_messages::Heard;
 use std::alloc::Global;
 use std::collections::BTreeMap;
@@ -90,7 +90,7 @@ impl World {
 
     /// The administrator's operation happens that the text tells of, as `event` makes it happen, and what
     /// it prints is answered. The history keeps the text.
-    pub fn admin_told(&mut self, text: &str, operation: &Op) -> Result<Printed, Mem>
+    pub fn admin_told(&mut self, text: &Text, operation: &Op) -> Result<Printed, Mem>
         requires reads { operation_in (told_operation text.now) ≡ Some operation.now }
         requires good { IsEvent (Admin (told_operation text.now)) }
         ensures step { OnOk result (self.new ≡ step self.old (Admin (told_operation text.now))) }
