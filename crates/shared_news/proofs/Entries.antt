@@ -1,7 +1,7 @@
 -- What a source tells of entries, as it begins anew, has its first entry dropped and gets one more.
 use Rattle.std.specs.Prelude.{◌≡◌, ℕ, zero, suc, ◌+◌, ◌-◌, ◌≤◌, ◌<◌, Bool, true, false, List, [], ◌∷◌, ◌++◌, map, length, take, drop, nat_le, if◌then◌else◌, Option, Some, IfSome, ◌&&◌, ◌==◌, Result, Ok, Err, OnOk, OnErr, refl}
 use Rattle.std.proofs.Common.{ap, sym, subst, ◌∙◌, arith}
-use Rattle.std.proofs.lemmas.List.{length-append, length-map, drop-map, take-map}
+use Rattle.std.proofs.lemmas.List.{length-append, length-map}
 use Rattle.std.proofs.lemmas.Bool.{eqb-true}
 use Rattle.map_model.specs.Maps.{IsSorted}
 use Rattle.map_model.specs.Changes.{Leads}
@@ -15,8 +15,11 @@ use Rattle.publication.specs.Cursors.{ACursors}
 use Rattle.publication.specs.Published.{published}
 use Rattle.live_observer.specs.Observing.{IsDifference}
 use Rattle.store_machine.specs.State.{MachineState, programs, held_after}
-use Rattle.shared_news.specs.Leading.{News, AreDifferences, differ_behind, differ_first, differ_with}
-use Rattle.shared_news.specs.Telling.{ASpan, ASource, documents_of, IsSpan}
+use Rattle.shared_news.specs.Leading.{News, AreDifferences, differ_with}
+use Rattle.shared_news.specs.Telling.{AnEntry, ASpan, ASource, news_in, documents_of, AreKnownFrom, IsSpan}
+use Rattle.shared_news.specs.Known.{AreKnown}
+use Rattle.shared_news.specs.Origins.{AreTaught}
+use Rattle.shared_news.proofs.Soles.{known_with_one}
 use Rattle.shared_news.specs.Sources.{max_entries, next_of, reached, trimmed, with_one, with_last, without_last, IsToldBy, IsAlike}
 
 -- ---- one after another
@@ -28,11 +31,11 @@ next_trimmed s =
       | false ↦ λ _. refl
     ] refl
   where
-    shifted : (ones : List (List Publish)) → nat_le max_entries (length ones) ≡ true → (s.first + 1) + length (drop 1 ones) ≡ s.first + length ones
+    shifted : (ones : List AnEntry) → nat_le max_entries (length ones) ≡ true → (s.first + 1) + length (drop 1 ones) ≡ s.first + length ones
     shifted [] full = cc full
     shifted (one ∷ ones) full = omega arith
 
-pub next_with : (s : ASource) (one : List Publish) → next_of (with_one s one) ≡ next_of s + 1
+pub next_with : (s : ASource) (one : AnEntry) → next_of (with_one s one) ≡ next_of s + 1
 next_with s one = omega (arith, length-append s.ones (one ∷ []))
 
 pub alike_reached : (s : ASource) (from : ℕ) → IsAlike s (reached s from)
@@ -52,55 +55,61 @@ module _ (cursors : ACursors) (m : MachineState) where
   pub told_reached : (s : ASource) (from : ℕ) → from ≤ length m.history → IsToldBy cursors m s → IsToldBy cursors m (reached s from)
   told_reached s from within told =
       elim (nat_le max_entries (from - next_of s)) as (λ b. IsToldBy cursors m (if b then record s { first = from; ones = [] } else s)) [
-        | true ↦ record { within = omega (arith, within); each = tt; last = told.last }
+        | true ↦ record { within = omega (arith, within); each = tt; known = tt; last = told.last }
         | false ↦ told
       ]
 
   pub told_trimmed : (s : ASource) → IsToldBy cursors m s → IsToldBy cursors m (trimmed s)
   told_trimmed s told =
       elim (nat_le max_entries (length s.ones)) as (λ b. nat_le max_entries (length s.ones) ≡ b → IsToldBy cursors m (if b then record s { first = s.first + 1; ones = drop 1 s.ones } else s)) [
-        | true ↦ λ full. record { within = (dropped s.first s.ones full told.within told.each).0; each = (dropped s.first s.ones full told.within told.each).1; last = told.last }
+        | true ↦ λ full. let d = dropped s.first s.ones full told.within told.each told.known in record { within = d.0; each = d.1; known = d.2; last = told.last }
         | false ↦ λ _. told
       ] refl
     where
-      dropped : (first : ℕ) (ones : List (List Publish)) → nat_le max_entries (length ones) ≡ true → first + length ones ≤ length m.history → AreDifferences cursors (documents_of (programs m.app) m.history) first (map news_of ones) →
-          ((first + 1) + length (drop 1 ones) ≤ length m.history) × AreDifferences cursors (documents_of (programs m.app) m.history) (first + 1) (map news_of (drop 1 ones))
-      dropped first [] full within each = cc full
-      dropped first (one ∷ ones) full within each =
+      dropped : (first : ℕ) (ones : List AnEntry) → nat_le max_entries (length ones) ≡ true → first + length ones ≤ length m.history → AreDifferences cursors (documents_of (programs m.app) m.history) first (map news_in ones) →
+          AreKnownFrom cursors (documents_of (programs m.app) m.history) first ones →
+          ((first + 1) + length (drop 1 ones) ≤ length m.history) × AreDifferences cursors (documents_of (programs m.app) m.history) (first + 1) (map news_in (drop 1 ones)) × AreKnownFrom cursors (documents_of (programs m.app) m.history) (first + 1) (drop 1 ones)
+      dropped first [] full within each known = cc full
+      dropped first (one ∷ ones) full within each known =
           let next : suc first ≡ first + 1 = omega arith in
-          (omega (arith, within), subst (λ n. AreDifferences cursors (documents_of (programs m.app) m.history) n (map news_of ones)) next each.1)
+          (omega (arith, within), subst (λ n. AreDifferences cursors (documents_of (programs m.app) m.history) n (map news_in ones)) next each.1, subst (λ n. AreKnownFrom cursors (documents_of (programs m.app) m.history) n ones) next known.1)
 
-  pub told_with : (s : ASource) (one : List Publish) → next_of s < length m.history → IsDifference (published cursors (held_after m (next_of s)).rows) (published cursors (held_after m (next_of s + 1)).rows) (news_of one) →
+  pub told_with : (s : ASource) (one : AnEntry) → next_of s < length m.history → IsDifference (published cursors (held_after m (next_of s)).rows) (published cursors (held_after m (next_of s + 1)).rows) (news_in one) → AreKnown (published cursors (held_after m (next_of s)).rows) (news_in one) one.texts →
       IsToldBy cursors m s → IsToldBy cursors m (with_one s one)
-  told_with s one within differs told = let next : next_of s + 1 ≡ suc (next_of s) = omega arith in record {
+  told_with s one within differs known told = let next : next_of s + 1 ≡ suc (next_of s) = omega arith in record {
     within = omega (arith, within, length-append s.ones (one ∷ []));
     each = subst (AreDifferences cursors (documents_of (programs m.app) m.history) s.first) (sym (map_behind s.ones))
-        (differ_with cursors (documents_of (programs m.app) m.history) s.first (map news_of s.ones) (news_of one) told.each
-        (subst (λ n. IsDifference (published cursors (documents_of (programs m.app) m.history n)) (published cursors (documents_of (programs m.app) m.history (suc n))) (news_of one)) (ap (λ n. s.first + n) (sym (length-map s.ones news_of)))
-        (subst (λ n. IsDifference (published cursors (documents_of (programs m.app) m.history (next_of s))) (published cursors (documents_of (programs m.app) m.history n)) (news_of one)) next differs)));
+        (differ_with cursors (documents_of (programs m.app) m.history) s.first (map news_in s.ones) (news_in one) told.each
+        (subst (λ n. IsDifference (published cursors (documents_of (programs m.app) m.history n)) (published cursors (documents_of (programs m.app) m.history (suc n))) (news_in one)) (ap (λ n. s.first + n) (sym (length-map s.ones news_in)))
+        (subst (λ n. IsDifference (published cursors (documents_of (programs m.app) m.history (next_of s))) (published cursors (documents_of (programs m.app) m.history n)) (news_in one)) next differs)));
+    known = known_with_one cursors (documents_of (programs m.app) m.history) s.first s.ones one told.known known;
     last = told.last;
   }
     where
-      map_behind : (ones : List (List Publish)) → map news_of (ones ++ one ∷ []) ≡ map news_of ones ++ news_of one ∷ []
+      map_behind : (ones : List AnEntry) → map news_in (ones ++ one ∷ []) ≡ map news_in ones ++ news_in one ∷ []
       map_behind [] = refl
-      map_behind (first ∷ ones) = ap (λ (rest : List News). news_of first ∷ rest) (map_behind ones)
+      map_behind (first ∷ ones) = ap (λ (rest : List News). news_in first ∷ rest) (map_behind ones)
 
   -- one entry more is kept, or there was no memory for it
-  pub told_kept : {T E : Type 0} (result : Result T E) (s new : ASource) (one : List Publish) → OnOk result (new ≡ with_one (trimmed s) one) → OnErr result (new ≡ trimmed s) → next_of s < length m.history →
-      IsDifference (published cursors (held_after m (next_of s)).rows) (published cursors (held_after m (next_of s + 1)).rows) (news_of one) → IsToldBy cursors m s → IsToldBy cursors m new
-  told_kept (Ok x) s new one ok err within differs told =
+  pub told_kept : {T E : Type 0} (result : Result T E) (s new : ASource) (one : AnEntry) → OnOk result (new ≡ with_one (trimmed s) one) → OnErr result (new ≡ trimmed s) → next_of s < length m.history →
+      IsDifference (published cursors (held_after m (next_of s)).rows) (published cursors (held_after m (next_of s + 1)).rows) (news_in one) → AreKnown (published cursors (held_after m (next_of s)).rows) (news_in one) one.texts → IsToldBy cursors m s → IsToldBy cursors m new
+  told_kept (Ok x) s new one ok err within differs known told =
       let same : next_of s ≡ next_of (trimmed s) = sym (next_trimmed s) in
       subst (IsToldBy cursors m) (sym ok)
       (told_with (trimmed s) one (subst (λ n. n < length m.history) same within)
-      (subst (λ n. IsDifference (published cursors (held_after m n).rows) (published cursors (held_after m (n + 1)).rows) (news_of one)) same differs) (told_trimmed s told))
-  told_kept (Err e) s new one ok err within differs told = subst (IsToldBy cursors m) (sym err) (told_trimmed s told)
+      (subst (λ n. IsDifference (published cursors (held_after m n).rows) (published cursors (held_after m (n + 1)).rows) (news_in one)) same differs) (subst (λ n. AreKnown (published cursors (held_after m n).rows) (news_in one) one.texts) same known) (told_trimmed s told))
+  told_kept (Err e) s new one ok err within differs known told = subst (IsToldBy cursors m) (sym err) (told_trimmed s told)
+
+  -- the entries have other texts
+  pub told_taught : (s : ASource) (ones : List AnEntry) → length ones ≡ length s.ones → AreTaught cursors (documents_of (programs m.app) m.history) s.first ones → IsToldBy cursors m s → IsToldBy cursors m (record s { ones = ones })
+  told_taught s ones many taught told = record { within = omega (arith, many, told.within); each = taught.each; known = taught.known; last = told.last }
 
   -- a span is kept, or none
   pub told_last : (s : ASource) (span : ASpan) → IsSpan cursors (programs m.app) m.history span → IsToldBy cursors m s → IsToldBy cursors m (with_last s span)
-  told_last s span is told = record { within = told.within; each = told.each; last = is }
+  told_last s span is told = record { within = told.within; each = told.each; known = told.known; last = is }
 
   pub told_without : (s : ASource) → IsToldBy cursors m s → IsToldBy cursors m (without_last s)
-  told_without s told = record { within = told.within; each = told.each; last = tt }
+  told_without s told = record { within = told.within; each = told.each; known = told.known; last = tt }
 
   -- the span that is kept
   pub told_known : (s : ASource) (span : ASpan) → s.last ≡ Some span → IsToldBy cursors m s → IsSpan cursors (programs m.app) m.history span
@@ -113,25 +122,6 @@ module _ (cursors : ACursors) (m : MachineState) where
   pub documents_by_key : (place : ℕ) → IsSorted key_cmp (held_after m place).rows
   documents_by_key place = sorted_held (programs m.app) (take place m.history)
 
--- ---- some of the entries
-
-module _ {A : Type 0} (f : A → List Publish) where
-  cut : (n k : ℕ) (xs : List A) → map (λ x. news_of (f x)) (take n (drop k xs)) ≡ take n (drop k (map news_of (map f xs)))
-  cut n k xs = joined (take n (drop k xs)) ∙ (ap (map news_of) (sym (take-map f n (drop k xs)) ∙ ap (take n) (sym (drop-map f k xs))) ∙ (sym (take-map news_of n (drop k (map f xs))) ∙ ap (take n) (sym (drop-map news_of k (map f xs)))))
-    where
-      joined : (ys : List A) → map (λ x. news_of (f x)) ys ≡ map news_of (map f ys)
-      joined [] = refl
-      joined (y ∷ ys) = ap (λ (rest : List News). news_of (f y) ∷ rest) (joined ys)
-
-  pub some_differ : (cursors : ACursors) (m : MachineState) (first from count : ℕ) (xs : List A) → first ≤ from → AreDifferences cursors (documents_of (programs m.app) m.history) first (map news_of (map f xs)) →
-      AreDifferences cursors (documents_of (programs m.app) m.history) from (map (λ x. news_of (f x)) (take count (drop (from - first) xs)))
-  some_differ cursors m first from count xs le each =
-      let C = documents_of (programs m.app) m.history in
-      let place : first + (from - first) ≡ from = omega (arith, le) in
-      subst (AreDifferences cursors C from) (sym (cut count (from - first) xs))
-      (differ_first cursors C count from (drop (from - first) (map news_of (map f xs)))
-      (subst (λ n. AreDifferences cursors C n (drop (from - first) (map news_of (map f xs)))) place (differ_behind cursors C (from - first) first (map news_of (map f xs)) each)))
-
 -- the places of a span
 pub places_are : (a b from until : ℕ) → (a == from && b == until) ≡ true → (a ≡ from) × (b ≡ until)
 places_are a b from until test = let both = both_true (a == from) (b == until) test in (eqb-true a from both.0, eqb-true b until both.1)
@@ -139,11 +129,3 @@ places_are a b from until test = let both = both_true (a == from) (b == until) t
     both_true : (a b : Bool) → (a && b) ≡ true → (a ≡ true) × (b ≡ true)
     both_true true b e = (refl, e)
     both_true false b e = cc e
-
--- how many of the entries
-pub some_many : {A : Type 0} (n k : ℕ) (xs : List A) → k + n ≤ length xs → length (take n (drop k xs)) ≡ n
-some_many zero zero xs fits = refl
-some_many (suc n) zero [] fits = absurd (omega (arith, fits))
-some_many (suc n) zero (x ∷ xs) fits = ap suc (some_many n zero xs (omega (arith, fits)))
-some_many n (suc k) [] fits = absurd (omega (arith, fits))
-some_many n (suc k) (x ∷ xs) fits = some_many n k xs (omega (arith, fits))

@@ -21,7 +21,7 @@ put_or : (b : Bool) (v : Option Entries) (later was : Option (Option Entries)) �
 put_or true v later was none = ap (λ (x : Option (Option Entries)). option_or x (Some v)) (none refl)
 put_or false v later was none = refl
 
-at_put_news : (named news : News) (key : Key) → IsSorted key_cmp news → at key_cmp (put_news named news) key ≡ option_or (at key_cmp news key) (at key_cmp named key)
+pub at_put_news : (named news : News) (key : Key) → IsSorted key_cmp news → at key_cmp (put_news named news) key ≡ option_or (at key_cmp news key) (at key_cmp named key)
 at_put_news named [] key s = refl
 at_put_news named (one ∷ news) key s =
     at_put_news (set key_cmp named one.0 (Some one.1)) news key (sorted_tail key_cmp _ _ s)

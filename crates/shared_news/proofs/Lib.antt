@@ -5,3 +5,5 @@ pub mod Entries
 pub mod Sources
 pub mod Kept
 pub mod Texts
+pub mod Soles
+pub mod Putting

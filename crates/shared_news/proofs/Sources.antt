@@ -11,8 +11,8 @@ use Rattle.live_observer.specs.Observing.{AnObserver, cursors_of, HaveNoLimit}
 use Rattle.session_state.specs.declared.subs.Sub.{Sub}
 use Rattle.store_machine.specs.State.{MachineState, programs, held_after}
 use Rattle.shared_news.specs.Leading.{IsLead, AreDifferences}
-use Rattle.shared_news.specs.Telling.{CursorsAt, ASpan, ASource, documents_of, IsSpan, IsTold, IsSource}
-use Rattle.shared_news.specs.Sources.{with_last, IsAlike, IsOf, IsPlaceOf, IsToldBy}
+use Rattle.shared_news.specs.Telling.{CursorsAt, ASpan, ASource, news_in, documents_of, AreKnownFrom, IsSpan, IsTold, IsSource}
+use Rattle.shared_news.specs.Sources.{IsAlike, IsOf, IsPlaceOf, IsToldBy}
 
 -- ---- lists
 
@@ -48,7 +48,10 @@ of_place sources sub source place at of = subst (λ (o : Option ASource). IfSome
 -- ---- cursors
 
 abbrev AreDifferencesOf : ACursors → MachineState → ASource → Type 0
-AreDifferencesOf cursors m s = AreDifferences cursors (documents_of (programs m.app) m.history) s.first (map news_of s.ones)
+AreDifferencesOf cursors m s = AreDifferences cursors (documents_of (programs m.app) m.history) s.first (map news_in s.ones)
+
+abbrev AreKnownOf : ACursors → MachineState → ASource → Type 0
+AreKnownOf cursors m s = AreKnownFrom cursors (documents_of (programs m.app) m.history) s.first s.ones
 
 observes : (sub : Sub) (o : AnObserver) → sub.observer ≡ Some o → IfSome sub.observer (λ (x : AnObserver). cursors_of x ≡ sub.cursors) → cursors_of o ≡ sub.cursors
 observes sub o is of = subst (λ (x : Option AnObserver). IfSome x (λ (w : AnObserver). cursors_of w ≡ sub.cursors)) is of
@@ -68,6 +71,7 @@ module _ (cursors_at : CursorsAt) (sub : Sub) (o : AnObserver) (source : IsSourc
     told_by s of told = record {
       within = told.within;
       each = subst (λ (cs : ACursors). AreDifferencesOf cs m s) (cursors_of_source s of) told.each;
+      known = subst (λ (cs : ACursors). AreKnownOf cs m s) (cursors_of_source s of) told.known;
       last = subst (λ (cs : ACursors). IfSome s.last (IsSpan cs (programs m.app) m.history)) (cursors_of_source s of) told.last;
     }
 
@@ -75,6 +79,7 @@ module _ (cursors_at : CursorsAt) (sub : Sub) (o : AnObserver) (source : IsSourc
     told_at s of told = record {
       within = told.within;
       each = subst (λ (cs : ACursors). AreDifferencesOf cs m s) (sym (cursors_of_source s of)) told.each;
+      known = subst (λ (cs : ACursors). AreKnownOf cs m s) (sym (cursors_of_source s of)) told.known;
       last = subst (λ (cs : ACursors). IfSome s.last (IsSpan cs (programs m.app) m.history)) (sym (cursors_of_source s of)) told.last;
     }
 
@@ -98,12 +103,30 @@ module _ (cursors_at : CursorsAt) (sub : Sub) (o : AnObserver) (source : IsSourc
   leads_by m value from until result leads =
       subst (λ (cs : ACursors). IfOk result (λ answer. IfSome answer (λ told. IsLead (published cs (held_after m from).rows) (published cs (held_after m until).rows) (news_of (value told))))) cursors_same leads
 
--- a span of the subscription's publication is kept by its source
+module _ (cursors_at : CursorsAt) (cursors : ACursors) (m : MachineState) (s : ASource) (same : cursors_at s.name s.params ≡ cursors) where
+  by_cursors : IsTold cursors_at (programs m.app) m.history s → IsToldBy cursors m s
+  by_cursors told = record {
+    within = told.within;
+    each = subst (λ (cs : ACursors). AreDifferencesOf cs m s) same told.each;
+    known = subst (λ (cs : ACursors). AreKnownOf cs m s) same told.known;
+    last = subst (λ (cs : ACursors). IfSome s.last (IsSpan cs (programs m.app) m.history)) same told.last;
+  }
+
+  at_cursors : IsToldBy cursors m s → IsTold cursors_at (programs m.app) m.history s
+  at_cursors told = record {
+    within = told.within;
+    each = subst (λ (cs : ACursors). AreDifferencesOf cs m s) (sym same) told.each;
+    known = subst (λ (cs : ACursors). AreKnownOf cs m s) (sym same) told.known;
+    last = subst (λ (cs : ACursors). IfSome s.last (IsSpan cs (programs m.app) m.history)) (sym same) told.last;
+  }
+
+-- a span of the subscription's publication is learnt by its source
 pub all_learnt : (cursors_at : CursorsAt) (m : MachineState) (sub : Sub) (sources : List ASource) (place : ℕ) (s new : ASource) (span : ASpan) → slice_get sources place ≡ Some s → IsPlaceOf sources sub place → IsSource cursors_at sub →
-    IsSpan sub.cursors (programs m.app) m.history span → new ≡ with_last s span → AllByRecursion (IsTold cursors_at (programs m.app) m.history) sources → AllByRecursion (IsTold cursors_at (programs m.app) m.history) (slice_set sources place new)
-all_learnt cursors_at m sub sources place s new span at placed source is kept all =
+    IsSpan sub.cursors (programs m.app) m.history span → IsAlike s new → (IsToldBy sub.cursors m s → IsSpan sub.cursors (programs m.app) m.history span → IsToldBy sub.cursors m new) →
+    AllByRecursion (IsTold cursors_at (programs m.app) m.history) sources → AllByRecursion (IsTold cursors_at (programs m.app) m.history) (slice_set sources place new)
+all_learnt cursors_at m sub sources place s new span at placed source is alike learns all =
     let P : ASource → Type 0 = IsTold cursors_at (programs m.app) m.history in
     let of = of_place sources sub s place at placed in
-    let told = all_at P sources place s all at in
-    let same : cursors_at s.name s.params ≡ sub.cursors = ap₂ cursors_at of.name of.params ∙ sym source.cursors in
-    all_with P sources place new all (subst P (sym kept) (record { within = told.within; each = told.each; last = subst (λ (cs : ACursors). IsSpan cs (programs m.app) m.history span) (sym same) is }))
+    let was : cursors_at s.name s.params ≡ sub.cursors = ap₂ cursors_at of.name of.params ∙ sym source.cursors in
+    let now : cursors_at new.name new.params ≡ sub.cursors = ap₂ cursors_at alike.name alike.params ∙ was in
+    all_with P sources place new all (at_cursors cursors_at sub.cursors m new now (learns (by_cursors cursors_at sub.cursors m s was (all_at P sources place s all at)) is))

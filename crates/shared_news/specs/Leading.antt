@@ -74,7 +74,7 @@ module _ (cursors : ACursors) (C : ℕ → Rows) where
   abbrev place : ℕ → Key → Option Entries
   place n = published cursors (C n)
 
-  said_leads : (from : ℕ) (all : List News) (key : Key) → AreDifferences cursors C from all → unwrap_or (last_said all key) (place from key) ≡ place (from + length all) key
+  pub said_leads : (from : ℕ) (all : List News) (key : Key) → AreDifferences cursors C from all → unwrap_or (last_said all key) (place from key) ≡ place (from + length all) key
   said_leads from [] key told = ap (λ n. place n key) (none_on from)
   said_leads from (one ∷ all) key told =
       sym (later_counts (last_said all key) (at key_cmp one key) (place from key))

@@ -8,3 +8,5 @@ pub mod Sources
 pub mod Inside
 pub mod Spans
 pub mod Lending
+pub mod Origins
+pub mod Parts

@@ -15,7 +15,7 @@ use Rattle.live_observer.specs.Observing.{IsDifference}
 use Rattle.store_machine.specs.State.{MachineState, programs}
 use Rattle.shared_news.specs.Leading.{News, AreDifferences, IsLead}
 use Rattle.shared_news.specs.Known.{AreKnown}
-use Rattle.shared_news.specs.Telling.{CursorsAt, ASpan, ASource, ANews, nothing_told, documents_of, IsSpan, IsTold, IsKept, AreTold}
+use Rattle.shared_news.specs.Telling.{CursorsAt, AnEntry, ASpan, ASource, ANews, nothing_told, documents_of, news_in, AreKnownFrom, IsSpan, IsTold, IsKept, AreTold}
 
 taken_within : {A : Type 0} (count place : ℕ) (xs more : List A) → place + count ≤ length xs → take count (drop place (xs ++ more)) ≡ take count (drop place xs)
 taken_within count place xs more fits =
@@ -43,6 +43,11 @@ batch_longer m es (Some b) kept = (
 
 module _ (cursors : ACursors) (C D : ℕ → Rows) where
   -- the differences are told of all documents that are the same at their places
+  known_alike : (from : ℕ) (ones : List AnEntry) → ((place : ℕ) → place ≤ from + length ones → C place ≡ D place) → AreKnownFrom cursors C from ones → AreKnownFrom cursors D from ones
+  known_alike from [] same known = tt
+  known_alike from (one ∷ ones) same known =
+      (subst (λ (rows : Rows). AreKnown (published cursors rows) (news_in one) one.texts) (same from (omega arith)) known.0, known_alike (suc from) ones (λ place le. same place (omega (arith, le))) known.1)
+
   differ_alike : (from : ℕ) (all : List News) → ((place : ℕ) → place ≤ from + length all → C place ≡ D place) → AreDifferences cursors C from all → AreDifferences cursors D from all
   differ_alike from [] same told = tt
   differ_alike from (one ∷ all) same told = (
@@ -67,8 +72,10 @@ span_longer cursors app history more (Some span) told =
 source_longer : (cursors_at : CursorsAt) (app : Programs) (history more : List Entry) (source : ASource) → IsTold cursors_at app history source → IsTold cursors_at app (history ++ more) source
 source_longer cursors_at app history more source told = record {
   within = omega (arith, told.within, length-append history more);
-  each = differ_alike (cursors_at source.name source.params) (documents_of app history) (documents_of app (history ++ more)) source.first (map news_of source.ones)
-      (λ place le. ap (λ (h : Held). h.rows) (sym (held_at-longer app history more place (omega (arith, le, length-map source.ones news_of, told.within))))) told.each;
+  each = differ_alike (cursors_at source.name source.params) (documents_of app history) (documents_of app (history ++ more)) source.first (map news_in source.ones)
+      (λ place le. ap (λ (h : Held). h.rows) (sym (held_at-longer app history more place (omega (arith, le, length-map source.ones news_in, told.within))))) told.each;
+  known = known_alike (cursors_at source.name source.params) (documents_of app history) (documents_of app (history ++ more)) source.first source.ones
+      (λ place le. ap (λ (h : Held). h.rows) (sym (held_at-longer app history more place (omega (arith, le, told.within))))) told.known;
   last = span_longer (cursors_at source.name source.params) app history more source.last told.last;
 }
 

@@ -1,12 +1,13 @@
 -- Sources: the entries that are told, and those that are kept.
-use Rattle.std.specs.Prelude.{◌≡◌, ℕ, ◌+◌, ◌-◌, List, [], ◌∷◌, ◌++◌, length, drop, nat_le, if◌then◌else◌, slice_get, None, Some, IfSome}
+use Rattle.std.specs.Prelude.{◌≡◌, ℕ, ◌+◌, ◌-◌, ◌≤◌, List, [], ◌∷◌, ◌++◌, length, drop, nat_le, if◌then◌else◌, slice_get, replicate, None, Some, IfSome}
 use Rattle.ejson_value.specs.declared.change.Publish.{Publish}
 use Rattle.ejson_value.specs.Changes.{news_of}
 use Rattle.publication.specs.Cursors.{ACursors}
 use Rattle.publication.specs.Published.{published}
 use Rattle.session_state.specs.declared.subs.Sub.{Sub}
 use Rattle.store_machine.specs.State.{MachineState, programs, held_after}
-use Rattle.shared_news.specs.Telling.{ASpan, ASource, IsTold}
+use Rattle.shared_news.specs.Telling.{AnEntry, ASpan, ASource, news_in, IsTold}
+use Rattle.shared_news.specs.Known.{AreKnown}
 use Rattle.shared_news.specs.Leading.{IsLead}
 
 -- how many entries are kept at most, and of how many publications
@@ -29,7 +30,11 @@ reached s from = if nat_le max_entries (from - next_of s) then record s { first 
 abbrev pub trimmed : ASource → ASource
 trimmed s = if nat_le max_entries (length s.ones) then record s { first = s.first + 1; ones = drop 1 s.ones } else s
 
-abbrev pub with_one : ASource → List Publish → ASource
+-- no text of it is known
+abbrev pub entry_of : List Publish → AnEntry
+entry_of told = record { told = told; texts = replicate (length told) None }
+
+abbrev pub with_one : ASource → AnEntry → ASource
 with_one s one = record s { ones = s.ones ++ one ∷ [] }
 
 -- the span is kept
@@ -61,3 +66,14 @@ IsToldBy cursors m s = IsTold (λ name params. cursors) (programs m.app) m.histo
 -- what is told leads from what they publish at the one place to what they publish at the other
 abbrev pub LeadsBy : ACursors → MachineState → ℕ → ℕ → List Publish → Type 0
 LeadsBy cursors m from until told = IsLead (published cursors (held_after m from).rows) (published cursors (held_after m until).rows) (news_of told)
+
+-- and a text that is known is what each client is told that sees what they publish at the first place
+pub record TellsBy (cursors : ACursors) (m : MachineState) (from until : ℕ) (one : AnEntry) : Type 0 where
+  pub leads : LeadsBy cursors m from until one.told
+  pub known : AreKnown (published cursors (held_after m from).rows) (news_in one) one.texts
+
+-- the entries between the places are kept
+pub record HasAll (s : ASource) (from until : ℕ) : Type 0 where
+  pub begins : s.first ≤ from
+  pub order : from ≤ until
+  pub ends : until ≤ next_of s

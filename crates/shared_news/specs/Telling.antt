@@ -1,5 +1,5 @@
 -- What sessions share: what publications tell of the entries of a history.
-use Rattle.std.specs.Prelude.{◌≡◌, ℕ, ◌+◌, ◌≤◌, List, [], map, length, Option, None, IfSome}
+use Rattle.std.specs.Prelude.{◌≡◌, ℕ, suc, ◌+◌, ◌≤◌, List, [], ◌∷◌, map, length, Option, None, IfSome}
 use Rattle.std.specs.List.{AllByRecursion}
 use Rattle.value_model.specs.Val.{Val}
 use Rattle.ejson_value.specs.declared.change.Publish.{Publish}
@@ -14,7 +14,7 @@ use Rattle.publication.specs.Published.{published}
 use Rattle.live_observer.specs.Observing.{AnObserver, cursors_of, HaveNoLimit}
 use Rattle.session_state.specs.declared.subs.Sub.{Sub}
 use Rattle.known_texts.specs.Places.{Texts}
-use Rattle.shared_news.specs.Leading.{AreDifferences, IsLead}
+use Rattle.shared_news.specs.Leading.{News, AreDifferences, IsLead}
 use Rattle.shared_news.specs.Known.{AreKnown}
 
 -- the cursors of each publication with params
@@ -28,12 +28,17 @@ pub record ASpan : Type 0 where
   pub told : List Publish
   pub texts : Texts
 
+-- what is told of an entry, and the texts that are known of it
+pub record AnEntry : Type 0 where
+  pub told : List Publish
+  pub texts : Texts
+
 -- what a publication, called with its params, tells of each entry from the first on, and of a span
 pub record ASource : Type 0 where
   pub name : List ℕ
   pub params : List Val
   pub first : ℕ
-  pub ones : List (List Publish)
+  pub ones : List AnEntry
   pub last : Option ASpan
 
 pub record ANews : Type 0 where
@@ -58,10 +63,20 @@ pub record IsSpan (cursors : ACursors) (app : Programs) (history : List Entry) (
   pub leads : IsLead (published cursors (documents_of app history span.from)) (published cursors (documents_of app history span.until)) (news_of span.told)
   pub known : AreKnown (published cursors (documents_of app history span.from)) (news_of span.told) span.texts
 
--- the entries are the history's, and what is told of each is the difference that it makes
+-- the news that are told of an entry
+abbrev pub news_in : AnEntry → News
+news_in one = news_of one.told
+
+-- a text that is known of an entry is what each client is told that sees what is published before it
+abbrev pub AreKnownFrom : ACursors → (ℕ → Rows) → ℕ → List AnEntry → Type 0
+AreKnownFrom cursors C from [] = Unit {0}
+AreKnownFrom cursors C from (one ∷ ones) = AreKnown (published cursors (C from)) (news_in one) one.texts × AreKnownFrom cursors C (suc from) ones
+
+-- the entries are the history's, what is told of each is the difference that it makes, and a text that is known of one is what each client is told that sees what is published before it
 pub record IsTold (cursors_at : CursorsAt) (app : Programs) (history : List Entry) (source : ASource) : Type 0 where
   pub within : source.first + length source.ones ≤ length history
-  pub each : AreDifferences (cursors_at source.name source.params) (documents_of app history) source.first (map news_of source.ones)
+  pub each : AreDifferences (cursors_at source.name source.params) (documents_of app history) source.first (map news_in source.ones)
+  pub known : AreKnownFrom (cursors_at source.name source.params) (documents_of app history) source.first source.ones
   pub last : IfSome source.last (IsSpan (cursors_at source.name source.params) app history)
 
 -- the batch is of the history

@@ -1,42 +1,58 @@
 //! What is told of several entries, put together.
-ghost use Rattle.std.specs.Prelude.{◌≡◌, ℕ, ◌+◌, ◌++◌, [], map, length, Some, IfOk, IfErr, OnOk, OnErr};
-ghost use Rattle.std.specs.Arc.{arc_value};
-ghost use Rattle.map_model.specs.Maps.{set, IsSorted};
+ghost use Rattle.std.specs.Prelude.{◌≡◌, ℕ, ◌+◌, [], map, length, Option, None, Some, IfOk, IfErr, OnOk, option_copied};
+ghost use Rattle.map_model.specs.Maps.{at, set};
+ghost use Rattle.value_model.specs.Val.{Entries};
+ghost use Rattle.ejson_value.specs.declared.key.Key.{Key as AKey};
 ghost use Rattle.ejson_value.specs.Key.{key_cmp};
 ghost use Rattle.ejson_value.specs.Rows.{Rows};
 ghost use Rattle.ejson_value.specs.Changes.{news_of};
 ghost use Rattle.publication.specs.Cursors.{ACursors};
 ghost use Rattle.publication.specs.Published.{published};
+ghost use Rattle.shared_news.specs.Inside.{seen_entry};
+ghost use Rattle.shared_news.specs.Known.{IsKnown, AreKnown};
 ghost use Rattle.shared_news.specs.Leading.{IsLead, AreDifferences};
+ghost use Rattle.shared_news.specs.Telling.{news_in, AreKnownFrom};
 ghost use Rattle.shared_news.specs.Joining.{key_at, IsGapFor, put_news, put_all};
+ghost use Rattle.shared_news.specs.Parts.{news_of_parts, AreKnownParts, IsNewKnown, AreNewKnown};
 
-use ejson_value::{Key, Mem, Publish, Publishes, copy_option};
+use crate::entry::Told;
+use crate::keeping::keep_text;
+use ejson_value::{Key, Mem, Publish, Publishes, Text, copy_option};
+use known_texts::KnownTexts;
 use std::alloc::Global;
 use std::marker::Model;
 use std::mem;
 use std::sync::Arc;
 
-// Publishes by rising key. A contract sees their keys, each with the document there or none.
+// A publish, and the text that is known of it.
+#[derive(Drop)]
+struct Part {
+    one: Publish,
+    text: Option<Text>,
+}
+
+// Publishes by rising key, and the texts that are known of them. A contract sees them one by one.
 #[derive(Drop)]
 struct Parts {
-    publishes: Vec<Publish>,
+    parts: Vec<Part>,
 }
 
 impl Model for Parts {
+    ghost use Rattle.std.specs.Prelude.{List};
     ghost use Rattle.map_model.specs.Maps.{IsSorted};
     ghost use Rattle.ejson_value.specs.Key.{key_cmp};
-    ghost use Rattle.ejson_value.specs.Changes.{news_of};
-    ghost use Rattle.shared_news.specs.Leading.{News};
+    ghost use Rattle.shared_news.specs.declared.joining.Part.{Part};
+    ghost use Rattle.shared_news.specs.Parts.{news_of_parts};
     ghost use Rattle.std.specs.Coded.{codes};
     ghost use Rattle.value_model.specs.Coding.{val_code};
 
-    ghost Value = { News };
+    ghost Value = { List Part };
 
     ghost coded = { Prim.hlevel (codes, val_code) };
 
-    ghost view = { λ a. news_of a.publishes.items };
+    ghost view = { λ a. a.parts.items };
 
-    ghost invariant = { λ a. IsSorted key_cmp (news_of a.publishes.items) };
+    ghost invariant = { λ a. IsSorted key_cmp (news_of_parts a.parts.items) };
 }
 
 fn copied(one: &Publish) -> Result<Publish, Mem>
@@ -48,43 +64,67 @@ fn copied(one: &Publish) -> Result<Publish, Mem>
     })
 }
 
+fn copied_text(text: Option<&Text>) -> Result<Option<Text>, Mem>
+    ensures { IfOk result (λ copy. copy ≡ option_copied text.entry) }
+{
+    match text {
+        Some(text) => Ok(Some(text.copy()?)),
+        None => Ok(None),
+    }
+}
+
 impl Parts {
     fn new(alloc: Global) -> Parts
         ensures { result ≡ [] }
     {
         Parts {
-            publishes: Vec::new(alloc),
+            parts: Vec::new(alloc),
         }
     }
 
     // Where the key stands, or else where it would.
     fn place(&self, key: &Key) -> Result<usize, usize>
-        ensures found { IfOk result (λ place. key_at self.now place ≡ Some key.now) }
-        ensures gap { IfErr result (IsGapFor self.now key.now) }
+        ensures found { IfOk result (λ place. key_at (news_of_parts self.now) place ≡ Some key.now) }
+        ensures gap { IfErr result (IsGapFor (news_of_parts self.now) key.now) }
     {
-        self.publishes.binary_search_by(|one| one.key.cmp(key))
+        self.parts.binary_search_by(|part| part.one.key.cmp(key))
     }
 
-    // The publish stands in the place of the one of its key.
+    // The publish stands in the place of the one of its key. No text of it is known.
     fn write_at(&mut self, place: usize, one: Publish)
-        requires { key_at self.old place ≡ Some one.key }
-        ensures { self.new ≡ set key_cmp self.old one.key (Some one.new) }
+        requires { key_at (news_of_parts self.old) place ≡ Some one.key }
+        ensures news { news_of_parts self.new ≡ set key_cmp (news_of_parts self.old) one.key (Some one.new) }
+        ensures known { (before : AKey → Option Entries) → AreKnownParts before self.old → AreKnownParts before self.new }
     {
-        drop(mem::replace(&mut self.publishes[place], one));
+        let part = Part { one, text: None };
+        drop(mem::replace(&mut self.parts[place], part));
     }
 
     // The publish stands in the gap for its key.
-    fn insert_at(&mut self, place: usize, one: Publish) -> Result<(), Mem>
-        requires { IsGapFor self.old one.key place }
-        ensures { OnOk result (self.new ≡ set key_cmp self.old one.key (Some one.new)) }
+    fn insert_at(&mut self, place: usize, part: Part) -> Result<(), Mem>
+        requires { IsGapFor (news_of_parts self.old) part.one.key place }
+        ensures news { OnOk result (news_of_parts self.new ≡ set key_cmp (news_of_parts self.old) part.one.key (Some part.one.new)) }
+        ensures known { (before : AKey → Option Entries) → AreKnownParts before self.old → IsKnown before (part.one.key, part.one.new) part.text → OnOk result (AreKnownParts before self.new) }
     {
-        self.publishes.insert(place, one)?;
+        self.parts.insert(place, part)?;
         Ok(())
     }
 
-    // The publish is the one of its key.
-    fn put(&mut self, one: &Publish) -> Result<(), Mem>
-        ensures { OnOk result (self.new ≡ set key_cmp self.old one.now.key (Some one.now.new)) }
+    // A key that was not named before: the text is known of its publish.
+    fn add_at(&mut self, place: usize, one: Publish, text: Option<&Text>) -> Result<(), Mem>
+        requires { IsGapFor (news_of_parts self.old) one.key place }
+        ensures news { OnOk result (news_of_parts self.new ≡ set key_cmp (news_of_parts self.old) one.key (Some one.new)) }
+        ensures known { (before : AKey → Option Entries) → AreKnownParts before self.old → IsKnown before (one.key, one.new) (option_copied text.entry) → OnOk result (AreKnownParts before self.new) }
+    {
+        let text = copied_text(text)?;
+        self.insert_at(place, Part { one, text })
+    }
+
+    // The publish is the one of its key. The text is known of it, where the key was not named before.
+    fn put(&mut self, one: &Publish, text: Option<&Text>) -> Result<(), Mem>
+        ensures news { OnOk result (news_of_parts self.new ≡ set key_cmp (news_of_parts self.old) one.now.key (Some one.now.new)) }
+        ensures known { (before : AKey → Option Entries) → AreKnownParts before self.old →
+            (at key_cmp (news_of_parts self.old) one.now.key ≡ None → IsKnown before (one.now.key, one.now.new) (option_copied text.entry)) → OnOk result (AreKnownParts before self.new) }
     {
         let one = copied(one)?;
         match self.place(&one.key) {
@@ -92,60 +132,100 @@ impl Parts {
                 self.write_at(place, one);
                 Ok(())
             }
-            Err(place) => self.insert_at(place, one),
+            Err(place) => self.add_at(place, one, text),
         }
     }
 
-    fn put_news(&mut self, news: &[Publish]) -> Result<(), Mem>
-        ensures { OnOk result (self.new ≡ put_news self.old (news_of news.now)) }
+    // What is told of an entry is put.
+    fn put_entry(&mut self, told: &Told) -> Result<(), Mem>
+        ensures news { OnOk result (news_of_parts self.new ≡ put_news (news_of_parts self.old) (news_in (seen_entry told.now))) }
+        ensures known { (before : AKey → Option Entries) → AreKnownParts before self.old → IsNewKnown before (news_of_parts self.old) (news_in (seen_entry told.now)) told.now.texts → OnOk result (AreKnownParts before self.new) }
     {
-        for one in news {
-            self.put(one)?;
+        let news = told.news.as_slice();
+        for place in 0..news.len() {
+            self.put(&news[place], told.texts.get(place))?;
         }
         Ok(())
     }
 
-    fn put_all(&mut self, all: &[Arc<Publishes>]) -> Result<(), Mem>
-        ensures { OnOk result (self.new ≡ put_all self.old (map (λ one. news_of (arc_value one)) all.now)) }
+    fn put_all(&mut self, all: &[Told]) -> Result<(), Mem>
+        ensures news { OnOk result (news_of_parts self.new ≡ put_all (news_of_parts self.old) (map news_in (map seen_entry all.now))) }
+        ensures known { (before : AKey → Option Entries) → AreKnownParts before self.old → AreNewKnown before (news_of_parts self.old) (map seen_entry all.now) → OnOk result (AreKnownParts before self.new) }
     {
-        for one in all {
-            self.put_news(one.as_slice())?;
+        for entry in 0..all.len() {
+            self.put_entry(&all[entry])?;
         }
         Ok(())
+    }
+
+    // The texts that are known.
+    fn texts(&self, alloc: Global) -> Result<KnownTexts, Mem>
+        ensures { (before : AKey → Option Entries) → AreKnownParts before self.now → IfOk result (AreKnown before (news_of_parts self.now)) }
+    {
+        let mut texts = KnownTexts::places(alloc, self.parts.len())?;
+        for place in 0..self.parts.len() {
+            keep_text(&mut texts, place, self.parts[place].text.as_ref());
+        }
+        Ok(texts)
     }
 
     fn listed(self, alloc: Global) -> Result<Publishes, Mem>
-        ensures list { IfOk result (λ list. news_of list ≡ self) }
-        ensures by_key { IfOk result (λ list. IsSorted key_cmp (news_of list)) }
+        ensures { IfOk result (λ list. news_of list ≡ news_of_parts self) }
     {
         let mut list = Publishes::new(alloc);
-        for one in self.publishes {
-            list.push(one)?;
+        for part in self.parts {
+            list.push(part.one)?;
         }
         Ok(list)
     }
 }
 
-fn put_together(alloc: Global, all: &[Arc<Publishes>]) -> Result<Publishes, Mem>
-    ensures { (cursors : ACursors) (C : ℕ → Rows) (from : ℕ) → AreDifferences cursors C from (map (λ one. news_of (arc_value one)) all.now) →
-        IfOk result (λ told. IsLead (published cursors (C from)) (published cursors (C (from + length all.now))) (news_of told)) }
+fn put_together(alloc: Global, all: &[Told]) -> Result<Told, Mem>
+    ensures leads { (cursors : ACursors) (C : ℕ → Rows) (from : ℕ) → AreDifferences cursors C from (map news_in (map seen_entry all.now)) →
+        IfOk result (λ told. IsLead (published cursors (C from)) (published cursors (C (from + length all.now))) (news_in (seen_entry told))) }
+    ensures known { (cursors : ACursors) (C : ℕ → Rows) (from : ℕ) → AreDifferences cursors C from (map news_in (map seen_entry all.now)) → AreKnownFrom cursors C from (map seen_entry all.now) →
+        IfOk result (λ told. AreKnown (published cursors (C from)) (news_in (seen_entry told)) told.texts) }
 {
     let mut parts = Parts::new(alloc);
     parts.put_all(all)?;
-    parts.listed(alloc)
+    let texts = parts.texts(alloc)?;
+    let news = parts.listed(alloc)?;
+    let news = Arc::new(alloc, news)?;
+    Ok(Told { news, texts })
+}
+
+// The texts that are known, once more.
+fn copied_texts(alloc: Global, one: &Told) -> Result<KnownTexts, Mem>
+    ensures { (before : AKey → Option Entries) → AreKnown before (news_in (seen_entry one.now)) one.now.texts → IfOk result (AreKnown before (news_in (seen_entry one.now))) }
+{
+    let mut texts = KnownTexts::places(alloc, one.news.len())?;
+    for place in 0..one.news.len() {
+        keep_text(&mut texts, place, one.texts.get(place));
+    }
+    Ok(texts)
+}
+
+// What is told of one entry alone is not copied.
+fn alone(alloc: Global, one: &Told) -> Result<Told, Mem>
+    ensures news { IfOk result (λ told. news_in (seen_entry told) ≡ news_in (seen_entry one.now)) }
+    ensures known { (before : AKey → Option Entries) → AreKnown before (news_in (seen_entry one.now)) one.now.texts → IfOk result (λ told. AreKnown before (news_in (seen_entry told)) told.texts) }
+{
+    let texts = copied_texts(alloc, one)?;
+    let news = Arc::try_clone(&one.news)?;
+    Ok(Told { news, texts })
 }
 
 /// What is told of entries, one after another, leads to: by key, the last document that they name for
-/// each key that one of them names, or none. What is told of one entry alone is not copied.
-pub(crate) fn joined(alloc: Global, all: &[Arc<Publishes>]) -> Result<Arc<Publishes>, Mem>
-    ensures { (cursors : ACursors) (C : ℕ → Rows) (from : ℕ) → AreDifferences cursors C from (map (λ one. news_of (arc_value one)) all.now) →
-        IfOk result (λ told. IsLead (published cursors (C from)) (published cursors (C (from + length all.now))) (news_of (arc_value told))) }
+/// each key that one of them names, or none. What is told of one entry alone is not copied. Of a key that
+/// one entry alone names, the text is known that is known of that entry.
+pub(crate) fn joined(alloc: Global, all: &[Told]) -> Result<Told, Mem>
+    ensures leads { (cursors : ACursors) (C : ℕ → Rows) (from : ℕ) → AreDifferences cursors C from (map news_in (map seen_entry all.now)) →
+        IfOk result (λ told. IsLead (published cursors (C from)) (published cursors (C (from + length all.now))) (news_in (seen_entry told))) }
+    ensures known { (cursors : ACursors) (C : ℕ → Rows) (from : ℕ) → AreDifferences cursors C from (map news_in (map seen_entry all.now)) → AreKnownFrom cursors C from (map seen_entry all.now) →
+        IfOk result (λ told. AreKnown (published cursors (C from)) (news_in (seen_entry told)) told.texts) }
 {
-    if let [one] = all {
-        let one = Arc::try_clone(one)?;
-        return Ok(one);
+    match all {
+        [one] => alone(alloc, one),
+        _ => put_together(alloc, all),
     }
-    let told = put_together(alloc, all)?;
-    let told = Arc::new(alloc, told)?;
-    Ok(told)
 }

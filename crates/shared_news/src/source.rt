@@ -1,15 +1,17 @@
 //! What a publication tells of entries, one by one.
 ghost use Rattle.std.specs.Prelude.{◌≡◌, ◌+◌, ◌-◌, ◌≤◌, ◌<◌, ◌==◌, ◌&&◌, length, Some, IfOk, IfSome, OnOk, OnErr, IsTrue};
-ghost use Rattle.std.specs.Arc.{arc_value};
 ghost use Rattle.publication.specs.Cursors.{ACursors};
 ghost use Rattle.live_observer.specs.Observing.{cursors_of, HaveNoLimit};
-ghost use Rattle.store_machine.specs.State.{MachineState};
-ghost use Rattle.shared_news.specs.Inside.{seen_span};
-ghost use Rattle.shared_news.specs.Sources.{max_entries, source_of, reached, trimmed, with_one, next_of, IsToldBy, IsAlike, IsOf, LeadsBy, with_last, without_last};
+ghost use Rattle.store_machine.specs.State.{MachineState, programs};
+ghost use Rattle.shared_news.specs.Inside.{seen_entry, seen_span};
+ghost use Rattle.shared_news.specs.Sources.{max_entries, source_of, reached, trimmed, with_one, next_of, IsToldBy, IsAlike, IsOf, TellsBy, with_last, without_last, HasAll};
+ghost use Rattle.shared_news.specs.Telling.{IsSpan};
 ghost use Rattle.shared_news.specs.Spans.{IsAsked};
 
+use crate::entry::Told;
 use crate::joining::joined;
 use crate::observing::observed;
+use crate::origins::teach;
 use crate::params::same_params;
 use ejson_value::{Items, Mem, Publishes, Text};
 use known_texts::KnownTexts;
@@ -37,6 +39,8 @@ pub struct Span {
     pub told: Arc<Publishes>,
     /// The texts that are known, each by the place of its publish.
     pub texts: KnownTexts,
+    // The places of those that were not known when the span was put together.
+    open: Vec<usize>,
 }
 
 /// What a publication, called with its parameters, tells of entries of a history, one after another, and
@@ -47,7 +51,7 @@ pub(crate) struct Source {
     name: Text,
     params: Items,
     first: u64,
-    ones: Vec<Arc<Publishes>>,
+    ones: Vec<Told>,
     last: Option<Span>,
 }
 
@@ -80,15 +84,26 @@ fn at_once(
     observer: &Observer,
     from: u64,
     until: u64,
-) -> Result<Arc<Publishes>, Mem>
+) -> Result<Told, Mem>
     requires order { from ≤ until }
     requires within { until ≤ length machine.now.history }
-    ensures { HaveNoLimit (cursors_of observer.now) → IfOk result (λ told. LeadsBy (cursors_of observer.now) machine.now from until (arc_value told)) }
+    ensures { HaveNoLimit (cursors_of observer.now) → IfOk result (λ told. TellsBy (cursors_of observer.now) machine.now from until (seen_entry told)) }
 {
     let batch = machine.batch(from, until - from)?;
     let told = observed(observer, batch.changes.as_slice())?;
     let told = Arc::new(alloc, told)?;
-    Ok(told)
+    Told::new(alloc, told)
+}
+
+// The places of publishes of which no text is known.
+fn open_places(alloc: Global, told: &Told) -> Result<Vec<usize>, Mem> {
+    let mut open = Vec::with_capacity(alloc, told.news.len())?;
+    for place in 0..told.news.len() {
+        if told.texts.is_open(place) {
+            open.push(place)?;
+        }
+    }
+    Ok(open)
 }
 
 impl Source {
@@ -146,9 +161,9 @@ impl Source {
     }
 
     // What is told of the next entry is kept.
-    fn keep(&mut self, told: Arc<Publishes>) -> Result<(), Mem>
+    fn keep(&mut self, told: Told) -> Result<(), Mem>
         requires { next_of self.old < 18446744073709551615 }
-        ensures ok { OnOk result (self.new ≡ with_one (trimmed self.old) (arc_value told)) }
+        ensures ok { OnOk result (self.new ≡ with_one (trimmed self.old) (seen_entry told)) }
         ensures err { OnErr result (self.new ≡ trimmed self.old) }
     {
         self.trim();
@@ -166,6 +181,7 @@ impl Source {
     {
         let told = observed(observer, machine.changes_of(self.next()))?;
         let told = Arc::new(self.allocator(), told)?;
+        let told = Told::new(self.allocator(), told)?;
         self.keep(told)
     }
 
@@ -183,9 +199,9 @@ impl Source {
     }
 
     // What is told of a span, where all its entries are kept.
-    fn told(&self, from: u64, count: u64) -> Result<Option<Arc<Publishes>>, Mem>
+    fn told(&self, from: u64, count: u64) -> Result<Option<Told>, Mem>
         requires { from + count ≤ next_of self.now }
-        ensures { (cursors : ACursors) (m : MachineState) → IsToldBy cursors m self.now → IfOk result (λ answer. IfSome answer (λ told. LeadsBy cursors m from (from + count) (arc_value told))) }
+        ensures { (cursors : ACursors) (m : MachineState) → IsToldBy cursors m self.now → IfOk result (λ answer. IfSome answer (λ told. TellsBy cursors m from (from + count) (seen_entry told))) }
     {
         if from < self.first {
             return Ok(None);
@@ -203,12 +219,12 @@ impl Source {
         observer: &Observer,
         from: u64,
         until: u64,
-    ) -> Result<Option<Arc<Publishes>>, Mem>
+    ) -> Result<Option<Told>, Mem>
         requires order { from ≤ until }
         requires within { until ≤ length machine.now.history }
         ensures same { IsAlike self.old self.new }
         ensures keeps { HaveNoLimit (cursors_of observer.now) → IsToldBy (cursors_of observer.now) machine.now self.old → IsToldBy (cursors_of observer.now) machine.now self.new }
-        ensures told { HaveNoLimit (cursors_of observer.now) → IsToldBy (cursors_of observer.now) machine.now self.old → IfOk result (λ answer. IfSome answer (λ told. LeadsBy (cursors_of observer.now) machine.now from until (arc_value told))) }
+        ensures told { HaveNoLimit (cursors_of observer.now) → IsToldBy (cursors_of observer.now) machine.now self.old → IfOk result (λ answer. IfSome answer (λ told. TellsBy (cursors_of observer.now) machine.now from until (seen_entry told))) }
     {
         self.reach(from);
         self.fill(machine, observer, until)?;
@@ -222,12 +238,12 @@ impl Source {
         observer: &Observer,
         from: u64,
         until: u64,
-    ) -> Result<Arc<Publishes>, Mem>
+    ) -> Result<Told, Mem>
         requires order { from ≤ until }
         requires within { until ≤ length machine.now.history }
         ensures same { IsAlike self.old self.new }
         ensures keeps { HaveNoLimit (cursors_of observer.now) → IsToldBy (cursors_of observer.now) machine.now self.old → IsToldBy (cursors_of observer.now) machine.now self.new }
-        ensures told { HaveNoLimit (cursors_of observer.now) → IsToldBy (cursors_of observer.now) machine.now self.old → IfOk result (λ told. LeadsBy (cursors_of observer.now) machine.now from until (arc_value told)) }
+        ensures told { HaveNoLimit (cursors_of observer.now) → IsToldBy (cursors_of observer.now) machine.now self.old → IfOk result (λ told. TellsBy (cursors_of observer.now) machine.now from until (seen_entry told)) }
     {
         if until - from > MAX_SPAN {
             return at_once(self.allocator(), machine, observer, from, until);
@@ -251,7 +267,14 @@ impl Source {
         }
     }
 
-    // What is told of a span that is not kept: no text of it is known.
+    // Whether all entries of a short span are kept.
+    fn has(&self, from: u64, until: u64) -> bool
+        ensures { IsTrue result → HasAll self.now from until }
+    {
+        self.first <= from && from <= until && until <= self.next() && until - from <= MAX_SPAN
+    }
+
+    // What is told of a span that is not kept, with the texts that its entries know.
     fn fresh(
         &mut self,
         machine: &Machine,
@@ -266,12 +289,13 @@ impl Source {
         ensures told { HaveNoLimit (cursors_of observer.now) → IsToldBy (cursors_of observer.now) machine.now self.old → IfOk result (IsAsked (cursors_of observer.now) machine.now from until) }
     {
         let told = self.made(machine, observer, from, until)?;
-        let texts = KnownTexts::places(self.allocator(), told.len())?;
+        let open = open_places(self.allocator(), &told)?;
         Ok(Span {
             from,
             until,
-            told,
-            texts,
+            told: told.news,
+            texts: told.texts,
+            open,
         })
     }
 
@@ -296,10 +320,40 @@ impl Source {
         }
     }
 
-    /// The span, with the texts that are known now, is kept.
-    pub(crate) fn learn(&mut self, span: Span)
+    // The texts that are known of the span are known of its entries too, where they are kept.
+    fn teach(&mut self, span: &Span)
+        ensures same { IsAlike self.old self.new }
+        ensures told { (cursors : ACursors) (m : MachineState) → IsToldBy cursors m self.old → IsSpan cursors (programs m.app) m.history (seen_span span.now) → IsToldBy cursors m self.new }
+    {
+        if self.has(span.from, span.until) {
+            let start = (span.from - self.first) as usize;
+            let end = (span.until - self.first) as usize;
+            teach(
+                &mut self.ones,
+                start,
+                end,
+                &span.told,
+                &span.texts,
+                span.open.as_slice(),
+            );
+        }
+    }
+
+    // The span is kept.
+    fn keep_span(&mut self, span: Span)
         ensures { self.new ≡ with_last self.old (seen_span span) }
     {
         self.last = Some(span);
+    }
+
+    /// The span, with the texts that are known now, is kept, and its entries learn them.
+    pub(crate) fn learn(&mut self, span: Span)
+        ensures same { IsAlike self.old self.new }
+        ensures told { (cursors : ACursors) (m : MachineState) → IsToldBy cursors m self.old → IsSpan cursors (programs m.app) m.history (seen_span span) → IsToldBy cursors m self.new }
+    {
+        let mut span = span;
+        self.teach(&span);
+        span.open.clear();
+        self.keep_span(span);
     }
 }

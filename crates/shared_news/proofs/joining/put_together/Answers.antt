@@ -1,24 +1,34 @@
-use Rattle.std.proofs.Common.{◌≡◌, ℕ, ◌+◌, List, [], map, length, Result, Ok, Err, IfOk, ap, sym, subst, ◌∙◌}
+use Rattle.std.proofs.Common.{◌≡◌, ◌+◌, List, [], map, length, refl, ap, sym, subst, ◌∙◌}
 use Rattle.std.specs.Arc.{arc_value}
 use Rattle.std.proofs.lemmas.List.{length-map}
-use Rattle.ejson_value.specs.declared.change.Publish.{Publish}
-use Rattle.ejson_value.specs.Rows.{Rows}
 use Rattle.ejson_value.specs.Changes.{news_of}
-use Rattle.publication.specs.Cursors.{ACursors}
 use Rattle.publication.specs.Published.{published}
-use Rattle.shared_news.specs.Leading.{News, IsLead, AreDifferences}
+use Rattle.shared_news.specs.declared.joining.Part.{Part}
+use Rattle.shared_news.specs.Inside.{seen_entry}
+use Rattle.shared_news.specs.Known.{AreKnown}
+use Rattle.shared_news.specs.Leading.{News, IsLead}
 use Rattle.shared_news.specs.Joining.{put_all}
+use Rattle.shared_news.specs.Telling.{news_in}
+use Rattle.shared_news.specs.Parts.{news_of_parts, AreKnownParts, AreNewKnown}
 use Rattle.shared_news.proofs.Joins.{put_leads}
+use Rattle.shared_news.proofs.Putting.{all_new}
 use Rattle.shared_news.proofs.joining.put_together.Goals as goal
 
-leads : {E : Type 0} (cursors : ACursors) (C : ℕ → Rows) (from count : ℕ) (all : List News) (named : News) → count ≡ length all → named ≡ put_all [] all → AreDifferences cursors C from all → (result : Result (List Publish) E) → IfOk result (λ list. news_of list ≡ named) →
-    IfOk result (λ told. IsLead (published cursors (C from)) (published cursors (C (from + count))) (news_of told))
-leads cursors C from count all named many is differ (Ok list) listed =
-    subst (λ n. IsLead (published cursors (C from)) (published cursors (C (from + n))) (news_of list)) (sym many) (put_leads cursors C from all (news_of list) (listed ∙ is) differ)
-leads cursors C from count all named many is differ (Err e) listed = tt
+pub returns-clause-leads : goal.returns-clause-leads
+returns-clause-leads c = λ cursors C from differ.
+    let ones = map seen_entry c.args.all.now in
+    let all = map news_in ones in
+    let news = news_of (arc_value c.in_ok-news-2.news) in
+    let is : news ≡ put_all [] all =
+    ap news_of c.in_ok-news-2.ensures.ok ∙ (c.in_ok-news.ensures ∙ (c.in_ok-put_all.ensures.news ∙ ap (λ (ps : List Part). put_all (news_of_parts ps) all) c.new-parts.ensures)) in
+    let many : length all ≡ length c.args.all.now = length-map ones news_in ∙ length-map c.args.all.now seen_entry in
+    subst (λ n. IsLead (published cursors (C from)) (published cursors (C (from + n))) news) many (put_leads cursors C from all news is differ)
 
-pub returns : goal.returns
-returns c = λ cursors C from differ.
-    let all = map (λ one. news_of (arc_value one)) c.args.all.now in
-    leads cursors C from (length c.args.all.now) all c.put_all.new.self (sym (length-map c.args.all.now (λ one. news_of (arc_value one))))
-    (c.in_ok-put_all.ensures ∙ ap (λ (news : News). put_all news all) c.new-parts.ensures) differ c.listed.result c.listed.ensures.list
+pub returns-clause-known : goal.returns-clause-known
+returns-clause-known c = λ cursors C from differ known.
+    let ones = map seen_entry c.args.all.now in
+    let before = published cursors (C from) in
+    let none = sym c.new-parts.ensures in
+    let new = subst (λ (ps : List Part). AreNewKnown before (news_of_parts ps) ones) none (all_new cursors C before from [] ones (λ key unnamed. refl) differ known) in
+    let parts = c.in_ok-put_all.ensures.known before (subst (AreKnownParts before) none tt) new in
+    subst (λ (news : News). AreKnown before news c.in_ok-texts.texts) (sym (ap news_of c.in_ok-news-2.ensures.ok ∙ c.in_ok-news.ensures)) (c.in_ok-texts.ensures before parts)

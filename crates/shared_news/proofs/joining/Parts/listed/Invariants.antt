@@ -1,8 +1,10 @@
 use Rattle.std.proofs.Common.{◌≡◌, ◌++◌}
 use Rattle.std.specs.Vec.Iter.{into_iter_items}
+use Rattle.ejson_value.specs.Changes.{news_of}
+use Rattle.shared_news.specs.Parts.{news_of_parts}
 use Rattle.shared_news.proofs.joining.Parts.listed.Given as goal
 
-abbrev pub invariant-loop-one : goal.invariant-loop-one
-invariant-loop-one l =
-    (goal.iterator-loop-one).can_next l.one-iterator × (goal.iterator-loop-one).is_finite l.one-iterator
-    × (l.list ++ into_iter_items l.one-iterator ≡ into_iter_items l.initial.one-iterator)
+abbrev pub invariant-loop-part : goal.invariant-loop-part
+invariant-loop-part l =
+    (goal.iterator-loop-part).can_next l.part-iterator × (goal.iterator-loop-part).is_finite l.part-iterator
+    × (news_of l.list ++ news_of_parts (into_iter_items l.part-iterator) ≡ news_of_parts (into_iter_items l.initial.part-iterator))

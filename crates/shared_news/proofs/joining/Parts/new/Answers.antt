@@ -1,9 +1,10 @@
-use Rattle.std.proofs.Common.{sym, subst}
+use Rattle.std.proofs.Common.{List, sym, subst}
 use Rattle.map_model.specs.Maps.{IsSorted}
 use Rattle.map_model.specs.MapLaws.{sorted-nil}
 use Rattle.ejson_value.specs.Key.{key_cmp}
-use Rattle.ejson_value.specs.Changes.{news_of}
+use Rattle.shared_news.specs.declared.joining.Part.{Part}
+use Rattle.shared_news.specs.Parts.{news_of_parts}
 use Rattle.shared_news.proofs.joining.Parts.new.Goals as goal
 
 pub invariant_of-result : goal.invariant_of-result
-invariant_of-result c = subst (λ ps. IsSorted key_cmp (news_of ps)) (sym c.new.ensures.items) (sorted-nil key_cmp)
+invariant_of-result c = subst (λ (ps : List Part). IsSorted key_cmp (news_of_parts ps)) (sym c.new.ensures.items) (sorted-nil key_cmp)

@@ -1,8 +1,14 @@
-use Rattle.std.proofs.Common.{◌≡◌, drop, map}
-use Rattle.std.specs.Arc.{arc_value}
-use Rattle.ejson_value.specs.Changes.{news_of}
+use Rattle.std.proofs.Common.{◌≡◌, drop, map, Option}
+use Rattle.value_model.specs.Val.{Entries}
+use Rattle.ejson_value.specs.declared.key.Key.{Key}
+use Rattle.shared_news.specs.Inside.{seen_entry}
 use Rattle.shared_news.specs.Joining.{put_all}
+use Rattle.shared_news.specs.Telling.{news_in}
+use Rattle.shared_news.specs.Parts.{news_of_parts, AreKnownParts, AreNewKnown}
 use Rattle.shared_news.proofs.joining.Parts.put_all.Given as goal
 
-abbrev pub invariant-loop-one : goal.invariant-loop-one
-invariant-loop-one l = put_all l.self (map (λ one. news_of (arc_value one)) (drop l.one-index l.all)) ≡ put_all l.initial.self (map (λ one. news_of (arc_value one)) l.all)
+abbrev pub invariant-loop-entry : goal.invariant-loop-entry
+invariant-loop-entry l = record {
+  news : put_all (news_of_parts l.self) (map news_in (drop l.entry (map seen_entry l.all))) ≡ put_all (news_of_parts l.initial.self) (map news_in (map seen_entry l.all));
+  known : (before : Key → Option Entries) → AreKnownParts before l.initial.self → AreNewKnown before (news_of_parts l.initial.self) (map seen_entry l.all) → AreKnownParts before l.self × AreNewKnown before (news_of_parts l.self) (drop l.entry (map seen_entry l.all));
+}

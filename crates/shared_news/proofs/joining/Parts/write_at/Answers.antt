@@ -1,23 +1,32 @@
-use Rattle.std.proofs.Common.{ap, sym, subst, ◌∙◌, slice_set}
+use Rattle.std.proofs.Common.{None, ap, sym, subst, ◌∙◌, slice_set}
 use Rattle.map_model.specs.Maps.{IsSorted}
 use Rattle.map_model.specs.MapLaws.{sorted-put}
-use Rattle.ejson_value.specs.declared.change.Publish.{Publish}
 use Rattle.ejson_value.specs.Key.{key_cmp, key_order}
-use Rattle.ejson_value.specs.Changes.{news_of}
+use Rattle.shared_news.specs.declared.joining.Part.{Part}
+use Rattle.shared_news.specs.Parts.{news_of_part, news_of_parts, IsKnownPart, AreKnownParts}
 use Rattle.shared_news.proofs.Places.{set_written}
+use Rattle.shared_news.proofs.Sources.{all_with}
 use Rattle.shared_news.proofs.joining.Parts.write_at.Goals as goal
 
 pub invariant_of-self : goal.invariant_of-self
 invariant_of-self c =
-    let ps = c.self.inside.publishes.items in
+    let ps = c.self.inside.parts.items in
     let one = c.args.one in
+    let part : Part = record { one = one; text = None } in
     let is = rw (← c.self.view_is) at c.requires in
-    let same = ap (λ (p : Publish). news_of (slice_set ps c.args.place p)) c.replace.ensures.after ∙ set_written one.key ps c.args.place one.new c.self.invariant is in
-    subst (IsSorted key_cmp) (sym same) (sorted-put key_order (news_of ps) one.key one.new c.self.invariant)
+    let same = ap (λ (p : Part). news_of_parts (slice_set ps c.args.place p)) c.replace.ensures.after ∙ set_written news_of_part ps c.args.place part c.self.invariant is in
+    subst (IsSorted key_cmp) (sym same) (sorted-put key_order (news_of_parts ps) one.key one.new c.self.invariant)
 
-pub returns : goal.returns
-returns c =
-    let ps = c.self.inside.publishes.items in
-    let one = c.args.one in
+pub returns-clause-news : goal.returns-clause-news
+returns-clause-news c =
+    let ps = c.self.inside.parts.items in
+    let part : Part = record { one = c.args.one; text = None } in
     let is = rw (← c.self.view_is) at c.requires in
-    rw (← c.self.view_is) (ap (λ (p : Publish). news_of (slice_set ps c.args.place p)) c.replace.ensures.after ∙ set_written one.key ps c.args.place one.new c.self.invariant is)
+    rw (← c.self.view_is) (ap (λ (p : Part). news_of_parts (slice_set ps c.args.place p)) c.replace.ensures.after ∙ set_written news_of_part ps c.args.place part c.self.invariant is)
+
+pub returns-clause-known : goal.returns-clause-known
+returns-clause-known c = λ before known.
+    let ps = c.self.inside.parts.items in
+    let part : Part = record { one = c.args.one; text = None } in
+    subst (λ (p : Part). AreKnownParts before (slice_set ps c.args.place p)) (sym c.replace.ensures.after)
+    (all_with (IsKnownPart before) ps c.args.place part (subst (AreKnownParts before) (sym c.self.view_is) known) tt)
