@@ -2,12 +2,13 @@
 #![tactic(auto)]
 
 use ejson_value::{Mem, Text};
-use io_edge::{StdSink, StdSource};
+use io_edge::{Sink, Source, StdSink, StdSource};
 use std::process::ExitCode;
 use std::rt::Env;
+use std::thread::Threads;
 use std::{env, io, mem};
 use usage::usage_text;
-use world_commands::{Status, World, run_plain};
+use world_commands::{Status, World, run_on};
 
 // The word, if there is memory for it.
 fn text_of(word: String) -> io::Result<Text> {
@@ -26,17 +27,6 @@ fn words(rt: &(impl Env + AllocGlobal)) -> io::Result<Vec<Text>> {
     Ok(words)
 }
 
-fn run_words(
-    rt: &HostRuntime,
-    words: &[Text],
-    reason: &mut Text,
-    left: &mut Option<World>,
-) -> Status {
-    let mut source = StdSource::new(rt.stdin());
-    let mut sink = StdSink::new(rt.stdout());
-    run_plain(rt.alloc(), words, &mut source, &mut sink, reason, left)
-}
-
 // What it comes to where the words can't be had.
 fn status_of(fault: io::Error) -> Status {
     if fault.kind() == io::ErrorKind::OutOfMemory {
@@ -46,9 +36,15 @@ fn status_of(fault: io::Error) -> Status {
     }
 }
 
-fn run(rt: &HostRuntime, reason: &mut Text, left: &mut Option<World>) -> Status {
+fn run<R: Env + AllocGlobal + Threads, I: Source, O: Sink>(
+    rt: &R,
+    source: &mut I,
+    sink: &mut O,
+    reason: &mut Text,
+    left: &mut Option<World>,
+) -> Status {
     match words(rt) {
-        Ok(words) => run_words(rt, words.as_slice(), reason, left),
+        Ok(words) => run_on(rt, rt.alloc(), words.as_slice(), source, sink, reason, left),
         Err(fault) => status_of(fault),
     }
 }
@@ -76,9 +72,11 @@ fn tell(rt: &(impl Eprint + AllocGlobal), status: Status, reason: &Text) -> io::
 }
 
 fn main(rt: HostRuntime) -> ExitCode {
+    let mut source = StdSource::new(rt.stdin());
+    let mut sink = StdSink::new(rt.stdout());
     let mut reason = Text::new(rt.alloc());
     let mut left = None;
-    let status = run(&rt, &mut reason, &mut left);
+    let status = run(&rt, &mut source, &mut sink, &mut reason, &mut left);
     let _ = tell(&rt, status, &reason);
     // The process ends here, and its memory with it.
     mem::forget(left);

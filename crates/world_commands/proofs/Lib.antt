@@ -1,3 +1,5 @@
-pub mod Turns
+pub mod Batches
+pub mod Sends
 mod Told
 pub mod Causes
+pub mod Turns

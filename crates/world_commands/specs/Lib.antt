@@ -1,5 +1,6 @@
 pub mod Replay
 pub mod Stepping
+pub mod Tasks
 pub mod Truth
 pub mod TruthLaws
 pub mod Status

@@ -22,7 +22,7 @@ pub record IsOperation (l : List ℕ) (op : Op) : Type 0 where
   pub fits : IsEvent (event.Admin (told_operation l))
   pub operation : operation_in (told_operation l) ≡ Some op
 
--- a line that is an event ran as that event and gave its lines; nothing is given for another
+-- the line is an event, which ran and gave these lines
 pub record StepsEvent (l : List ℕ) (old new : World) (lines : List (List ℕ)) : Type 0 where
   pub event : Event
   pub is_event : event_of l ≡ Some event
@@ -30,11 +30,7 @@ pub record StepsEvent (l : List ℕ) (old new : World) (lines : List (List ℕ))
   pub world : new ≡ step old event
   pub printed : lines ≡ lines_of old event
 
-abbrev pub StepsLine : List ℕ → World → World → Option (List (List ℕ)) → Type 0
-StepsLine l old new None = event_of l ≡ None
-StepsLine l old new (Some lines) = StepsEvent l old new lines
-
--- a line that is an event ran as that event, and its lines were added to the output
+-- the line is an event, which ran, and its lines were added to the output
 pub record RunsEvent (l : List ℕ) (old new : World) (before now : List ℕ) : Type 0 where
   pub is_line : is_blank l ≡ false
   pub event : Event

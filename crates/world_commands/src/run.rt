@@ -6,6 +6,7 @@ ghost use Rattle.world_commands.specs.Cause.{Cause, CauseOf, command_in, output_
 ghost use Rattle.world_commands.specs.declared.status.Status.TheVariants as status;
 
 use crate::command::{Command, command_in};
+use crate::readers::{Alone, Beside, Readers};
 use crate::reason::reason_for;
 use crate::replay::replay;
 use crate::status::Status;
@@ -13,6 +14,7 @@ use checking::{INPUT_LIMIT, LINE_LIMIT, Outcome, check, count_lines};
 use ejson_value::{Bytes, Mem, Text};
 use io_edge::{ReadAll, Sink, Source, read_all, write_all};
 use std::alloc::Global;
+use std::thread::Threads;
 use world_core::World;
 
 // Tells why a line isn't of the grammar, if there is memory for it.
@@ -42,7 +44,8 @@ fn read_input<I: Source>(alloc: Global, input: &mut I) -> Result<Bytes, ReadAll>
 }
 
 // What a command writes for an input.
-fn outcome_of(
+fn outcome_of<R: Readers>(
+    readers: &R,
     alloc: Global,
     command: Command,
     input: &[u8],
@@ -55,12 +58,13 @@ fn outcome_of(
 {
     match command {
         Command::Check => check(alloc, input),
-        Command::Replay => replay(alloc, input, left),
+        Command::Replay => replay(readers, alloc, input, left),
     }
 }
 
 // Reads the input of a command, runs it and writes its output.
-fn run_command<I: Source, O: Sink>(
+fn run_command<R: Readers, I: Source, O: Sink>(
+    readers: &R,
     alloc: Global,
     command: Command,
     input: &mut I,
@@ -80,7 +84,7 @@ fn run_command<I: Source, O: Sink>(
         Err(ReadAll::TooLong) => return Status::TooLong,
         Err(ReadAll::Memory) => return Status::Memory,
     };
-    let Ok(outcome) = outcome_of(alloc, command, bytes.as_slice(), left) else {
+    let Ok(outcome) = outcome_of(readers, alloc, command, bytes.as_slice(), left) else {
         return Status::Memory;
     };
     if let Err(_fault) = write_all(output, outcome.text.as_slice()) {
@@ -92,6 +96,29 @@ fn run_command<I: Source, O: Sink>(
             tell(alloc, command, bytes.as_slice(), number, reason);
             Status::BadInput
         }
+    }
+}
+
+// Runs the command that the words name, lines of a replay read by these.
+fn run_by<R: Readers, I: Source, O: Sink>(
+    readers: &R,
+    alloc: Global,
+    words: &[Text],
+    input: &mut I,
+    output: &mut O,
+    reason: &mut Text,
+    left: &mut Option<World>,
+) -> Status
+    ensures cause { Cause (command_in words.now) (I.left input.old) (I.left input.new)
+        (O.written output.old) (O.written output.new) result }
+    ensures untouched { result ≡ Status.Usage → (input.new ≡ input.old) × (output.new ≡ output.old) × (left.new ≡ left.old) }
+    ensures read_fault { (result ≡ Status.ReadFault) ↔ (I.faults input.old < I.faults input.new) }
+    ensures write_fault { (result ≡ Status.WriteFault) ↔ (O.faults output.old < O.faults output.new) }
+    ensures told { result ≢ Status.BadInput → reason.new ≡ reason.old }
+{
+    match command_in(words) {
+        None => Status::Usage,
+        Some(command) => run_command(readers, alloc, command, input, output, reason, left),
     }
 }
 
@@ -126,8 +153,26 @@ pub fn run_plain<I: Source, O: Sink>(
     ensures write_fault { (result ≡ Status.WriteFault) ↔ (O.faults output.old < O.faults output.new) }
     ensures told { result ≢ Status.BadInput → reason.new ≡ reason.old }
 {
-    match command_in(words) {
-        None => Status::Usage,
-        Some(command) => run_command(alloc, command, input, output, reason, left),
-    }
+    run_by(&Alone, alloc, words, input, output, reason, left)
+}
+
+/// The same, with threads of this runtime: lines of a replay are read by one of them while those before
+/// them run.
+pub fn run_on<R: Threads, I: Source, O: Sink>(
+    rt: &R,
+    alloc: Global,
+    words: &[Text],
+    input: &mut I,
+    output: &mut O,
+    reason: &mut Text,
+    left: &mut Option<World>,
+) -> Status
+    ensures cause { Cause (command_in words.now) (I.left input.old) (I.left input.new)
+        (O.written output.old) (O.written output.new) result }
+    ensures untouched { result ≡ Status.Usage → (input.new ≡ input.old) × (output.new ≡ output.old) × (left.new ≡ left.old) }
+    ensures read_fault { (result ≡ Status.ReadFault) ↔ (I.faults input.old < I.faults input.new) }
+    ensures write_fault { (result ≡ Status.WriteFault) ↔ (O.faults output.old < O.faults output.new) }
+    ensures told { result ≢ Status.BadInput → reason.new ≡ reason.old }
+{
+    run_by(&Beside::new(rt), alloc, words, input, output, reason, left)
 }

@@ -3,7 +3,7 @@ use Rattle.std.proofs.Common.{sym, subst}
 use Rattle.collection_store.specs.declared.operation.Op.{Op}
 use Rattle.operation_reading.specs.Tells.{Tells}
 use Rattle.world_commands.proofs.Told.{is_operation}
-use Rattle.world_commands.proofs.replay.operation_in.Goals as goal
+use Rattle.world_commands.proofs.tasks.operation_in.Goals as goal
 
 pub returns-in-Some-clause-operation : goal.returns-in-Some-clause-operation
 returns-in-Some-clause-operation c =

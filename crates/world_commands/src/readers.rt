@@ -1,0 +1,89 @@
+//! How lines are read while those before them run.
+ghost use Rattle.std.specs.Prelude.{◌<◌, ◌+◌, ◌^◌, length, IfOk};
+ghost use Rattle.world_commands.specs.Tasks.{AreRead, Reads, RunsLines, texts_of};
+
+use crate::running::run_lines;
+use crate::tasks::{Batch, ReadLine, read_lines};
+use ejson_value::Mem;
+use std::alloc::Global;
+use std::thread::{Threads, join_mut};
+use world_core::World;
+
+/// Who reads lines.
+pub trait Readers {
+    /// Runs lines that are read, of which the first has this number, and reads the first of those that
+    /// follow. Lines that are done are dropped.
+    fn run_and_read<'a>(
+        &self,
+        alloc: Global,
+        world: &mut World,
+        lines: &[ReadLine<'_>],
+        first: u32,
+        output: &mut Vec<u8>,
+        done: Vec<ReadLine<'a>>,
+        rest: &'a [u8],
+    ) -> (Result<Option<u32>, Mem>, Result<Batch<'a>, Mem>)
+        requires read { AreRead lines.now }
+        requires numbers { first + length lines.now < 2 ^ 32 }
+        ensures ran { IfOk result.0 (RunsLines (texts_of lines.now) first world.old world.new output.old.items output.new.items) }
+        ensures next { IfOk result.1 (Reads rest.now) };
+}
+
+/// Who runs the lines, once they have run.
+#[derive(Drop)]
+pub struct Alone;
+
+impl Readers for Alone {
+    fn run_and_read<'a>(
+        &self,
+        alloc: Global,
+        world: &mut World,
+        lines: &[ReadLine<'_>],
+        first: u32,
+        output: &mut Vec<u8>,
+        done: Vec<ReadLine<'a>>,
+        rest: &'a [u8],
+    ) -> (Result<Option<u32>, Mem>, Result<Batch<'a>, Mem>) {
+        let ran = run_lines(alloc, world, lines, first, output);
+        drop(done);
+        (ran, read_lines(alloc, rest))
+    }
+}
+
+/// A thread beside the one that runs the lines.
+#[derive(Drop)]
+pub struct Beside<'a, R> {
+    rt: &'a R,
+}
+
+impl<'a, R: Threads> Beside<'a, R> {
+    /// A thread of this runtime.
+    pub fn new(rt: &'a R) -> Beside<'a, R> {
+        Beside { rt }
+    }
+}
+
+impl<'b, R: Threads> Readers for Beside<'b, R> {
+    fn run_and_read<'a>(
+        &self,
+        alloc: Global,
+        world: &mut World,
+        lines: &[ReadLine<'_>],
+        first: u32,
+        output: &mut Vec<u8>,
+        done: Vec<ReadLine<'a>>,
+        rest: &'a [u8],
+    ) -> (Result<Option<u32>, Mem>, Result<Batch<'a>, Mem>) {
+        if rest.is_empty() {
+            return Alone.run_and_read(alloc, world, lines, first, output, done, rest);
+        }
+        let mut done = done;
+        let mut read = || {
+            done.clear();
+            read_lines(alloc, rest)
+        };
+        let mut run = || run_lines(alloc, world, lines, first, output);
+        let (next, ran) = join_mut(self.rt, &mut read, &mut run);
+        (ran, next)
+    }
+}

@@ -1,0 +1,130 @@
+//! Lines of a replay, as they are read.
+ghost use Rattle.std.specs.Prelude.{◌≡◌, false, IfOk, IfSome};
+ghost use Rattle.checking.specs.Input.{lines_in, is_blank};
+ghost use Rattle.world_commands.specs.Stepping.{GivesEventOf, IsOperation};
+ghost use Rattle.world_commands.specs.Tasks.{IsTask, Reads};
+
+use checking::{first_line, is_blank, read_value};
+use collection_store::Op;
+use ejson_value::{Mem, Text};
+use json::Scratch;
+use operation_reading::operation_told;
+use std::alloc::Global;
+use std::str;
+use world_events::{Event, LineFault};
+
+// A batch has the lines that begin in so many bytes.
+const BATCH_BYTES: usize = 65_536;
+
+/// What a line asks for.
+#[derive(Drop)]
+pub enum Task {
+    /// Nothing, since it is blank.
+    Nothing,
+    /// An administrator's operation. The line tells of it, as a text.
+    Operation(Text, Op),
+    /// An event.
+    Event(Event),
+    /// It is no event.
+    Bad,
+}
+
+/// A line, and what it asks for.
+#[derive(Drop)]
+pub struct ReadLine<'a> {
+    pub line: &'a [u8],
+    pub task: Task,
+}
+
+/// The first lines of some as they are read, and the lines that follow.
+#[derive(Drop)]
+pub struct Batch<'a> {
+    pub read: Vec<ReadLine<'a>>,
+    pub rest: &'a [u8],
+}
+
+// The event that the line is, if it is one.
+fn event_in(alloc: Global, line: &[u8], scratch: &mut Scratch) -> Result<Option<Event>, Mem>
+    ensures { IfOk result (GivesEventOf line.now) }
+{
+    let Some(value) = read_value(alloc, line, scratch)? else {
+        return Ok(None);
+    };
+    let read = Event::read(alloc, &value);
+    drop(value);
+    match read {
+        Ok(event) => {
+            event.known();
+            Ok(Some(event))
+        }
+        Err(LineFault::NotAnEvent) => Ok(None),
+        Err(LineFault::Memory) => Err(Mem),
+    }
+}
+
+// The line as a text and the administrator's operation that it tells of, where it is read from its tokens.
+fn operation_in<'a>(
+    alloc: Global,
+    line: &'a [u8],
+    scratch: &mut Scratch,
+) -> Result<Option<(&'a str, Op)>, Mem>
+    ensures line { IfOk result (λ told. IfSome told (λ t. t.0.now ≡ line.now)) }
+    ensures operation { IfOk result (λ told. IfSome told (λ t. IsOperation t.0.now t.1)) }
+{
+    let Ok(text) = str::from_utf8(line) else {
+        return Ok(None);
+    };
+    match operation_told(alloc, text, scratch)? {
+        Some(operation) => Ok(Some((text, operation))),
+        None => Ok(None),
+    }
+}
+
+// What the text asks for that tells of this operation.
+fn told_task(alloc: Global, text: &str, operation: Op) -> Result<Task, Mem>
+    requires line { is_blank text.now ≡ false }
+    requires operation { IsOperation text.now operation }
+    ensures { IfOk result (IsTask text.now) }
+{
+    let text = Text::from_str(alloc, text)?;
+    Ok(Task::Operation(text, operation))
+}
+
+// What a line asks for that tells of no operation.
+fn event_task(alloc: Global, line: &[u8], scratch: &mut Scratch) -> Result<Task, Mem>
+    requires { is_blank line.now ≡ false }
+    ensures { IfOk result (IsTask line.now) }
+{
+    match event_in(alloc, line, scratch)? {
+        Some(event) => Ok(Task::Event(event)),
+        None => Ok(Task::Bad),
+    }
+}
+
+fn task_of(alloc: Global, line: &[u8], scratch: &mut Scratch) -> Result<Task, Mem>
+    ensures { IfOk result (IsTask line.now) }
+{
+    if is_blank(line) {
+        return Ok(Task::Nothing);
+    }
+    match operation_in(alloc, line, scratch)? {
+        Some((text, operation)) => told_task(alloc, text, operation),
+        None => event_task(alloc, line, scratch),
+    }
+}
+
+/// Reads those of the lines that begin in the first 64 KiB.
+pub fn read_lines<'a>(alloc: Global, lines: &'a [u8]) -> Result<Batch<'a>, Mem>
+    ensures { IfOk result (Reads lines.now) }
+{
+    let mut scratch = Scratch::new(alloc);
+    let mut read = Vec::new(alloc);
+    let mut rest = lines;
+    while !rest.is_empty() && lines.len() - rest.len() < BATCH_BYTES {
+        let (line, more) = first_line(rest);
+        let task = task_of(alloc, line, &mut scratch)?;
+        read.push(ReadLine { line, task })?;
+        rest = more;
+    }
+    Ok(Batch { read, rest })
+}
