@@ -9,4 +9,5 @@ pub mod Moves
 pub mod Edits
 pub mod Puts
 pub mod Sizes
+pub mod Plain
 pub mod Built

@@ -23,6 +23,7 @@ use Rattle.value_model.specs.Valid.{IsValue, IsDocument}
 use Rattle.value_model.specs.ValidLaws.{HaveValues-put, HaveValues-remove}
 use Rattle.ejson_value.specs.Key.{name_order}
 use Rattle.ejson_value.specs.declared.row.Member.{Member}
+use Rattle.ejson_value.specs.declared.value.Value.{Value}
 use Rattle.ejson_value.specs.View.{view, pairs, entries}
 use Rattle.ejson_value.specs.Places.{name_at, IsBelow, IsGapFor}
 
@@ -214,6 +215,15 @@ IsDocument-remove es name d = record { names = sorted-remove name_order es name 
 pub set_is_put : (name : List ℕ) (ms : List Member) (i : ℕ) (m : Member) → IsStrictlySortedBy text_cmp (keys_of (entries (pairs ms))) → name_at (entries (pairs ms)) i ≡ Some name → m.name ≡ name → entries (pairs (slice_set ms i m)) ≡ put (entries (pairs ms)) name (view m.value)
 set_is_put name ms i m s is same =
     entries-set ms i m ∙ (ap (λ k. slice_set (entries (pairs ms)) i (k, view m.value)) same ∙ sym (at_put name (entries (pairs ms)) i (view m.value) s is))
+
+named : (name : List ℕ) (ms : List Member) (i : ℕ) (m : Member) → name_at (entries (pairs ms)) i ≡ Some name → m ≡ get_or ms i m → m.name ≡ name
+named name ms i m is read =
+    same_Some m.name name (sym (ap (option_map (λ (x : Member). x.name)) (slice_get_read ms (length ms) i m refl (within name ms i is) read)) ∙ (sym (name_of ms i) ∙ is))
+
+-- a value put in place of that of a member
+pub swap_is_put : (name : List ℕ) (ms : List Member) (i : ℕ) (m : Member) (v : Value) → IsStrictlySortedBy text_cmp (keys_of (entries (pairs ms))) → name_at (entries (pairs ms)) i ≡ Some name → m ≡ get_or ms i m →
+    entries (pairs (slice_set ms i (record { name = m.name; value = v }))) ≡ put (entries (pairs ms)) name (view v)
+swap_is_put name ms i m v s is read = set_is_put name ms i (record { name = m.name; value = v }) s is (named name ms i m is read)
 
 pub insert_is_put : (ms : List Member) (i : ℕ) (m : Member) → IsGapFor (entries (pairs ms)) m.name i → entries (pairs (insert ms i m)) ≡ put (entries (pairs ms)) m.name (view m.value)
 insert_is_put ms i m g = entries-insert ms i m ∙ sym (gap_put m.name (entries (pairs ms)) i (view m.value) g)

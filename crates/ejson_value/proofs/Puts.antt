@@ -8,7 +8,7 @@ use Rattle.std.specs.Ordering.{eq_by_cmp, is_eq}
 use Rattle.std.proofs.Math.Seq.{drop-cons}
 use Rattle.std.proofs.lemmas.Cmp.{nat_list_cmp_total}
 use Rattle.map_model.specs.Orders.{IsAbove}
-use Rattle.map_model.specs.OrderLaws.{IsAbove-from_sorted}
+use Rattle.map_model.specs.OrderLaws.{put_last, IsAbove-from_sorted}
 use Rattle.map_model.specs.Maps.{at, IsSorted}
 use Rattle.map_model.specs.MapLaws.{same_maps, key_is, at-put, sorted-put}
 use Rattle.map_model.specs.Differences.{with_fields, without}
@@ -101,6 +101,10 @@ with_last a (e ∷ fs) name v = ap (λ es. put es e.0 e.1) (with_last a fs name 
 members-append : (ms : List Member) (m : Member) → entries (pairs (ms ++ m ∷ [])) ≡ entries (pairs ms) ++ (m.name, view m.value) ∷ []
 members-append [] m = refl
 members-append (n ∷ ms) m = ap (λ es. (n.name, view n.value) ∷ es) (members-append ms m)
+
+-- a field put behind the others
+pub behind_is_put : (ms : List Member) (m : Member) → IsAbove text_cmp m.name (keys_of (entries (pairs ms))) → entries (pairs (ms ++ m ∷ [])) ≡ put (entries (pairs ms)) m.name (view m.value)
+behind_is_put ms m above = members-append ms m ∙ sym (put_last text_cmp (entries (pairs ms)) m.name (view m.value) above)
 
 -- the last field put first
 pub last_put : (a : Entries) (all ms : List Member) (m : Member) (a' : Entries) → all ≡ ms ++ m ∷ [] → a' ≡ put a m.name (view m.value)

@@ -11,6 +11,7 @@ use Rattle.std.specs.BTreeMap.{insert_entry}
 use Rattle.map_model.specs.Maps.{IsSorted}
 use Rattle.map_model.specs.Orders.{IsAbove}
 use Rattle.ejson_value.specs.declared.key.Key.{Key}
+use Rattle.ejson_value.specs.declared.row.Member.{Member}
 use Rattle.ejson_value.specs.Key.{key_cmp, key_total}
 use Rattle.ejson_value.specs.Rows.{Rows}
 use Rattle.map_model.specs.OrderLaws.{put_last, IsAbove-from_sorted}
@@ -20,7 +21,7 @@ use Rattle.ejson_value.specs.Entries.{keys_of-entries}
 use Rattle.value_model.specs.Val.{Val, Entries, vals_of, fields_of}
 use Rattle.value_model.specs.Depth.{depth, vals_depth, fields_depth}
 use Rattle.ejson_value.specs.declared.value.Value.{Value}
-use Rattle.ejson_value.specs.View.{view, views, entries}
+use Rattle.ejson_value.specs.View.{view, views, pairs, entries}
 
 pub item_depth_of : (vs : List Value) (i : ℕ) (d : Value) → i < length vs → depth (view (get_or vs i d)) ≤ vals_depth (vals_of (views vs))
 item_depth_of [] i d h = absurd (omega (arith, h))
@@ -32,6 +33,15 @@ pub item_depth : (vs : List Value) (i : ℕ) (v : Value) (ds : List Val) → v �
 item_depth vs i v ds e h same =
     subst (λ n. n ≤ vals_depth (vals_of ds)) (ap (λ w. depth (view w)) (sym e))
     (subst (λ ws. depth (view (get_or vs i v)) ≤ vals_depth (vals_of ws)) same (item_depth_of vs i v h))
+
+member_depth_of : (ms : List Member) (i : ℕ) (d : Member) → i < length ms → depth (view (get_or ms i d).value) ≤ fields_depth (fields_of (entries (pairs ms)))
+member_depth_of [] i d h = absurd (omega (arith, h))
+member_depth_of (m ∷ ms) zero d h = omega arith
+member_depth_of (m ∷ ms) (suc i) d h = let h' : i < length ms = omega (arith, h) in omega (arith, member_depth_of ms i d h')
+
+-- a field of a row lies at most as deep as the row's fields
+pub member_depth : (ms : List Member) (i : ℕ) (m : Member) → m ≡ get_or ms i m → i < length ms → depth (view m.value) ≤ fields_depth (fields_of (entries (pairs ms)))
+member_depth ms i m e h = subst (λ n. n ≤ fields_depth (fields_of (entries (pairs ms)))) (ap (λ (o : Member). depth (view o.value)) (sym e)) (member_depth_of ms i m h)
 
 pub field_depth_of : (done : List (List ℕ × Value)) (name : List ℕ) (v : Value) (more : List (List ℕ × Value)) → depth (view v) ≤ fields_depth (fields_of (entries (done ++ (name, v) ∷ more)))
 field_depth_of [] name v more = omega arith

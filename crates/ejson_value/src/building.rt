@@ -70,7 +70,7 @@ impl DocBuilder {
         ensures ok { OnOk result (self.new ≡ put self.old name (view value)) }
         ensures err { OnErr result (self.new ≡ self.old) }
     {
-        self.fields.put(name, value)
+        self.fields.add(name, value)
     }
 
     /// The document.

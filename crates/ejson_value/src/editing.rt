@@ -63,7 +63,9 @@ impl Doc {
     {
         match fields.only_field() {
             Some((name, value)) => {
-                put_copy(self, name, value)?;
+                if !self.set_copy(name, value)? {
+                    put_copy(self, name, value)?;
+                }
                 Ok(true)
             }
             None => Ok(self.replace_all(fields.members()?)),

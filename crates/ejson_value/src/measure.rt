@@ -1,12 +1,14 @@
 //! How large and how deep values are.
 ghost use Rattle.std.specs.Prelude.{◌≡◌, ◌∷◌, [], ◌+◌, ◌≤◌, ◌==◌, length, slice_index, decimal};
 ghost use Rattle.std.specs.Fmt.{signed_decimal};
+ghost use Rattle.std.specs.List.{list_all};
 ghost use Rattle.value_model.specs.Val.{object, vals_of, fields_of};
 ghost use Rattle.value_model.specs.Depth.{depth, vals_depth, fields_depth};
 ghost use Rattle.value_model.specs.Size.{has_short_escape, escape_size, text_size, binary_wrapper, user_wrapper, base64_size, is_special, names_of, size, vals_size, fields_size};
-ghost use Rattle.ejson_value.specs.View.{view};
+ghost use Rattle.ejson_value.specs.View.{view, pairs, entries};
 ghost use Rattle.ejson_value.specs.Measure.{capped};
 
+use crate::row::Member;
 use crate::text::Text;
 use crate::user::UserName;
 use crate::value::{Boxed, Doc, Items, Value};
@@ -61,15 +63,43 @@ fn escape_size(byte: u8) -> u64
     }
 }
 
+// Whether the byte stands in JSON as it is.
+fn is_plain(byte: u8) -> bool
+    ensures { result ≡ (escape_size byte == 1) }
+{
+    if byte < 32 {
+        return false;
+    }
+    escape_size(byte) == 1
+}
+
+fn has_plain_bytes(bytes: &[u8]) -> bool
+    ensures { result ≡ list_all (λ b. escape_size b == 1) bytes.now }
+{
+    bytes.iter().all(|byte| is_plain(*byte))
+}
+
+// How many bytes these have as a text in JSON, with its quotes and escapes, 2^64 - 1 where they have more.
+fn escaped_size(bytes: &[u8]) -> u64
+    ensures { result ≡ capped (text_size bytes.now) }
+{
+    let mut total = 2u64;
+    for byte in bytes {
+        total = total.saturating_add(escape_size(*byte));
+    }
+    total
+}
+
 // How many bytes the text has as JSON, with its quotes and escapes, 2^64 - 1 where it has more.
 fn text_size(text: &Text) -> u64
     ensures { result ≡ capped (text_size text.now) }
 {
-    let mut total = 2u64;
-    for byte in text.as_bytes() {
-        total = total.saturating_add(escape_size(*byte));
+    let bytes = text.as_bytes();
+    if has_plain_bytes(bytes) {
+        (bytes.len() as u64).saturating_add(2)
+    } else {
+        escaped_size(bytes)
     }
-    total
 }
 
 fn binary_size(bytes: &[u8]) -> u64
@@ -85,21 +115,65 @@ impl Doc {
     pub fn has_special_names(&self) -> bool
         ensures { result ≡ is_special (names_of (fields_of self.now)) }
     {
-        if self.len() > 2 {
-            return false;
+        match self.row() {
+            Some(members) => have_special_names(members),
+            None => has_special_names(self),
         }
-        let mut fields = self.iter();
-        let Some((first, _)) = fields.next() else {
-            return false;
-        };
-        if !begins_with_dollar(first.as_str()) {
-            return false;
-        }
-        let Some((second, _)) = fields.next() else {
-            return is_special_name(first.as_str());
-        };
-        is_special_pair(first.as_str(), second.as_str())
     }
+}
+
+// The same of the fields of a row.
+fn have_special_names(members: &[Member]) -> bool
+    ensures { result ≡ is_special (names_of (fields_of (entries (pairs members.now)))) }
+{
+    let len = members.len();
+    if len == 1 {
+        return is_special_alone(members[0].name.as_str());
+    }
+    if len == 2 {
+        return are_special_together(members[0].name.as_str(), members[1].name.as_str());
+    }
+    false
+}
+
+fn is_special_alone(name: &str) -> bool
+    ensures { result ≡ is_special (name.now ∷ []) }
+{
+    if begins_with_dollar(name) {
+        is_special_name(name)
+    } else {
+        false
+    }
+}
+
+fn are_special_together(first: &str, second: &str) -> bool
+    ensures { result ≡ is_special (first.now ∷ second.now ∷ []) }
+{
+    if begins_with_dollar(first) {
+        is_special_pair(first, second)
+    } else {
+        false
+    }
+}
+
+// The same of any document.
+fn has_special_names(doc: &Doc) -> bool
+    ensures { result ≡ is_special (names_of (fields_of doc.now)) }
+{
+    if doc.len() > 2 {
+        return false;
+    }
+    let mut fields = doc.iter();
+    let Some((first, _)) = fields.next() else {
+        return false;
+    };
+    if !begins_with_dollar(first.as_str()) {
+        return false;
+    }
+    let Some((second, _)) = fields.next() else {
+        return is_special_name(first.as_str());
+    };
+    is_special_pair(first.as_str(), second.as_str())
 }
 
 // The first name of each special form begins with `$`.
@@ -175,6 +249,18 @@ pub(crate) fn field_size(name: &Text, value: &Value) -> u64
     with_name(name, size(value))
 }
 
+// How many bytes the fields of a row have, 2^64 - 1 where they have more.
+#[cycle(measuring)]
+pub(crate) fn members_size(members: &[Member]) -> u64
+    ensures { result ≡ capped (fields_size (fields_of (entries (pairs members.now)))) }
+{
+    let mut total = 0u64;
+    for member in members {
+        total = total.saturating_add(field_size(&member.name, &member.value));
+    }
+    total
+}
+
 /// How many bytes the document's EJSON text has, 2^64 - 1 where it has more. It looks at no value of a document whose
 /// fields are counted.
 #[cycle(measuring)]
@@ -224,6 +310,29 @@ pub fn document_depth(doc: &Doc) -> u64
 
 #[cycle(depth)]
 fn fields_depth(doc: &Doc) -> u64
+    ensures { result ≡ capped (fields_depth (fields_of doc.now)) }
+{
+    match doc.row() {
+        Some(members) => members_depth(members),
+        None => table_depth(doc),
+    }
+}
+
+// How deep the fields of a row are.
+#[cycle(depth)]
+fn members_depth(members: &[Member]) -> u64
+    ensures { result ≡ capped (fields_depth (fields_of (entries (pairs members.now)))) }
+{
+    let mut deepest = 0;
+    for member in members {
+        deepest = depth(&member.value).max(deepest);
+    }
+    deepest
+}
+
+// How deep the fields of any document are.
+#[cycle(depth)]
+fn table_depth(doc: &Doc) -> u64
     ensures { result ≡ capped (fields_depth (fields_of doc.now)) }
 {
     let mut deepest = 0;

@@ -1,5 +1,5 @@
 //! The fields of a document, in a row or a table, with how many bytes they have.
-ghost use Rattle.std.specs.Prelude.{◌≡◌, ◌==◌, ◌+◌, ◌-◌, ◌≤◌, ◌<◌, ◌^◌, [], true, false, length, Some, IsSome, is_some, option_map, IfOk, OnOk, OnErr};
+ghost use Rattle.std.specs.Prelude.{◌≡◌, ◌==◌, ◌+◌, ◌-◌, ◌≤◌, ◌<◌, ◌^◌, [], true, false, length, Some, IsSome, is_some, option_map, IfSome, IfNone, IfOk, OnOk, OnErr};
 ghost use Rattle.std.specs.List.{list_all};
 ghost use Rattle.std.specs.List.Sorted.{IsStrictlySortedBy};
 ghost use Rattle.std.specs.Map.{keys_of};
@@ -12,7 +12,7 @@ ghost use Rattle.value_model.specs.Size.{text_size, size, fields_size};
 ghost use Rattle.ejson_value.specs.View.{view, pairs, entries, held_fields};
 ghost use Rattle.ejson_value.specs.Measure.{capped};
 
-use crate::measure::{field_size, size, with_name};
+use crate::measure::{field_size, members_size, size, with_name};
 use crate::memory::Mem;
 use crate::row::{Member, Row};
 use crate::table::Table;
@@ -195,6 +195,20 @@ impl Members {
         }
     }
 
+    // Puts the value as the field of this name. Behind all others of a row it is put at once.
+    fn add(&mut self, name: Text, value: Value) -> Result<(), Mem>
+        ensures ok { OnOk result (held_fields self.new ≡ put (held_fields self.old) name (view value)) }
+        ensures err { OnErr result (held_fields self.new ≡ held_fields self.old) }
+    {
+        if let Members::Few(row) = self {
+            if row.is_next(&name, MAX_ROW) {
+                return row.push(Member { name, value });
+            }
+        }
+        drop(self.put(name, value)?);
+        Ok(())
+    }
+
     // Puts the field in place of that of the same name, which is there, and hands out its value.
     fn replace(&mut self, member: Member) -> Value
         requires { IsSome (get (held_fields self.old) member.name) }
@@ -204,6 +218,18 @@ impl Members {
         match self {
             Members::Few(row) => row.replace(member),
             Members::Many(table) => table.replace(member),
+        }
+    }
+
+    // Puts the value in place of that of the field of this name, where there is one, and hands that out.
+    fn swap(&mut self, name: &Text, value: Value) -> Option<Value>
+        ensures value { IfSome result (λ there. Some (view there) ≡ get (held_fields self.old) name.now) }
+        ensures put { IfSome result (λ there. held_fields self.new ≡ put (held_fields self.old) name.now (view value)) }
+        ensures other { IfNone result (held_fields self.new ≡ held_fields self.old) }
+    {
+        match self {
+            Members::Few(row) => row.swap(name, value),
+            Members::Many(table) => table.swap(name, value),
         }
     }
 
@@ -246,9 +272,40 @@ impl Members {
         }
     }
 
+    // The fields where they stand in a row.
+    fn row(&self) -> Option<&[Member]>
+        ensures { IfSome result (λ members. entries (pairs members.now) ≡ held_fields self.now) }
+    {
+        match self {
+            Members::Few(row) => Some(row.as_slice()),
+            Members::Many(_) => None,
+        }
+    }
+
+    // Gives back the room that no field takes.
+    fn shrink(&mut self)
+        ensures { held_fields self.new ≡ held_fields self.old }
+    {
+        match self {
+            Members::Few(row) => row.shrink(),
+            Members::Many(_) => {}
+        }
+    }
+
     // How many bytes the fields have, counted one by one.
     #[cycle(measuring)]
     fn counted(&self) -> u64
+        ensures { result ≡ capped (fields_size (fields_of (held_fields self.now))) }
+    {
+        match self.row() {
+            Some(members) => members_size(members),
+            None => self.table_size(),
+        }
+    }
+
+    // The same of any fields.
+    #[cycle(measuring)]
+    fn table_size(&self) -> u64
         ensures { result ≡ capped (fields_size (fields_of (held_fields self.now))) }
     {
         let mut total = 0u64;
@@ -257,6 +314,13 @@ impl Members {
         }
         total
     }
+}
+
+// Whether there was a value, which goes.
+fn is_there(value: Option<Value>) -> bool
+    ensures { result ≡ is_some value }
+{
+    value.is_some()
 }
 
 // How many bytes the value has, which goes.
@@ -329,11 +393,19 @@ impl Measured {
         }
     }
 
-    // Counts the fields, where that isn't known.
+    // Counts the fields, where that isn't known, and gives back the room that none of them takes.
     pub(crate) fn count(&mut self)
         ensures { self.new ≡ self.old }
     {
         self.bytes = self.bytes();
+        self.members.shrink();
+    }
+
+    // The fields where they stand in a row.
+    pub(crate) fn row(&self) -> Option<&[Member]>
+        ensures { IfSome result (λ members. entries (pairs members.now) ≡ self.now) }
+    {
+        self.members.row()
     }
 
     // Whether it is known how many bytes the fields have.
@@ -345,6 +417,18 @@ impl Measured {
         ensures { result ≡ (length self.now == 0) }
     {
         self.members.len() == 0
+    }
+
+    // Puts the value as the field of this name. Behind all others of a row it is put at once.
+    pub(crate) fn add(&mut self, name: Text, value: Value) -> Result<(), Mem>
+        ensures ok { OnOk result (self.new ≡ put self.old name (view value)) }
+        ensures err { OnErr result (self.new ≡ self.old) }
+    {
+        if self.bytes == UNKNOWN {
+            self.members.add(name, value)
+        } else {
+            self.put(name, value)
+        }
     }
 
     pub(crate) fn put(&mut self, name: Text, value: Value) -> Result<(), Mem>
@@ -384,6 +468,25 @@ impl Measured {
         let come = size(&member.value);
         let there = self.members.replace(member);
         self.bytes = bytes_after(self.bytes, gone(there), come);
+    }
+
+    // Puts the value in place of that of the field of this name, where there is one, and says whether there is.
+    pub(crate) fn swap(&mut self, name: &Text, value: Value) -> bool
+        ensures put { result ≡ true → self.new ≡ put self.old name.now (view value) }
+        ensures other { result ≡ false → self.new ≡ self.old }
+    {
+        if self.bytes == UNKNOWN {
+            return is_there(self.members.swap(name, value));
+        }
+        self.members.known();
+        let come = size(&value);
+        match self.members.swap(name, value) {
+            None => false,
+            Some(there) => {
+                self.bytes = bytes_after(self.bytes, gone(there), come);
+                true
+            }
+        }
     }
 
     // Whether there is a field of this name.

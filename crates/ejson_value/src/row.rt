@@ -1,5 +1,5 @@
 //! The fields of a document in a row by rising name. An edit moves those behind its place, so a row has few.
-ghost use Rattle.std.specs.Prelude.{◌≡◌, ◌+◌, ◌++◌, ◌≤◌, ◌<◌, ◌∷◌, [], length, Some, IsSome, option_map, vec_len, vec_capacity, IfOk, IfErr, OnOk, OnErr, IsTrue};
+ghost use Rattle.std.specs.Prelude.{◌≡◌, ◌+◌, ◌++◌, ◌≤◌, ◌<◌, ◌∷◌, [], length, Some, IsSome, option_map, vec_len, vec_capacity, IfSome, IfNone, IfOk, IfErr, OnOk, OnErr, IsTrue};
 ghost use Rattle.std.specs.List.{remove as remove_item};
 ghost use Rattle.std.specs.List.Sorted.{IsStrictlySortedBy, IsSearchInRange};
 ghost use Rattle.map_model.specs.Orders.{IsAbove};
@@ -144,6 +144,32 @@ impl Row {
         Ok(())
     }
 
+    // Whether a field of this name goes behind the others, which are fewer than so many.
+    pub(crate) fn is_next(&self, name: &Text, most: usize) -> bool
+        ensures { IsTrue result → IsAbove text_cmp name.now (keys_of self.now) }
+    {
+        self.members.len() < most && self.is_behind(name)
+    }
+
+    // Puts the field behind the others.
+    pub(crate) fn push(&mut self, member: Member) -> Result<(), Mem>
+        requires { IsAbove text_cmp member.name (keys_of self.old) }
+        ensures ok { OnOk result (self.new ≡ put self.old member.name (view member.value)) }
+        ensures err { OnErr result (self.new ≡ self.old) }
+    {
+        member.value.known();
+        self.make_room()?;
+        self.members.push(member)?;
+        Ok(())
+    }
+
+    // Gives back the room that no field takes.
+    pub(crate) fn shrink(&mut self)
+        ensures { self.new ≡ self.old }
+    {
+        self.members.shrink_to_fit();
+    }
+
     // Puts the value as the field of this name, and hands out the one that was there.
     pub(crate) fn put(&mut self, name: Text, value: Value) -> Result<Option<Value>, Mem>
         ensures value { IfOk result (λ there. option_map view there ≡ get self.old name) }
@@ -181,6 +207,25 @@ impl Row {
         let Member { name, value } = mem::replace(&mut self.members[place], member);
         drop(name);
         value
+    }
+
+    // Puts the value in place of that of the field of this name, where there is one, and hands that out.
+    pub(crate) fn swap(&mut self, name: &Text, value: Value) -> Option<Value>
+        ensures value { IfSome result (λ there. Some (view there) ≡ get self.old name.now) }
+        ensures put { IfSome result (λ there. self.new ≡ put self.old name.now (view value)) }
+        ensures other { IfNone result (self.new ≡ self.old) }
+    {
+        value.known();
+        match self.place(name) {
+            Ok(place) => {
+                let member = &mut self.members[place];
+                Some(mem::replace(&mut member.value, value))
+            }
+            Err(_) => {
+                drop(value);
+                None
+            }
+        }
     }
 
     // Puts the field in place of that of the same name, which is there, and hands out its value.
@@ -232,6 +277,13 @@ impl Row {
         ensures ordered { IsStrictlySortedBy text_cmp (keys_of (pairs (iter_rest result))) }
     {
         self.members.iter()
+    }
+
+    // The fields in order, as a slice.
+    pub(crate) fn as_slice(&self) -> &[Member]
+        ensures { entries (pairs result.now) ≡ self.now }
+    {
+        self.members.as_slice()
     }
 
     // Tells a proof what the row keeps; it does nothing.

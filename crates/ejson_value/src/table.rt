@@ -1,5 +1,5 @@
 //! The fields of a document in a map by name: an edit takes the logarithm of their number.
-ghost use Rattle.std.specs.Prelude.{◌≡◌, [], length, Some, IsSome, option_map, IfOk, OnOk, OnErr};
+ghost use Rattle.std.specs.Prelude.{◌≡◌, [], length, Some, IsSome, option_map, IfSome, IfNone, IfOk, OnOk, OnErr};
 ghost use Rattle.std.specs.List.Sorted.{IsStrictlySortedBy};
 ghost use Rattle.std.specs.Map.{keys_of};
 ghost use Rattle.value_model.specs.Order.{text_cmp};
@@ -136,6 +136,19 @@ impl Table {
             Some(place) => mem::replace(place, value),
             None => value,
         }
+    }
+
+    // Puts the value in place of that of the field of this name, where there is one, and hands that out.
+    pub(crate) fn swap(&mut self, name: &Text, value: Value) -> Option<Value>
+        ensures value { IfSome result (λ there. Some (view there) ≡ get self.old name.now) }
+        ensures put { IfSome result (λ there. self.new ≡ put self.old name.now (view value)) }
+        ensures other { IfNone result (self.new ≡ self.old) }
+    {
+        value.known();
+        let Some(place) = self.fields.get_mut(name) else {
+            return None;
+        };
+        Some(mem::replace(place, value))
     }
 
     // Takes the field of this name out.

@@ -218,6 +218,18 @@ fn copies(alloc: Global, items: &[Value], more: usize) -> Result<Vec<Value>, Mem
     Ok(copies)
 }
 
+// The field of a row that has no other one.
+fn only_of(members: &[Member]) -> Option<(&Text, &Value)>
+    ensures one { IsSome result ↔ (length members.now ≡ 1) }
+    ensures value { IfSome result (λ field. entries (pairs members.now) ≡ (field.0.now, view field.1.now) ∷ []) }
+{
+    if members.len() == 1 {
+        Some((&members[0].name, &members[0].value))
+    } else {
+        None
+    }
+}
+
 impl Items {
     /// An empty list.
     pub fn new(alloc: Global) -> Items
@@ -474,6 +486,16 @@ impl Doc {
         }
     }
 
+    // Its fields where they stand in a row.
+    pub(crate) fn row(&self) -> Option<&[Member]>
+        ensures { IfSome result (λ members. entries (pairs members.now) ≡ self.now) }
+    {
+        match &self.fields {
+            None => Some(&[]),
+            Some(fields) => fields.row(),
+        }
+    }
+
     // Copies of its fields, with room for so many more.
     fn copies(&self, more: usize) -> Result<Measured, Mem>
         ensures { IfOk result (λ copies. copies ≡ self.now) }
@@ -508,8 +530,25 @@ impl Doc {
         }
         let more = if self.get(&name).is_some() { 0 } else { 1 };
         let mut fields = self.copies(more)?;
-        fields.put(name, value)?;
+        fields.add(name, value)?;
         self.hold(fields)
+    }
+
+    // Puts a copy of the value in place of that of the field of this name, where there is such a field in memory of its own,
+    // and says whether it did.
+    pub(crate) fn set_copy(&mut self, name: &Text, value: &Value) -> Result<bool, Mem>
+        ensures put { IfOk result (λ set. set ≡ true → self.new ≡ put self.old name.now (view value.now)) }
+        ensures other { IfOk result (λ set. set ≡ false → self.new ≡ self.old) }
+        ensures err { OnErr result (self.new ≡ self.old) }
+    {
+        if let Some(fields) = &mut self.fields {
+            if let Some(own) = Arc::get_mut(fields) {
+                let set = own.swap(name, copy(value)?);
+                own.known();
+                return Ok(set);
+            }
+        }
+        Ok(false)
     }
 
     // Puts the fields in place of those of the same names, where it has such ones of all in memory of its own, and says
@@ -621,6 +660,17 @@ impl Doc {
 
     /// The field of a document that has no other one.
     pub fn only_field(&self) -> Option<(&Text, &Value)>
+        ensures one { IsSome result ↔ (length self.now ≡ 1) }
+        ensures value { IfSome result (λ field. self.now ≡ (field.0.now, view field.1.now) ∷ []) }
+    {
+        match self.row() {
+            Some(members) => only_of(members),
+            None => self.only_listed(),
+        }
+    }
+
+    // The same of any document.
+    fn only_listed(&self) -> Option<(&Text, &Value)>
         ensures one { IsSome result ↔ (length self.now ≡ 1) }
         ensures value { IfSome result (λ field. self.now ≡ (field.0.now, view field.1.now) ∷ []) }
     {

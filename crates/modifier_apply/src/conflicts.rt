@@ -132,6 +132,9 @@ fn one_begins_next(paths: &BTreeSet<ByParts<'_>>) -> bool
 pub(crate) fn have_conflict(alloc: Global, updates: &[Update]) -> Result<bool, Mem>
     ensures { IfOk result (λ b. b ≡ conflicts (paths_of (changes_view updates.now))) }
 {
+    if let [_] = updates {
+        return Ok(false);
+    }
     match in_order(alloc, updates)? {
         None => Ok(true),
         Some(paths) => Ok(one_begins_next(&paths)),

@@ -2,19 +2,19 @@ use Rattle.std.proofs.Common.{◌∷◌, [], ◌++◌, ap, sym, ◌∙◌, arith
 use Rattle.std.proofs.lemmas.List.{append_assoc, drop_all}
 use Rattle.value_model.specs.Val.{vals_of, fields_of}
 use Rattle.value_model.specs.Depth.{vals_depth, fields_depth}
-use Rattle.ejson_value.specs.View.{views, entries}
-use Rattle.ejson_value.proofs.Walks.{item_depth, field_depth}
+use Rattle.ejson_value.specs.View.{views, pairs, entries}
+use Rattle.ejson_value.proofs.Walks.{item_depth, field_depth, member_depth}
 use Rattle.ejson_value.proofs.measure.+depth.Goals as goal
 
-pub fields_depth-depth-requires : goal.fields_depth-depth-requires
-fields_depth-depth-requires t c =
+pub table_depth-depth-requires : goal.table_depth-depth-requires
+table_depth-depth-requires t c =
     let done = c.loop-value.invariant.2.0 in
     let all = c.loop-value.invariant.2.1 ∙ ap (λ rest. done ++ rest) c.in-Some.ensures.steps in
     let less = field_depth c.into_iter-value-iterator.result done c.in-Some.field-0-0.now c.in-Some.value.now c.next.new.self c.args.doc.now all (ap entries c.into_iter-value-iterator.ensures.into_iter_gives ∙ c.iter-value-items.ensures.all) in
     (omega (arith, less, c.decreases), tt)
 
-pub fields_depth-loop-value-preserved : goal.fields_depth-loop-value-preserved
-fields_depth-loop-value-preserved t c =
+pub table_depth-loop-value-preserved : goal.table_depth-loop-value-preserved
+table_depth-loop-value-preserved t c =
     let done = c.loop-value.invariant.2.0 in
     let name = c.in-Some.field-0-0.now in
     let value = c.in-Some.value.now in
@@ -26,14 +26,28 @@ fields_depth-loop-value-preserved t c =
       omega (arith, c.loop-value.invariant.4, c.max-deepest.ensures),
     )
 
-pub fields_depth-returns : goal.fields_depth-returns
-fields_depth-returns t c =
+pub table_depth-returns : goal.table_depth-returns
+table_depth-returns t c =
     omega (
       arith,
       c.loop-value.invariant.3,
       c.loop-value.invariant.4,
       ap (λ es. fields_depth (fields_of (entries es))) c.in-None.ensures.steps.0,
       ap (λ es. fields_depth (fields_of es)) (ap entries c.into_iter-value-iterator.ensures.into_iter_gives ∙ c.iter-value-items.ensures.all),
+    )
+
+pub members_depth-depth-requires : goal.members_depth-depth-requires
+members_depth-depth-requires t c =
+    let less = member_depth c.args.members.now c.loop-member.member-index c.member-item.result c.member-item.is c.loop-member-test.true in
+    (omega (arith, less, c.decreases), tt)
+
+pub members_depth-returns : goal.members_depth-returns
+members_depth-returns t c =
+    omega (
+      arith,
+      c.loop-member.invariant.0,
+      c.loop-member.invariant.1,
+      ap (λ ms. fields_depth (fields_of (entries (pairs ms)))) (drop_all c.loop-member.member-index c.args.members.now c.loop-member-test.false),
     )
 
 pub items_depth-depth-requires : goal.items_depth-depth-requires

@@ -1,15 +1,9 @@
-use Rattle.std.proofs.Common.{ap, arith}
-use Rattle.std.specs.Prelude.{sum_by}
-use Rattle.std.proofs.lemmas.List.{drop_all}
-use Rattle.value_model.specs.Size.{escape_size, text_size}
+use Rattle.std.proofs.Common.{sym, ap, ◌∙◌, arith}
+use Rattle.value_model.specs.Size.{text_size}
+use Rattle.ejson_value.proofs.Plain.{plain_size}
 use Rattle.ejson_value.proofs.measure.text_size.Goals as goal
 
-pub returns : goal.returns
-returns c =
-    omega (
-      arith,
-      c.loop-byte.invariant.0,
-      c.loop-byte.invariant.1,
-      ap (λ bs. sum_by escape_size bs) (drop_all c.loop-byte.byte-index c.as_bytes-byte-items.result.now c.loop-byte-test.false),
-      ap text_size c.as_bytes-byte-items.ensures,
-    )
+pub returns-then-has_plain_bytes : goal.returns-then-has_plain_bytes
+returns-then-has_plain_bytes c =
+    let plain = plain_size c.as_bytes-bytes.result.now (sym c.has_plain_bytes.ensures ∙ c.if-has_plain_bytes.true) in
+    omega (arith, plain, c.saturating_add.ensures, ap text_size c.as_bytes-bytes.ensures)
