@@ -3,6 +3,7 @@
 
 use ejson_value::{Mem, Text};
 use io_edge::{Sink, Source, StdSink, StdSource};
+use std::marker::Sync;
 use std::process::ExitCode;
 use std::rt::Env;
 use std::thread::Threads;
@@ -36,7 +37,7 @@ fn status_of(fault: io::Error) -> Status {
     }
 }
 
-fn run<R: Env + AllocGlobal + Threads, I: Source, O: Sink>(
+fn run<R: Env + AllocGlobal + Threads + Sync, I: Source, O: Sink>(
     rt: &R,
     source: &mut I,
     sink: &mut O,

@@ -4,6 +4,7 @@ ghost use Rattle.world_commands.specs.Tasks.{AreRead, Reads, RunsLines, texts_of
 
 use crate::running::run_lines;
 use crate::tasks::{Batch, ReadLine, read_lines};
+use client_lanes::Hands;
 use ejson_value::Mem;
 use std::alloc::Global;
 use std::thread::{Threads, join_mut};
@@ -13,8 +14,9 @@ use world_core::World;
 pub trait Readers {
     /// Runs lines that are read, of which the first has this number, and reads the first of those that
     /// follow. Lines that are done are dropped.
-    fn run_and_read<'a>(
+    fn run_and_read<'a, H: Hands>(
         &self,
+        hands: &H,
         alloc: Global,
         world: &mut World,
         lines: &[ReadLine<'_>],
@@ -23,6 +25,7 @@ pub trait Readers {
         done: Vec<ReadLine<'a>>,
         rest: &'a [u8],
     ) -> (Result<Option<u32>, Mem>, Result<Batch<'a>, Mem>)
+        requires ready { H.ready }
         requires read { AreRead lines.now }
         requires numbers { first + length lines.now < 2 ^ 32 }
         ensures ran { IfOk result.0 (RunsLines (texts_of lines.now) first world.old world.new output.old.items output.new.items) }
@@ -34,8 +37,9 @@ pub trait Readers {
 pub struct Alone;
 
 impl Readers for Alone {
-    fn run_and_read<'a>(
+    fn run_and_read<'a, H: Hands>(
         &self,
+        hands: &H,
         alloc: Global,
         world: &mut World,
         lines: &[ReadLine<'_>],
@@ -44,7 +48,7 @@ impl Readers for Alone {
         done: Vec<ReadLine<'a>>,
         rest: &'a [u8],
     ) -> (Result<Option<u32>, Mem>, Result<Batch<'a>, Mem>) {
-        let ran = run_lines(alloc, world, lines, first, output);
+        let ran = run_lines(hands, alloc, world, lines, first, output);
         drop(done);
         (ran, read_lines(alloc, rest))
     }
@@ -64,8 +68,9 @@ impl<'a, R: Threads> Beside<'a, R> {
 }
 
 impl<'b, R: Threads> Readers for Beside<'b, R> {
-    fn run_and_read<'a>(
+    fn run_and_read<'a, H: Hands>(
         &self,
+        hands: &H,
         alloc: Global,
         world: &mut World,
         lines: &[ReadLine<'_>],
@@ -75,14 +80,14 @@ impl<'b, R: Threads> Readers for Beside<'b, R> {
         rest: &'a [u8],
     ) -> (Result<Option<u32>, Mem>, Result<Batch<'a>, Mem>) {
         if rest.is_empty() {
-            return Alone.run_and_read(alloc, world, lines, first, output, done, rest);
+            return Alone.run_and_read(hands, alloc, world, lines, first, output, done, rest);
         }
         let mut done = done;
         let mut read = || {
             done.clear();
             read_lines(alloc, rest)
         };
-        let mut run = || run_lines(alloc, world, lines, first, output);
+        let mut run = || run_lines(hands, alloc, world, lines, first, output);
         let (next, ran) = join_mut(self.rt, &mut read, &mut run);
         (ran, next)
     }

@@ -13,6 +13,7 @@ use crate::readers::Readers;
 use crate::tasks::read_lines;
 use app_model::{App, AppFault};
 use checking::{Outcome, add_bad, first_line, value_in};
+use client_lanes::Hands;
 use ejson_value::Mem;
 use read_applications::read_application;
 use std::alloc::Global;
@@ -46,14 +47,16 @@ fn add_bad_line(alloc: Global, output: &mut Vec<u8>, bad: Option<u32>) -> Result
 }
 
 // Runs the lines that follow the application, and answers the number of the first bad one.
-fn run_world<R: Readers>(
+fn run_world<H: Hands, R: Readers>(
+    hands: &H,
     readers: &R,
     alloc: Global,
     world: &mut World,
     lines: &[u8],
     output: &mut Vec<u8>,
 ) -> Result<Option<u32>, Mem>
-    requires { length lines.now ≤ input_limit }
+    requires ready { H.ready }
+    requires short { length lines.now ≤ input_limit }
     ensures text { OnOk result (output.new.items ≡ output.old.items ++ all_bytes (printed world.old (events_of (lines_in lines.now)))) }
     ensures bad { IfOk result (λ bad. bad ≡ bad_line 2 (lines_in lines.now)) }
     ensures events { OnOk result (AreEvents (events_of (lines_in lines.now))) }
@@ -63,6 +66,7 @@ fn run_world<R: Readers>(
     let mut number = 2;
     while !batch.read.is_empty() {
         let (ran, next) = readers.run_and_read(
+            hands,
             alloc,
             world,
             batch.read.as_slice(),
@@ -82,7 +86,8 @@ fn run_world<R: Readers>(
 }
 
 // Runs the lines of an application.
-fn run_app<R: Readers>(
+fn run_app<H: Hands, R: Readers>(
+    hands: &H,
     readers: &R,
     alloc: Global,
     app: &App,
@@ -90,6 +95,7 @@ fn run_app<R: Readers>(
     output: &mut Vec<u8>,
     left: &mut Option<World>,
 ) -> Result<Option<u32>, Mem>
+    requires ready { H.ready }
     requires short { length lines.now ≤ input_limit }
     requires values { HasValues (programs app.now) }
     ensures text { OnOk result (output.new.items ≡ output.old.items ++ all_bytes (printed (start app.now) (events_of (lines_in lines.now)))) }
@@ -97,18 +103,20 @@ fn run_app<R: Readers>(
     ensures events { OnOk result (AreEvents (events_of (lines_in lines.now))) }
 {
     let world = left.insert(World::new(alloc, app)?);
-    run_world(readers, alloc, world, lines, output)
+    run_world(hands, readers, alloc, world, lines, output)
 }
 
 // Runs an input up to its first bad line, and answers the number of that.
-fn run_input<R: Readers>(
+fn run_input<H: Hands, R: Readers>(
+    hands: &H,
     readers: &R,
     alloc: Global,
     input: &[u8],
     output: &mut Vec<u8>,
     left: &mut Option<World>,
 ) -> Result<Option<u32>, Mem>
-    requires { length input.now ≤ input_limit }
+    requires ready { H.ready }
+    requires short { length input.now ≤ input_limit }
     ensures text { OnOk result (output.new.items ≡ output.old.items ++ all_bytes (printed_by (app_of (lines_in input.now)) (rest_of (lines_in input.now)))) }
     ensures bad { IfOk result (λ bad. bad ≡ first_bad input.now) }
     ensures events { OnOk result (AreReplayed input.now) }
@@ -119,24 +127,26 @@ fn run_input<R: Readers>(
     let (line, rest) = first_line(input);
     match read_app(alloc, line)? {
         None => Ok(Some(1)),
-        Some(app) => run_app(readers, alloc, &app, rest, output, left),
+        Some(app) => run_app(hands, readers, alloc, &app, rest, output, left),
     }
 }
 
 /// Runs an input, and answers the whole output. The world that it ran in is left.
-pub fn replay<R: Readers>(
+pub fn replay<H: Hands, R: Readers>(
+    hands: &H,
     readers: &R,
     alloc: Global,
     input: &[u8],
     left: &mut Option<World>,
 ) -> Result<Outcome, Mem>
-    requires { length input.now ≤ input_limit }
+    requires ready { H.ready }
+    requires short { length input.now ≤ input_limit }
     ensures text { IfOk result (λ o. o.text.items ≡ replay_text input.now) }
     ensures bad { IfOk result (λ o. o.bad_line ≡ first_bad input.now) }
     ensures events { OnOk result (AreReplayed input.now) }
 {
     let mut text = Vec::new(alloc);
-    let bad_line = run_input(readers, alloc, input, &mut text, left)?;
+    let bad_line = run_input(hands, readers, alloc, input, &mut text, left)?;
     add_bad_line(alloc, &mut text, bad_line)?;
     Ok(Outcome { text, bad_line })
 }

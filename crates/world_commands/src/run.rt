@@ -11,9 +11,11 @@ use crate::reason::reason_for;
 use crate::replay::replay;
 use crate::status::Status;
 use checking::{INPUT_LIMIT, LINE_LIMIT, Outcome, check, count_lines};
+use client_lanes::{Hands, InTurn, OnThreads};
 use ejson_value::{Bytes, Mem, Text};
 use io_edge::{ReadAll, Sink, Source, read_all, write_all};
 use std::alloc::Global;
+use std::marker::Sync;
 use std::thread::Threads;
 use world_core::World;
 
@@ -44,26 +46,29 @@ fn read_input<I: Source>(alloc: Global, input: &mut I) -> Result<Bytes, ReadAll>
 }
 
 // What a command writes for an input.
-fn outcome_of<R: Readers>(
+fn outcome_of<H: Hands, R: Readers>(
+    hands: &H,
     readers: &R,
     alloc: Global,
     command: Command,
     input: &[u8],
     left: &mut Option<World>,
 ) -> Result<Outcome, Mem>
-    requires { length input.now ≤ input_limit }
+    requires ready { H.ready }
+    requires short { length input.now ≤ input_limit }
     ensures text { IfOk result (λ o. o.text.items ≡ output_of command input.now) }
     ensures bad { IfOk result (λ o. o.bad_line ≡ bad_line_of command input.now) }
     ensures true_run { OnOk result (IsTrueRunOf command input.now) }
 {
     match command {
         Command::Check => check(alloc, input),
-        Command::Replay => replay(readers, alloc, input, left),
+        Command::Replay => replay(hands, readers, alloc, input, left),
     }
 }
 
 // Reads the input of a command, runs it and writes its output.
-fn run_command<R: Readers, I: Source, O: Sink>(
+fn run_command<H: Hands, R: Readers, I: Source, O: Sink>(
+    hands: &H,
     readers: &R,
     alloc: Global,
     command: Command,
@@ -72,6 +77,7 @@ fn run_command<R: Readers, I: Source, O: Sink>(
     reason: &mut Text,
     left: &mut Option<World>,
 ) -> Status
+    requires { H.ready }
     ensures cause { CauseOf command (I.left input.old) (I.left input.new)
         (O.written output.old) (O.written output.new) result }
     ensures read_fault { (result ≡ Status.ReadFault) ↔ (I.faults input.old < I.faults input.new) }
@@ -84,7 +90,7 @@ fn run_command<R: Readers, I: Source, O: Sink>(
         Err(ReadAll::TooLong) => return Status::TooLong,
         Err(ReadAll::Memory) => return Status::Memory,
     };
-    let Ok(outcome) = outcome_of(readers, alloc, command, bytes.as_slice(), left) else {
+    let Ok(outcome) = outcome_of(hands, readers, alloc, command, bytes.as_slice(), left) else {
         return Status::Memory;
     };
     if let Err(_fault) = write_all(output, outcome.text.as_slice()) {
@@ -99,8 +105,10 @@ fn run_command<R: Readers, I: Source, O: Sink>(
     }
 }
 
-// Runs the command that the words name, lines of a replay read by these.
-fn run_by<R: Readers, I: Source, O: Sink>(
+// Runs the command that the words name: lines of a replay are read by these readers, clients told by these
+// hands.
+fn run_by<H: Hands, R: Readers, I: Source, O: Sink>(
+    hands: &H,
     readers: &R,
     alloc: Global,
     words: &[Text],
@@ -109,6 +117,7 @@ fn run_by<R: Readers, I: Source, O: Sink>(
     reason: &mut Text,
     left: &mut Option<World>,
 ) -> Status
+    requires { H.ready }
     ensures cause { Cause (command_in words.now) (I.left input.old) (I.left input.new)
         (O.written output.old) (O.written output.new) result }
     ensures untouched { result ≡ Status.Usage → (input.new ≡ input.old) × (output.new ≡ output.old) × (left.new ≡ left.old) }
@@ -118,7 +127,7 @@ fn run_by<R: Readers, I: Source, O: Sink>(
 {
     match command_in(words) {
         None => Status::Usage,
-        Some(command) => run_command(readers, alloc, command, input, output, reason, left),
+        Some(command) => run_command(hands, readers, alloc, command, input, output, reason, left),
     }
 }
 
@@ -153,12 +162,12 @@ pub fn run_plain<I: Source, O: Sink>(
     ensures write_fault { (result ≡ Status.WriteFault) ↔ (O.faults output.old < O.faults output.new) }
     ensures told { result ≢ Status.BadInput → reason.new ≡ reason.old }
 {
-    run_by(&Alone, alloc, words, input, output, reason, left)
+    run_by(&InTurn, &Alone, alloc, words, input, output, reason, left)
 }
 
 /// The same, with threads of this runtime: lines of a replay are read by one of them while those before
-/// them run.
-pub fn run_on<R: Threads, I: Source, O: Sink>(
+/// them run, and clients are told by some where a world has much to tell them.
+pub fn run_on<R: Threads + Sync, I: Source, O: Sink>(
     rt: &R,
     alloc: Global,
     words: &[Text],
@@ -174,5 +183,14 @@ pub fn run_on<R: Threads, I: Source, O: Sink>(
     ensures write_fault { (result ≡ Status.WriteFault) ↔ (O.faults output.old < O.faults output.new) }
     ensures told { result ≢ Status.BadInput → reason.new ≡ reason.old }
 {
-    run_by(&Beside::new(rt), alloc, words, input, output, reason, left)
+    run_by(
+        &OnThreads::new(rt),
+        &Beside::new(rt),
+        alloc,
+        words,
+        input,
+        output,
+        reason,
+        left,
+    )
 }

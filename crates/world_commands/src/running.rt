@@ -8,6 +8,7 @@ ghost use Rattle.world_commands.specs.Tasks.{IsRead, AreRead, texts_of, RunsLine
 
 use crate::tasks::{ReadLine, Task};
 use checking::add_line;
+use client_lanes::Hands;
 use collection_store::Op;
 use ejson_codec::Lines;
 use ejson_value::{Mem, Text};
@@ -25,10 +26,16 @@ fn add_lines(output: &mut Vec<u8>, lines: &Lines) -> Result<(), Mem>
 }
 
 // Runs an event, and answers what it prints.
-fn run_event(alloc: Global, world: &mut World, event: &Event) -> Result<Lines, Mem>
+fn run_event<H: Hands>(
+    hands: &H,
+    alloc: Global,
+    world: &mut World,
+    event: &Event,
+) -> Result<Lines, Mem>
+    requires { H.ready }
     ensures { IfOk result (λ lines. (world.new ≡ step world.old event.now) × (lines ≡ lines_of world.old event.now)) }
 {
-    world.event(event)?.lines(alloc)
+    world.event_by(hands, event)?.lines(alloc)
 }
 
 // Makes the operation of which the text tells, and answers what it prints.
@@ -45,20 +52,22 @@ fn run_operation(
 }
 
 // Runs a line, and answers whether it is an event or blank.
-fn run_line(
+fn run_line<H: Hands>(
+    hands: &H,
     alloc: Global,
     world: &mut World,
     read: &ReadLine<'_>,
     output: &mut Vec<u8>,
 ) -> Result<bool, Mem>
-    requires { IsRead read.now }
+    requires ready { H.ready }
+    requires read { IsRead read.now }
     ensures { IfOk result (RunsLine read.now.line.now world.old world.new output.old.items output.new.items) }
 {
     let lines = match &read.task {
         Task::Nothing => return Ok(true),
         Task::Bad => return Ok(false),
         Task::Operation(text, operation) => run_operation(alloc, world, text, operation)?,
-        Task::Event(event) => run_event(alloc, world, event)?,
+        Task::Event(event) => run_event(hands, alloc, world, event)?,
     };
     add_lines(output, &lines)?;
     Ok(true)
@@ -66,20 +75,22 @@ fn run_line(
 
 /// Runs lines up to the first bad one, and answers the number of that, where the first has this
 /// number.
-pub fn run_lines(
+pub fn run_lines<H: Hands>(
+    hands: &H,
     alloc: Global,
     world: &mut World,
     lines: &[ReadLine<'_>],
     first: u32,
     output: &mut Vec<u8>,
 ) -> Result<Option<u32>, Mem>
+    requires ready { H.ready }
     requires read { AreRead lines.now }
     requires numbers { first + length lines.now < 2 ^ 32 }
     ensures { IfOk result (RunsLines (texts_of lines.now) first world.old world.new output.old.items output.new.items) }
 {
     let mut number = first;
     for line in lines {
-        if !run_line(alloc, world, line, output)? {
+        if !run_line(hands, alloc, world, line, output)? {
             return Ok(Some(number));
         }
         number += 1;

@@ -27,9 +27,9 @@ use Rattle.world_laws.specs.Doing.{with_name, touched, is_take, IsActed, IsLeft}
 use Rattle.world_laws.specs.Changing.{client_is}
 use Rattle.world_laws.specs.Making.{act_made, act_not_made, touch_stays, nobody_acts, nobody_answers, named_made, none_named}
 use Rattle.world_laws.specs.Printing.{answer_printed, refusal_printed, take_printed}
-use Rattle.world_core.specs.Clients.{ActsBy, ActsIn}
+use Rattle.client_lanes.specs.Clients.{ActsIn}
 use Rattle.world_core.specs.Happening.{IsSame, Happens, MakesAct, actor}
-use Rattle.world_core.proofs.Puts.{put_there, put_same}
+use Rattle.world_core.proofs.Puts.{put_there, put_same, ActsBy}
 
 -- ---- what is told
 
@@ -145,8 +145,9 @@ module _ (x : AWorld) (p : IsWorld x) (name : List ℕ) (a : Act) (next : Machin
     where
       by : (found : Option AConnection) → at text_cmp x.conns name ≡ found → ActsBy found a m next x.conns put name (Ok (o, refusal)) → Told o refusal
       by None is t =
-          let both : (o, refusal) ≡ (answer.Idle, None) = cc (t.2) in
-          subst (λ (q : Answer × Option ℕ). Told q.0 q.1) (sym both) (nobody_told is t.1 t.0)
+          let answered : (let r : Result (Answer × Option ℕ) Mem = Ok (o, refusal) in r) ≡ Ok (answer.Idle, None) = ap (λ r. r.1) t.1 in
+          let both : (o, refusal) ≡ (answer.Idle, None) = cc answered in
+          subst (λ (q : Answer × Option ℕ). Told q.0 q.1) (sym both) (nobody_told is (ap (λ r. r.0) t.1) t.0)
       by (Some old) is t =
           by_answer old is t.0 t.1 o refusal (subst (λ (n : List ℕ). Acts x.app n x.history a old t.0 o) (client_is x p name old is).connection.named t.2.0.0) t.2.0.1 t.2.1
 
@@ -154,7 +155,7 @@ module _ (x : AWorld) (p : IsWorld x) (name : List ℕ) (a : Act) (next : Machin
   err_acts e t = by (at text_cmp x.conns name) refl t
     where
       by : (found : Option AConnection) → at text_cmp x.conns name ≡ found → ActsBy found a m next x.conns put name (Err e) → IsSame x y
-      by None is t = cc (t.2)
+      by None is t = let answered : (let r : Result (Answer × Option ℕ) Mem = Err e in r) ≡ Ok (answer.Idle, None) = ap (λ r. r.1) t.1 in cc answered
       by (Some old) is t = same_world t.2.1 (itself old is t.0 t.1 t.2.0)
 
 -- ---- the event that names it

@@ -23,9 +23,9 @@ use Rattle.world_laws.specs.Changing.{client_is}
 use Rattle.world_laws.specs.Making.{touch_stays}
 use Rattle.world_laws.specs.Asking.{not_asked, ask_made, drop_made, nobody_asked}
 use Rattle.world_laws.specs.Printing.{ask_printed, nobody_printed}
-use Rattle.world_core.specs.Clients.{AsksBy, AsksIn}
+use Rattle.client_lanes.specs.Clients.{AsksIn}
 use Rattle.world_core.specs.Happening.{IsSame, Happens, asked_one}
-use Rattle.world_core.proofs.Puts.{put_same}
+use Rattle.world_core.proofs.Puts.{put_same, AsksBy}
 
 -- ---- the event that asks
 

@@ -6,4 +6,5 @@ mod Operating
 mod Showing
 mod Workers
 mod Visits
+mod Runs
 mod Worlds

@@ -20,7 +20,7 @@ use Rattle.world_laws.specs.World.{AWorld, as_world, connection_of, IsWorld}
 use Rattle.world_laws.specs.Changing.{client_is}
 use Rattle.world_laws.specs.Printing.{shown, nobody_shown, journal_shown, nobody_journal, act_is, nobody_acts_by}
 use Rattle.world_laws.specs.Promises.{worlds_true, clients_linked}
-use Rattle.world_core.specs.Clients.{IsReady}
+use Rattle.client_lanes.specs.Clients.{IsReady}
 use Rattle.world_core.specs.Happening.{Happens}
 
 -- ---- clients

@@ -16,7 +16,7 @@ use Rattle.round_laws.specs.Visits.{Side, visits}
 use Rattle.connection_laws.specs.Connection.{AConnection, as_conn, IsConnection}
 use Rattle.shared_news.specs.Telling.{ANews, nothing_told}
 use Rattle.source_laws.specs.News.{AreNews, nothing_is_news}
-use Rattle.client_rounds.specs.Visit.{visit, IsReady, ArePassed, Passes}
+use Rattle.client_rounds.specs.Visit.{visit, ArePassed, Passes}
 use Rattle.client_rounds.specs.Visit as one
 use Rattle.world_laws.specs.World.{Names, AConnections, AWorld, as_world, connection_of, IsIdle, IsWorld}
 use Rattle.world_laws.specs.Doing.{visits_from, IsIdleBefore, IsVisited, after_visit, at_rest, IsStep, ActsLead}
@@ -24,20 +24,11 @@ use Rattle.world_laws.specs.Names.{behind}
 use Rattle.world_laws.specs.Changing.{client_is, conn_is, conn_there}
 use Rattle.world_laws.specs.Promises.{clients_linked}
 use Rattle.world_laws.specs.Settling.{round_begins, seen_sorted, round_goes_on, round_is_over, visit_made, part_made, idle_begins, idle_goes_on, idle_ends, nobody_is_visited, round_settles, settling_made, no_acts, acts_go_on, visit_is_acts}
-use Rattle.world_core.specs.Rounds.{CanVisit, VisitsBy, VisitsIn, IsNextFrom, IsNext, IsLed, IsRound, AreRounds, Settles}
-use Rattle.world_core.proofs.Puts.{put_same}
-
-abbrev pub machine_of : AWorld → MachineState
-machine_of x = record { app = x.app; history = x.history }
+use Rattle.client_lanes.specs.Visits.{AreReady, CanVisit, VisitsIn}
+use Rattle.world_core.specs.Rounds.{machine_of, IsNextFrom, IsNext, IsLed, IsRound, AreRounds, Settles}
+use Rattle.world_core.proofs.Puts.{put_same, VisitsBy}
 
 -- ---- one client
-
-pub visited_some : (m next : MachineState) (conns put : AConnections) (news told : ANews) (name : List ℕ) (old new : AConnection) → Some old ≡ at text_cmp conns name → put ≡ insert_entry text_cmp conns name new →
-    (r : Result Bool Mem) → Passes order (visit m old news) (visit next new told) r → VisitsIn m next conns put news told name r
-visited_some m next conns put news told name old new found is r passes = subst (λ (o : Option AConnection). VisitsBy o m next conns put news told name r) found (new, is, passes)
-
-pub visited_none : (m : MachineState) (conns put : AConnections) (news : ANews) (name : List ℕ) → None ≡ at text_cmp conns name → put ≡ conns → VisitsIn m m conns put news news name (Ok false)
-visited_none m conns put news name found is = subst (λ (o : Option AConnection). VisitsBy o m m conns put news news name (Ok false)) found (is, refl, refl, refl)
 
 -- each client can go through its phases
 pub can_visit : (x : AWorld) → IsWorld x → (news : ANews) → AreNews (machine_of x) news → (name : List ℕ) → IfSome (at text_cmp x.conns name) (CanVisit (machine_of x) news name)
@@ -49,6 +40,12 @@ can_visit x p news told name = by (at text_cmp x.conns name) refl
         let conn : IsConnection x.app name x.history c = (client_is x p name c is).connection in
         (conn.named, record { connection = subst (λ (n : List ℕ). IsConnection x.app n x.history c) (sym conn.named) conn; linked = clients_linked x p name c is; news = told })
 
+-- each client can be told
+pub can_be_told : (x : AWorld) → IsWorld x → AreReady (machine_of x) x.conns
+can_be_told x p name c is =
+    let conn : IsConnection x.app name x.history c = (client_is x p name c is).connection in
+    record { connection = subst (λ (n : List ℕ). IsConnection x.app n x.history c) (sym conn.named) conn; linked = clients_linked x p name c is }
+
 -- what is told stays told
 pub news_after : (m next : MachineState) (conns put : AConnections) (news told : ANews) (name : List ℕ) → AreNews m news → (r : Result Bool Mem) → VisitsIn m next conns put news told name r → AreNews next told
 news_after m next conns put news told name old r v = by (at text_cmp conns name) v
@@ -58,7 +55,7 @@ news_after m next conns put news told name old r v = by (at text_cmp conns name)
     passes c d (Err e) t = t.ready.news
 
     by : (o : Option AConnection) → VisitsBy o m next conns put news told name r → AreNews next told
-    by None t = subst (λ (n : ANews). AreNews next n) (sym t.2) (subst (λ (k : MachineState). AreNews k news) (sym t.1) old)
+    by None t = subst (λ (n : ANews). AreNews next n) (sym (ap (λ r. r.1.0) t.1)) (subst (λ (k : MachineState). AreNews k news) (sym (ap (λ r. r.0) t.1)) old)
     by (Some c) t = passes c t.0 r t.2
 
 -- ---- in the world
@@ -155,8 +152,9 @@ module _ (x y : AWorld) (from name : List ℕ) (flag : Bool) (on : IsOn x y from
     where
       by : (o : Option AConnection) → at text_cmp y.conns name ≡ o → VisitsBy o (machine_of y) next y.conns put news told name (Ok now) → IsOn x after (behind name) (now || flag)
       by None is t =
-          let none : now ≡ false = cc (t.3) in
-          subst (λ b. IsOn x after (behind name) (b || flag)) (sym none) (nobody is t.1 t.0)
+          let answered : (let r : Result Bool Mem = Ok now in r) ≡ Ok false = ap (λ r. r.1.1) t.1 in
+          let none : now ≡ false = cc answered in
+          subst (λ b. IsOn x after (behind name) (b || flag)) (sym none) (nobody is (ap (λ r. r.0) t.1) t.0)
       by (Some old) is t = visited_so old is t.0 t.1 news told now t.2
 
   pub on_led : (news told : ANews) (now : Bool) → VisitsIn (machine_of y) next y.conns put news told name (Ok now) → IsLed x after
@@ -166,7 +164,7 @@ module _ (x y : AWorld) (from name : List ℕ) (flag : Bool) (on : IsOn x y from
   on_left news told m t = by (at text_cmp y.conns name) refl t
     where
       by : (o : Option AConnection) → at text_cmp y.conns name ≡ o → VisitsBy o (machine_of y) next y.conns put news told name (Err m) → IsLed x after
-      by None is t = cc (t.3)
+      by None is t = let answered : (let r : Result Bool Mem = Err m in r) ≡ Ok false = ap (λ r. r.1.1) t.1 in cc answered
       by (Some old) is t = left_so old is t.0 t.1 news told t.2
 
 pub on_ends : (x y : AWorld) (from : List ℕ) (flag : Bool) → IsOn x y from flag → IsNext y from None → IsRound x y flag

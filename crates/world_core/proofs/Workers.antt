@@ -118,7 +118,7 @@ copied_next x from (Err m) o is n = tt
 -- ---- how many names are left
 
 module _ (from name : List ℕ) (le : is_le (text_cmp from name) ≡ true) where
-  stays_behind : (q : List ℕ) → is_le (text_cmp (behind name) q) ≡ true → is_le (text_cmp from q) ≡ true
+  pub stays_behind : (q : List ℕ) → is_le (text_cmp (behind name) q) ≡ true → is_le (text_cmp from q) ≡ true
   stays_behind q e = lt_le (text_cmp from q) (le_less from name q le (sym (behind_it name q) ∙ e))
 
   abbrev left : Names → ℕ

@@ -2,31 +2,16 @@
 use Rattle.ejson_value.specs.declared.memory.Mem.{Mem}
 use Rattle.std.specs.Prelude.{◌≡◌, ℕ, List, Bool, true, false, Option, None, Some, Result, Ok, Err}
 use Rattle.std.specs.Ordering.{is_le, is_lt}
-use Rattle.std.specs.BTreeMap.{insert_entry}
-use Rattle.map_model.specs.Maps.{at}
 use Rattle.value_model.specs.Order.{text_cmp}
 use Rattle.store_machine.specs.State.{MachineState}
 use Rattle.core_model.specs.declared.events.Event.TheVariants as event
-use Rattle.core_model.specs.Settle.{order, round, is_stuck, settled}
-use Rattle.connection_laws.specs.Connection.{AConnection}
-use Rattle.shared_news.specs.Telling.{ANews}
-use Rattle.client_rounds.specs.Visit.{visit, IsReady, Passes}
-use Rattle.world_laws.specs.World.{AConnections, AWorld, as_world, IsWorld}
+use Rattle.core_model.specs.Settle.{round, is_stuck, settled}
+use Rattle.world_laws.specs.World.{AWorld, as_world, IsWorld}
 use Rattle.world_laws.specs.Doing.{IsPassed, IsWorker, IsStep, ActsLead}
 
--- ---- one client
-
--- it has this name, and can go through its phases
-abbrev pub CanVisit : MachineState → ANews → List ℕ → AConnection → Type 0
-CanVisit m news name c = (c.own.name ≡ name) × IsReady (visit m c news)
-
--- nobody of the name does anything; a client that is there goes through its phases
-abbrev pub VisitsBy : Option AConnection → MachineState → MachineState → AConnections → AConnections → ANews → ANews → List ℕ → Result Bool Mem → Type 0
-VisitsBy None m next conns put news told name result = (put ≡ conns) × (next ≡ m) × (told ≡ news) × (result ≡ Ok false)
-VisitsBy (Some old) m next conns put news told name result = (new : AConnection) × (put ≡ insert_entry text_cmp conns name new) × Passes order (visit m old news) (visit next new told) result
-
-abbrev pub VisitsIn : MachineState → MachineState → AConnections → AConnections → ANews → ANews → List ℕ → Result Bool Mem → Type 0
-VisitsIn m next conns put news told name result = VisitsBy (at text_cmp conns name) m next conns put news told name result
+-- the store's machine
+abbrev pub machine_of : AWorld → MachineState
+machine_of x = record { app = x.app; history = x.history }
 
 -- ---- the next one
 

@@ -8,12 +8,12 @@ ghost use Rattle.world_laws.specs.World.{as_world, IsWorld};
 ghost use Rattle.world_core.specs.Kept.{seen};
 ghost use Rattle.world_core.specs.Happening.{Happens, MakesAct, actor, asked_one};
 
-use crate::clients::{acted, asked};
 use crate::inside::Inside;
 use crate::opening::open;
 use crate::printing::{history, journal, show, store};
 use crate::rounds::settle;
 use client_events::named;
+use client_lanes::{Hands, Lanes};
 use collection_store::Op;
 use core_model::{Act, Event};
 use ejson_value::{Items, Mem, Text};
@@ -38,13 +38,9 @@ fn make(inside: &mut Inside, client: &Text, act: Act) -> Result<Printed, Mem>
     ensures { MakesAct (seen inside.old) client.now act (seen inside.new) result }
 {
     inside.busy.put(client)?;
-    let (answer, refusal) = acted(
-        &mut inside.conns,
-        &mut inside.machine,
-        &mut inside.heard,
-        client,
-        act,
-    )?;
+    let (answer, refusal) = inside
+        .conns
+        .acted(&mut inside.machine, &mut inside.heard, client, act)?;
     Ok(Printed::told(answer, refusal))
 }
 
@@ -68,7 +64,7 @@ fn ask(inside: &mut Inside, client: &Text, event: &Event) -> Result<Printed, Mem
     ensures { Happens (seen inside.old) event.now (seen inside.new) result }
 {
     inside.busy.put(client)?;
-    let done = asked(&mut inside.conns, client, event)?;
+    let done = inside.conns.asked(client, event)?;
     Ok(Printed::asked(done))
 }
 
@@ -79,7 +75,7 @@ fn leave(inside: &mut Inside, client: &Text, event: &Event) -> Result<Printed, M
     ensures { Happens (seen inside.old) event.now (seen inside.new) result }
 {
     inside.busy.put(client)?;
-    let done = asked(&mut inside.conns, client, event)?;
+    let done = inside.conns.asked(client, event)?;
     if !done {
         return Ok(Printed::asked(false));
     }
@@ -115,16 +111,22 @@ pub(crate) fn admin_told(inside: &mut Inside, text: &Text, operation: &Op) -> Re
 }
 
 // The world settles.
-fn settle_unprinted(inside: &mut Inside) -> Result<Printed, Mem>
-    requires { IsWorld (seen inside.old) }
+fn settle_unprinted<H: Hands>(hands: &H, inside: &mut Inside) -> Result<Printed, Mem>
+    requires ready { H.ready }
+    requires world { IsWorld (seen inside.old) }
     ensures { Happens (seen inside.old) happening.Settle (seen inside.new) result }
 {
-    settle(inside)?;
+    settle(hands, inside)?;
     Ok(Printed::asked(true))
 }
 
 /// The event happens.
-pub(crate) fn happen(inside: &mut Inside, event: &Event) -> Result<Printed, Mem>
+pub(crate) fn happen<H: Hands>(
+    hands: &H,
+    inside: &mut Inside,
+    event: &Event,
+) -> Result<Printed, Mem>
+    requires ready { H.ready }
     requires world { IsWorld (seen inside.old) }
     requires good { IsEvent event.now }
     ensures { Happens (seen inside.old) event.now (seen inside.new) result }
@@ -142,7 +144,7 @@ pub(crate) fn happen(inside: &mut Inside, event: &Event) -> Result<Printed, Mem>
         Event::Load { client, .. } => act(inside, client, event),
         Event::Advance { client, .. } => act(inside, client, event),
         Event::Admin { op } => admin(inside, op),
-        Event::Settle => settle_unprinted(inside),
+        Event::Settle => settle_unprinted(hands, inside),
         Event::Show { client } => show(inside, client),
         Event::Journal { client } => journal(inside, client),
         Event::Store => store(inside),

@@ -1,14 +1,9 @@
 //! What is kept of a world.
+use client_lanes::Clients;
 use client_names::Names;
-use connection::Connection;
-use ejson_value::Text;
 use heard_messages::Heard;
 use std::alloc::Global;
-use std::collections::BTreeMap;
 use store_machine::Machine;
-
-/// Clients with their sessions, by name.
-pub(crate) type Conns = BTreeMap<Text, Connection>;
 
 #[derive(Drop)]
 pub(crate) struct Inside {
@@ -16,8 +11,8 @@ pub(crate) struct Inside {
     pub(crate) machine: Machine,
     /// How many clients there were so far.
     pub(crate) opened: u32,
-    /// All of them, those that are gone too.
-    pub(crate) conns: Conns,
+    /// All of them with their sessions, by name, those that are gone too.
+    pub(crate) conns: Clients,
     /// Those that are there.
     pub(crate) present: Names,
     /// Those that may have something to do even while the history stays as it is.

@@ -1,7 +1,6 @@
 //! A world: a store with its server, and clients with a session each, which go through events.
 #![tactic(auto)]
 
-mod clients;
 mod events;
 mod inside;
 mod opening;

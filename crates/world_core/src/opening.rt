@@ -1,6 +1,7 @@
 //! Clients that begin.
 ghost use Rattle.std.specs.Prelude.{◌≡◌, OnOk, OnErr, None};
 ghost use Rattle.std.specs.BTreeMap.{insert_entry};
+ghost use Rattle.map_model.specs.Maps.{at};
 ghost use Rattle.value_model.specs.Order.{text_cmp};
 ghost use Rattle.core_model.specs.declared.events.Event.TheVariants as event;
 ghost use Rattle.core_model.specs.World.{can_open};
@@ -9,7 +10,8 @@ ghost use Rattle.connection_laws.specs.Connection.{new_connection};
 ghost use Rattle.world_core.specs.Kept.{seen};
 ghost use Rattle.world_core.specs.Happening.{Happens, Begins};
 
-use crate::inside::{Conns, Inside};
+use crate::inside::Inside;
+use client_lanes::{Clients, Lanes};
 use connection::Connection;
 use ejson_value::{Mem, Text};
 use std::alloc::Global;
@@ -24,32 +26,24 @@ fn can_open(inside: &Inside, name: &Text) -> bool
     requires { IsWorld (seen inside.now) }
     ensures { result ≡ can_open (as_world (seen inside.now)) name.now }
 {
-    !inside.conns.contains_key(name) && inside.present.len() < CLIENT_LIMIT
-}
-
-// Puts the client among the others. It takes the name, so that nothing else is owned while memory is asked for.
-fn put(conns: &mut Conns, name: Text, connection: Connection) -> Result<(), Mem>
-    ensures ok { OnOk result (conns.new.entries ≡ insert_entry text_cmp conns.old.entries name connection) }
-    ensures err { OnErr result (conns.new.entries ≡ conns.old.entries) }
-{
-    drop(conns.insert(name, connection)?);
-    Ok(())
+    !inside.conns.has(name) && inside.present.len() < CLIENT_LIMIT
 }
 
 // A client at its beginning, with this number, stands among the others.
 fn add(
     alloc: Global,
     machine: &Machine,
-    conns: &mut Conns,
+    conns: &mut Clients,
     name: &Text,
     number: u32,
 ) -> Result<(), Mem>
-    ensures ok { OnOk result (conns.new.entries ≡ insert_entry text_cmp conns.old.entries name.now (new_connection machine.now.app name.now number)) }
-    ensures err { OnErr result (conns.new.entries ≡ conns.old.entries) }
+    requires { at text_cmp conns.old name.now ≡ None }
+    ensures ok { OnOk result (conns.new ≡ insert_entry text_cmp conns.old name.now (new_connection machine.now.app name.now number)) }
+    ensures err { OnErr result (conns.new ≡ conns.old) }
 {
     let key = name.copy()?;
     let connection = Connection::new(alloc, machine.app(), name, number)?;
-    put(conns, key, connection)
+    conns.put(key, connection)
 }
 
 // The client begins, with the next number, and has something to do. Where memory runs out, none is there

@@ -6,6 +6,7 @@ ghost use Rattle.world_laws.specs.World.{as_world, IsWorld};
 ghost use Rattle.world_core.specs.Kept.{seen};
 
 use crate::inside::Inside;
+use client_lanes::Lanes;
 use ejson_value::{Mem, Text};
 use world_lines::Printed;
 

@@ -1,41 +1,19 @@
 //! Rounds of a world that settles.
-ghost use Rattle.std.specs.Prelude.{◌≡◌, IfSome, IfOk, length};
+ghost use Rattle.std.specs.Prelude.{◌≡◌, ◌++◌, ◌∷◌, [], ◌||◌, true, IfSome, IfOk, OnOk};
 ghost use Rattle.std.specs.Option.{option_copied};
-ghost use Rattle.map_model.specs.Maps.{at};
-ghost use Rattle.value_model.specs.Order.{text_cmp};
 ghost use Rattle.source_laws.specs.News.{AreNews};
 ghost use Rattle.world_laws.specs.World.{as_world, IsWorld};
 ghost use Rattle.world_core.specs.Kept.{seen};
 ghost use Rattle.world_core.specs.Names.{lesser};
-ghost use Rattle.world_core.specs.Rounds.{CanVisit, VisitsIn, IsNext, MakesRound, MakesRounds, Settles};
+ghost use Rattle.world_core.specs.Rounds.{IsNext, MakesRound, MakesRounds, Settles};
+ghost use Rattle.world_core.specs.Runs.{AsksNothing, IsListener, IsRun, behind_all, TellsRun};
 
-use crate::inside::{Conns, Inside};
+use crate::inside::Inside;
+use client_lanes::{Hands, Lanes};
 use client_names::behind;
-use client_rounds::round as round_of;
 use ejson_value::{Mem, Text};
-use heard_messages::Heard;
 use shared_news::SharedNews;
-use std::alloc::Global;
 use std::cmp::Ordering;
-use store_machine::Machine;
-
-// The client goes through its phases. Whether any act was made.
-fn visit(
-    alloc: Global,
-    conns: &mut Conns,
-    machine: &mut Machine,
-    news: &mut SharedNews,
-    heard: &mut Heard,
-    name: &Text,
-) -> Result<bool, Mem>
-    requires { IfSome (at text_cmp conns.old.entries name.now) (CanVisit machine.old news.old name.now) }
-    ensures { VisitsIn machine.old machine.new conns.old.entries conns.new.entries news.old news.new name.now result }
-{
-    match conns.get_mut(name) {
-        Some(connection) => round_of(alloc, connection, machine, news, heard),
-        None => Ok(false),
-    }
-}
 
 // The lesser of two names.
 fn lesser<'a>(one: Option<&'a Text>, other: Option<&'a Text>) -> Option<&'a Text>
@@ -73,39 +51,149 @@ fn worker_from(inside: &Inside, from: &Text) -> Result<Option<Text>, Mem>
     copied(lesser(busy, present))
 }
 
-// A round: by name, each client that may have something to do goes through its phases. Whether any act
-// was made.
-fn round(inside: &mut Inside, news: &mut SharedNews) -> Result<bool, Mem>
+// Whether the client of this name asks for nothing.
+fn asks_nothing(inside: &Inside, name: &Text) -> Result<bool, Mem>
+    ensures { IfOk result (λ nothing. nothing ≡ true → AsksNothing (seen inside.now) name.now) }
+{
+    match inside.conns.get(name) {
+        Some(connection) => connection.asks_nothing(),
+        None => Ok(false),
+    }
+}
+
+// The next client of a round, if it asks for nothing.
+fn listener_from(inside: &Inside, from: &Text) -> Result<Option<Text>, Mem>
+    ensures { IfOk result (λ next. IfSome next (IsListener (seen inside.now) from.now)) }
+{
+    let Some(name) = worker_from(inside, from)? else {
+        return Ok(None);
+    };
+    if asks_nothing(inside, &name)? {
+        Ok(Some(name))
+    } else {
+        Ok(None)
+    }
+}
+
+// How many entries the subscriptions of the client don't show yet, all together.
+fn behind_of(inside: &Inside, name: &Text) -> u64 {
+    let entries = inside.machine.length();
+    let mut all: u64 = 0;
+    if let Some(connection) = inside.conns.get(name) {
+        for sub in connection.subs() {
+            all = all.saturating_add(entries.saturating_sub(sub.cursor.unwrap_or(0)));
+        }
+    }
+    all
+}
+
+// Clients that come one after another in a round and ask for nothing.
+#[derive(Drop)]
+struct Run {
+    names: Vec<Text>,
+    // How many entries they have still to be told.
+    work: u64,
+    // The name from which on the round goes on behind them.
+    from: Text,
+}
+
+// One more client.
+fn add(run: &mut Run, name: Text, work: u64) -> Result<(), Mem>
+    ensures names { OnOk result (run.new.names.items ≡ run.old.names.items ++ name ∷ []) }
+    ensures from { OnOk result (run.new.from ≡ name ++ 0 ∷ []) }
+{
+    run.from = behind(&name)?;
+    run.work = run.work.saturating_add(work);
+    run.names.push(name)?;
+    Ok(())
+}
+
+// Those that come from this name on, up to the first that asks for something.
+fn run_from(inside: &Inside, from: &Text) -> Result<Run, Mem>
+    ensures { IfOk result (λ run. IsRun (seen inside.now) from.now run.names.items × (run.from ≡ behind_all from.now run.names.items)) }
+{
+    let mut run = Run {
+        names: Vec::new(inside.alloc),
+        work: 0,
+        from: from.copy()?,
+    };
+    while let Some(name) = listener_from(inside, &run.from)? {
+        let work = behind_of(inside, &name);
+        add(&mut run, name, work)?;
+    }
+    Ok(run)
+}
+
+// The clients from this name on that ask for nothing are told, up to the first that asks for something. The round goes
+// on behind them. Whether any act was made.
+fn tell<H: Hands>(
+    hands: &H,
+    inside: &mut Inside,
+    news: &mut SharedNews,
+    from: &mut Text,
+) -> Result<bool, Mem>
+    requires ready { H.ready }
+    requires world { IsWorld (seen inside.old) }
+    requires news { AreNews inside.old.machine news.old }
+    ensures news { AreNews inside.new.machine news.new }
+    ensures told { TellsRun (seen inside.old) from.old (seen inside.new) from.new result }
+{
+    let run = run_from(inside, from)?;
+    let told = hands.tell(
+        inside.alloc,
+        &inside.machine,
+        news,
+        &mut inside.heard,
+        run.names.as_slice(),
+        run.work,
+        &mut inside.conns,
+    )?;
+    *from = run.from;
+    Ok(told)
+}
+
+fn either(one: bool, other: bool) -> bool
+    ensures { result ≡ (one || other) }
+{
+    one || other
+}
+
+// A round: by name, each client that may have something to do goes through its phases; those that come one after another
+// and ask for nothing are told at once. Whether any act was made.
+fn round<H: Hands>(hands: &H, inside: &mut Inside, news: &mut SharedNews) -> Result<bool, Mem>
+    requires ready { H.ready }
     requires world { IsWorld (seen inside.old) }
     requires news { AreNews inside.old.machine news.old }
     ensures news { AreNews inside.new.machine news.new }
     ensures round { MakesRound (seen inside.old) (seen inside.new) result }
 {
-    let mut made = false;
     let mut from = Text::new(inside.alloc);
+    let mut made = tell(hands, inside, news, &mut from)?;
     while let Some(name) = worker_from(inside, &from)? {
-        let now = visit(
+        let now = inside.conns.visited(
             inside.alloc,
-            &mut inside.conns,
             &mut inside.machine,
             news,
             &mut inside.heard,
             &name,
         )?;
-        made = now || made;
+        made = either(now, made);
         from = behind(&name)?;
+        let told = tell(hands, inside, news, &mut from)?;
+        made = either(told, made);
     }
     Ok(made)
 }
 
 // Rounds are made until none of their acts is made.
-fn rounds(inside: &mut Inside, news: &mut SharedNews) -> Result<(), Mem>
+fn rounds<H: Hands>(hands: &H, inside: &mut Inside, news: &mut SharedNews) -> Result<(), Mem>
+    requires ready { H.ready }
     requires world { IsWorld (seen inside.old) }
     requires news { AreNews inside.old.machine news.old }
     ensures { MakesRounds (seen inside.old) (seen inside.new) result }
 {
     for _ in 0..u64::MAX {
-        let made = round(inside, news)?;
+        let made = round(hands, inside, news)?;
         if !made {
             return Ok(());
         }
@@ -114,12 +202,13 @@ fn rounds(inside: &mut Inside, news: &mut SharedNews) -> Result<(), Mem>
 }
 
 /// Acts are made in rounds until none is left. Where memory runs out, those made so far stay made.
-pub(crate) fn settle(inside: &mut Inside) -> Result<(), Mem>
-    requires { IsWorld (seen inside.old) }
+pub(crate) fn settle<H: Hands>(hands: &H, inside: &mut Inside) -> Result<(), Mem>
+    requires ready { H.ready }
+    requires world { IsWorld (seen inside.old) }
     ensures { Settles (seen inside.old) (seen inside.new) result }
 {
     let mut news = SharedNews::new(inside.alloc);
-    rounds(inside, &mut news)?;
+    rounds(hands, inside, &mut news)?;
     inside.settled = inside.machine.length();
     inside.busy.clear();
     Ok(())

@@ -17,12 +17,12 @@ use crate::events::{admin_told, happen};
 use crate::inside::Inside;
 use crate::rounds::settle;
 use app_model::App;
+use client_lanes::{Hands, InTurn, no_clients};
 use client_names::Names;
 use collection_store::Op;
 use ejson_value::{Mem, Text};
 use heard_messages::Heard;
 use std::alloc::Global;
-use std::collections::BTreeMap;
 use std::marker::Model;
 use store_machine::Machine;
 use world_events::Event;
@@ -66,7 +66,7 @@ impl World {
                 alloc,
                 machine,
                 opened: 0,
-                conns: BTreeMap::new(alloc),
+                conns: no_clients(alloc),
                 present: Names::new(alloc),
                 busy: Names::new(alloc),
                 settled: 0,
@@ -85,7 +85,20 @@ impl World {
         ensures long_alone { HaveLongAlone self.new }
     {
         event.known();
-        happen(&mut self.inside, event.happening())
+        happen(&InTurn, &mut self.inside, event.happening())
+    }
+
+    /// The same, where a world that settles has these hands to tell its clients.
+    pub fn event_by<H: Hands>(&mut self, hands: &H, event: &Event) -> Result<Printed, Mem>
+        requires { H.ready }
+        ensures step { OnOk result (self.new ≡ step self.old event.now) }
+        ensures lines { IfOk result (λ printed. printed ≡ lines_of self.old event.now) }
+        ensures left { OnErr result (IsLeft event.now self.old self.new) }
+        ensures true_world { IsTrueWorld self.new }
+        ensures long_alone { HaveLongAlone self.new }
+    {
+        event.known();
+        happen(hands, &mut self.inside, event.happening())
     }
 
     /// The administrator's operation happens that the text tells of, as `event` makes it happen, and what
@@ -111,7 +124,7 @@ impl World {
         ensures true_world { IsTrueWorld self.new }
         ensures long_alone { HaveLongAlone self.new }
     {
-        settle(&mut self.inside)
+        settle(&InTurn, &mut self.inside)
     }
 
     /// Tells a proof what every world is; it does nothing.

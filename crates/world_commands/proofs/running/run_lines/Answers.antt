@@ -5,7 +5,7 @@ use Rattle.world_commands.proofs.Turns.{left_read, line_leads}
 use Rattle.world_commands.proofs.running.run_lines.Goals as goal
 
 pub loop-line-preserved : goal.loop-line-preserved
-loop-line-preserved c =
+loop-line-preserved g c =
     let all = c.args.lines.now in
     let i = c.loop-line.line-index in
     let r = c.line-item.result in

@@ -12,5 +12,5 @@ returns-in_err-put-2 c =
 
 pub returns-in-Err : goal.returns-in-Err
 returns-in-Err c =
-    taken_back (seen c.args.inside.now) c.requires.world c.args.name.now c.requires.none c.add.new.conns.entries c.remove.new.self c.put.new.self c.in-Err.ensures.err
+    taken_back (seen c.args.inside.now) c.requires.world c.args.name.now c.requires.none c.add.new.conns c.remove.new.self c.put.new.self c.in-Err.ensures.err
     (c.remove.ensures ∙ ap (λ names. without_name names c.args.name.now) c.in_ok-put-2.ensures.ok) c.in_ok-put.ensures.ok

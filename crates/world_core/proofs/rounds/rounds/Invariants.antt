@@ -4,4 +4,4 @@ use Rattle.world_core.proofs.Visits.{HaveComeTo}
 use Rattle.world_core.proofs.rounds.rounds.Given as goal
 
 abbrev pub invariant-loop : goal.invariant-loop
-invariant-loop l = HaveComeTo (seen l.fn.inside) (seen l.inside) × AreNews l.inside.machine l.news
+invariant-loop g l = HaveComeTo (seen l.fn.inside) (seen l.inside) × AreNews l.inside.machine l.news

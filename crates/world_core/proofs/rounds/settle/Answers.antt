@@ -3,4 +3,4 @@ use Rattle.world_core.proofs.Visits.{settles}
 use Rattle.world_core.proofs.rounds.settle.Goals as goal
 
 pub returns : goal.returns
-returns c = settles (seen c.args.inside.now) (seen c.rounds.new.inside) tt c.clear.new.self c.length-inside.result c.in_ok-rounds.ensures c.clear.ensures c.length-inside.ensures
+returns g c = settles (seen c.args.inside.now) (seen c.rounds.new.inside) tt c.clear.new.self c.length-inside.result c.in_ok-rounds.ensures c.clear.ensures c.length-inside.ensures

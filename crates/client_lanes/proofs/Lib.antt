@@ -1,0 +1,4 @@
+pub mod Puts
+pub mod Sends
+pub mod Sides
+pub mod Told

@@ -1,0 +1,45 @@
+use Rattle.std.proofs.Common.{◌≡◌, sym, subst}
+use Rattle.std.specs.Prelude.{None, OnOk}
+use Rattle.std.specs.BTreeMap.{insert_entry}
+use Rattle.map_model.specs.Maps.{at, union}
+use Rattle.value_model.specs.Order.{text_cmp}
+use Rattle.connection_laws.specs.Connection.{AConnection}
+use Rattle.lane_laws.specs.Lanes.{Named}
+use Rattle.lane_laws.specs.Unions.{free_in_both, put_in_left, put_in_right}
+use Rattle.client_lanes.proofs.lanes.BothLanes.put.Goals as goal
+
+pub put-requires : goal.put-requires
+put-requires g c =
+    let clients = g.A.Lanes.clients in
+    (free_in_both (clients c.self.inside.one) (clients c.self.inside.other) c.args.name (subst (λ (x : Named AConnection). at text_cmp x c.args.name ≡ None) (sym c.self.view_is) c.requires)).0
+
+pub put-requires-else-len : goal.put-requires-else-len
+put-requires-else-len g c =
+    let clients = g.A.Lanes.clients in
+    (free_in_both (clients c.self.inside.one) (clients c.self.inside.other) c.args.name (subst (λ (x : Named AConnection). at text_cmp x c.args.name ≡ None) (sym c.self.view_is) c.requires)).1
+
+pub invariant_of-self : goal.invariant_of-self
+invariant_of-self g c =
+    let clients = g.A.Lanes.clients in
+    let free = subst (λ (x : Named AConnection). at text_cmp x c.args.name ≡ None) (sym c.self.view_is) c.requires in
+    (put_in_left c.args.name c.args.connection (clients c.self.inside.one) (clients c.put.new.self) (clients c.self.inside.other) c.put.result free c.put.ensures.ok c.put.ensures.err c.self.invariant).lanes
+
+pub invariant_of-self-else-len : goal.invariant_of-self-else-len
+invariant_of-self-else-len g c =
+    let clients = g.A.Lanes.clients in
+    let free = subst (λ (x : Named AConnection). at text_cmp x c.args.name ≡ None) (sym c.self.view_is) c.requires in
+    (put_in_right c.args.name c.args.connection (clients c.self.inside.one) (clients c.self.inside.other) (clients c.put-else-len.new.self) c.put-else-len.result free c.put-else-len.ensures.ok c.put-else-len.ensures.err c.self.invariant).lanes
+
+pub returns-then-len-clause-ok : goal.returns-then-len-clause-ok
+returns-then-len-clause-ok g c =
+    let clients = g.A.Lanes.clients in
+    let free = subst (λ (x : Named AConnection). at text_cmp x c.args.name ≡ None) (sym c.self.view_is) c.requires in
+    let p = put_in_left c.args.name c.args.connection (clients c.self.inside.one) (clients c.put.new.self) (clients c.self.inside.other) c.put.result free c.put.ensures.ok c.put.ensures.err c.self.invariant in
+    subst (λ (x : Named AConnection). OnOk c.put.result (union text_cmp (clients c.put.new.self) (clients c.self.inside.other) ≡ insert_entry text_cmp x c.args.name c.args.connection)) c.self.view_is p.put
+
+pub returns-else-len-clause-ok : goal.returns-else-len-clause-ok
+returns-else-len-clause-ok g c =
+    let clients = g.A.Lanes.clients in
+    let free = subst (λ (x : Named AConnection). at text_cmp x c.args.name ≡ None) (sym c.self.view_is) c.requires in
+    let p = put_in_right c.args.name c.args.connection (clients c.self.inside.one) (clients c.self.inside.other) (clients c.put-else-len.new.self) c.put-else-len.result free c.put-else-len.ensures.ok c.put-else-len.ensures.err c.self.invariant in
+    subst (λ (x : Named AConnection). OnOk c.put-else-len.result (union text_cmp (clients c.self.inside.one) (clients c.put-else-len.new.self) ≡ insert_entry text_cmp x c.args.name c.args.connection)) c.self.view_is p.put

@@ -1,0 +1,213 @@
+//! Clients are told in turn, or those of each lane by a thread.
+ghost use Rattle.std.specs.Thread.{IsSync};
+ghost use Rattle.map_model.specs.Maps.{union};
+ghost use Rattle.value_model.specs.Order.{text_cmp};
+ghost use Rattle.source_laws.specs.News.{AreNews};
+ghost use Rattle.lane_laws.specs.Lanes.{AreTold};
+ghost use Rattle.lane_laws.specs.Unions.{AreLanes};
+ghost use Rattle.client_lanes.specs.Visits.{AreReady, Tells, Leads};
+
+use crate::lanes::{Both, Clients, Lane};
+use crate::telling::{either, told_in_turn};
+use ejson_value::{Mem, Text};
+use heard_messages::Heard;
+use shared_news::SharedNews;
+use std::alloc::Global;
+use std::marker::Sync;
+use std::thread::{Threads, available_parallelism, join_mut};
+use store_machine::Machine;
+
+/// How many entries of the history there are to show, to all of them together, so that threads are worth
+/// it.
+const MUCH_WORK: u64 = 1000;
+
+// How many lanes there are.
+const LANES: usize = 4;
+
+// What there is to show goes to those of these names that are in the lane. Nothing is taken that
+// publications told before.
+fn told_alone(
+    alloc: Global,
+    machine: &Machine,
+    names: &[Text],
+    lane: &mut Lane,
+) -> Result<bool, Mem>
+    requires { AreReady machine.now lane.old }
+    ensures { AreTold (Tells machine.now) (Leads machine.now) names.now lane.old lane.new result }
+{
+    let mut news = SharedNews::new(alloc);
+    let mut heard = Heard::new(alloc);
+    told_in_turn(alloc, machine, &mut news, &mut heard, names, lane)
+}
+
+// The same of two lanes, each by a thread.
+fn two_told<R: Threads + Sync>(
+    rt: &R,
+    alloc: Global,
+    machine: &Machine,
+    names: &[Text],
+    one: &mut Lane,
+    other: &mut Lane,
+) -> Result<bool, Mem>
+    requires lanes { AreLanes one.old other.old }
+    requires one { AreReady machine.now one.old }
+    requires other { AreReady machine.now other.old }
+    ensures told { AreTold (Tells machine.now) (Leads machine.now) names.now (union text_cmp one.old other.old) (union text_cmp one.new other.new) result }
+    ensures lanes { AreLanes one.new other.new }
+{
+    let (first, second) = join_mut(
+        rt,
+        &mut || -> Result<bool, Mem>
+            requires { AreReady machine.now one.now }
+            ensures { AreTold (Tells machine.entry.now) (Leads machine.entry.now) names.entry.now one.entry.now one.exit.now result }
+        { told_alone(alloc, machine, names, one) },
+        &mut || -> Result<bool, Mem>
+            requires { AreReady machine.now other.now }
+            ensures { AreTold (Tells machine.entry.now) (Leads machine.entry.now) names.entry.now other.entry.now other.exit.now result }
+        { told_alone(alloc, machine, names, other) },
+    );
+    either(first, second)
+}
+
+// The same.
+fn told_by_two<R: Threads + Sync>(
+    rt: &R,
+    alloc: Global,
+    machine: &Machine,
+    names: &[Text],
+    lanes: &mut Both<Lane>,
+) -> Result<bool, Mem>
+    requires { AreReady machine.now lanes.old }
+    ensures { AreTold (Tells machine.now) (Leads machine.now) names.now lanes.old lanes.new result }
+{
+    two_told(rt, alloc, machine, names, &mut lanes.one, &mut lanes.other)
+}
+
+// The same of two pairs of lanes, each by two threads.
+fn pairs_told<R: Threads + Sync>(
+    rt: &R,
+    alloc: Global,
+    machine: &Machine,
+    names: &[Text],
+    one: &mut Both<Lane>,
+    other: &mut Both<Lane>,
+) -> Result<bool, Mem>
+    requires lanes { AreLanes one.old other.old }
+    requires one { AreReady machine.now one.old }
+    requires other { AreReady machine.now other.old }
+    ensures told { AreTold (Tells machine.now) (Leads machine.now) names.now (union text_cmp one.old other.old) (union text_cmp one.new other.new) result }
+    ensures lanes { AreLanes one.new other.new }
+{
+    let (first, second) = join_mut(
+        rt,
+        &mut || -> Result<bool, Mem>
+            requires { IsSync R.row × AreReady machine.now one.now }
+            ensures { AreTold (Tells machine.entry.now) (Leads machine.entry.now) names.entry.now one.entry.now one.exit.now result }
+        { told_by_two(rt, alloc, machine, names, one) },
+        &mut || -> Result<bool, Mem>
+            requires { IsSync R.row × AreReady machine.now other.now }
+            ensures { AreTold (Tells machine.entry.now) (Leads machine.entry.now) names.entry.now other.entry.now other.exit.now result }
+        { told_by_two(rt, alloc, machine, names, other) },
+    );
+    either(first, second)
+}
+
+// The same of four lanes, each by a thread.
+fn told_by_four<R: Threads + Sync>(
+    rt: &R,
+    alloc: Global,
+    machine: &Machine,
+    names: &[Text],
+    lanes: &mut Clients,
+) -> Result<bool, Mem>
+    requires { AreReady machine.now lanes.old }
+    ensures { AreTold (Tells machine.now) (Leads machine.now) names.now lanes.old lanes.new result }
+{
+    pairs_told(rt, alloc, machine, names, &mut lanes.one, &mut lanes.other)
+}
+
+// Whether there is a processor for each lane.
+fn are_many(rt: &impl Threads) -> bool {
+    match available_parallelism(rt) {
+        Ok(count) => count.get() >= LANES,
+        Err(_) => false,
+    }
+}
+
+/// How clients are told.
+pub trait Hands {
+    /// What it takes.
+    ghost ready: { Type 0 };
+
+    /// What there is to show, which is so many entries for all of them together, goes to those of these
+    /// names that are among the clients. Whether any act was made.
+    fn tell(
+        &self,
+        alloc: Global,
+        machine: &Machine,
+        news: &mut SharedNews,
+        heard: &mut Heard,
+        names: &[Text],
+        work: u64,
+        clients: &mut Clients,
+    ) -> Result<bool, Mem>
+        requires ready { ready }
+        requires clients { AreReady machine.now clients.old }
+        requires news { AreNews machine.now news.old }
+        ensures told { AreTold (Tells machine.now) (Leads machine.now) names.now clients.old clients.new result }
+        ensures news { AreNews machine.now news.new };
+}
+
+/// One after another.
+#[derive(Drop)]
+pub struct InTurn;
+
+impl Hands for InTurn {
+    ghost ready = { Unit {0} };
+
+    fn tell(
+        &self,
+        alloc: Global,
+        machine: &Machine,
+        news: &mut SharedNews,
+        heard: &mut Heard,
+        names: &[Text],
+        _work: u64,
+        clients: &mut Clients,
+    ) -> Result<bool, Mem> {
+        told_in_turn(alloc, machine, news, heard, names, clients)
+    }
+}
+
+/// By threads, where there is much work and a processor for each lane.
+#[derive(Drop)]
+pub struct OnThreads<'a, R> {
+    rt: &'a R,
+}
+
+impl<'a, R: Threads + Sync> OnThreads<'a, R> {
+    /// By threads of this runtime.
+    pub fn new(rt: &'a R) -> OnThreads<'a, R> {
+        OnThreads { rt }
+    }
+}
+
+impl<'a, R: Threads + Sync> Hands for OnThreads<'a, R> {
+    ghost ready = { IsSync R.row };
+
+    fn tell(
+        &self,
+        alloc: Global,
+        machine: &Machine,
+        news: &mut SharedNews,
+        heard: &mut Heard,
+        names: &[Text],
+        work: u64,
+        clients: &mut Clients,
+    ) -> Result<bool, Mem> {
+        if work < MUCH_WORK || names.len() < 2 || !are_many(self.rt) {
+            return told_in_turn(alloc, machine, news, heard, names, clients);
+        }
+        told_by_four(self.rt, alloc, machine, names, clients)
+    }
+}
