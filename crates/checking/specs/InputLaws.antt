@@ -1,6 +1,6 @@
--- The first line of an input, and what follows it.
-use Rattle.std.specs.Prelude.{◌≡◌, ◌≢◌, ℕ, zero, suc, ◌<◌, List, [], ◌∷◌, length, take, drop, get_or, Bool, true, false, if◌then◌else◌, ◌==◌, IsUtf8, refl}
-use Rattle.std.proofs.Common.{ap, ◌∙◌, arith}
+-- The first lines of an input, and what follows them.
+use Rattle.std.specs.Prelude.{◌≡◌, ◌≢◌, ℕ, zero, suc, ◌<◌, List, [], ◌∷◌, ◌++◌, length, take, drop, get_or, Bool, true, false, if◌then◌else◌, ◌==◌, IsUtf8, refl}
+use Rattle.std.proofs.Common.{ap, sym, ◌∙◌, arith}
 use Rattle.std.specs.Str.{is_utf8}
 use Rattle.std.proofs.lemmas.Str.{IsUtf8-from_is_utf8, is_utf8-from_IsUtf8}
 use Rattle.std.proofs.lemmas.Bool.{eqb-true}
@@ -39,6 +39,42 @@ lines-last b (c ∷ bs) before =
 pub lines-whole : (xs : List ℕ) → 0 < length xs → ((k : ℕ) → k < length xs → get_or xs k 0 ≢ line_feed) → lines_in xs ≡ xs ∷ []
 lines-whole [] less before = absurd (omega (arith, less))
 lines-whole (b ∷ bs) less before = lines-last b bs before
+
+-- there is a line where there is a byte
+lines-some : (b : ℕ) (bs : List ℕ) → lines_in (b ∷ bs) ≡ [] → ⊥
+lines-some b bs = by (b == line_feed) (lines_in bs)
+  where
+    by : (t : Bool) (ls : List (List ℕ)) → (if t then [] ∷ ls else with_byte b ls) ≡ [] → ⊥
+    by true ls e = cc e
+    by false [] e = cc e
+    by false (l ∷ ls) e = cc e
+
+-- no line, no byte
+pub lines-none : (xs : List ℕ) → lines_in xs ≡ [] → xs ≡ []
+lines-none [] e = refl
+lines-none (b ∷ bs) e = absurd (lines-some b bs e)
+
+with_byte-more : (b : ℕ) (ls more : List (List ℕ)) → (ls ≡ [] → ⊥) → with_byte b (ls ++ more) ≡ with_byte b ls ++ more
+with_byte-more b [] more some = absurd (some refl)
+with_byte-more b (l ∷ ls) more some = refl
+
+split-step : (b c : ℕ) (cs : List ℕ) (i : ℕ) → lines_in (c ∷ cs) ≡ lines_in (take (suc i) (c ∷ cs)) ++ lines_in (drop (suc i) (c ∷ cs)) →
+    lines_in (b ∷ c ∷ cs) ≡ lines_in (take (suc (suc i)) (b ∷ c ∷ cs)) ++ lines_in (drop (suc (suc i)) (b ∷ c ∷ cs))
+split-step b c cs i whole = by (b == line_feed)
+  where
+    by : (t : Bool) → (if t then [] ∷ lines_in (c ∷ cs) else with_byte b (lines_in (c ∷ cs))) ≡
+        (if t then [] ∷ lines_in (take (suc i) (c ∷ cs)) else with_byte b (lines_in (take (suc i) (c ∷ cs)))) ++ lines_in (drop (suc i) (c ∷ cs))
+    by true = ap (λ ls. [] ∷ ls) whole
+    by false = ap (with_byte b) whole ∙ with_byte-more b (lines_in (take (suc i) (c ∷ cs))) (lines_in (drop (suc i) (c ∷ cs))) (lines-some c (take i cs))
+
+-- two parts, of which the first ends at a line feed
+pub lines-split : (xs : List ℕ) (i : ℕ) → i < length xs → get_or xs i 0 ≡ line_feed → lines_in xs ≡ lines_in (take (suc i) xs) ++ lines_in (drop (suc i) xs)
+lines-split [] i less here = absurd (omega (arith, less))
+lines-split (b ∷ bs) zero less here =
+    ap (λ t. if t then [] ∷ lines_in bs else with_byte b (lines_in bs)) (eq-eqb b line_feed here)
+    ∙ ap (λ t. (if t then [] ∷ [] else with_byte b []) ++ lines_in bs) (sym (eq-eqb b line_feed here))
+lines-split (b ∷ []) (suc i) less here = absurd (omega (arith, less))
+lines-split (b ∷ c ∷ cs) (suc i) less here = split-step b c cs i (lines-split (c ∷ cs) i (omega (arith, less)) here)
 
 pub not_utf8 : (bs : List ℕ) → ¬ (IsUtf8 bs) → is_utf8 bs ≡ false
 not_utf8 bs n = by (is_utf8 bs) refl

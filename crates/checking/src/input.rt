@@ -1,5 +1,5 @@
 //! The lines of an input.
-ghost use Rattle.std.specs.Prelude.{◌≡◌, ◌≢◌, ◌<◌, ◌≤◌, ◌∷◌, ℕ, length, slice_index, option_map, IfOk};
+ghost use Rattle.std.specs.Prelude.{◌≡◌, ◌≢◌, ◌<◌, ◌≤◌, ◌+◌, ◌∷◌, ◌++◌, [], ℕ, length, slice_index, option_map, IfOk};
 ghost use Rattle.checking.specs.Input.{line_feed, lines_in, is_blank, value_in};
 ghost use Rattle.ejson_value.specs.View.{view};
 
@@ -37,6 +37,23 @@ pub fn first_line(input: &[u8]) -> (&[u8], &[u8])
     let end = line_end(input);
     if end < input.len() {
         (&input[..end], &input[end + 1..])
+    } else {
+        (input, &[])
+    }
+}
+
+/// The lines up to that which has the byte at this place, and what follows.
+pub fn split_lines(input: &[u8], place: usize) -> (&[u8], &[u8])
+    ensures lines { lines_in input.now ≡ lines_in result.0.now ++ lines_in result.1.now }
+    ensures bytes { length result.0.now + length result.1.now ≡ length input.now }
+    ensures some { result.0.now ≡ [] → input.now ≡ [] }
+{
+    if place >= input.len() {
+        return (input, &[]);
+    }
+    let end = place + line_end(&input[place..]);
+    if end < input.len() {
+        (&input[..end + 1], &input[end + 1..])
     } else {
         (input, &[])
     }

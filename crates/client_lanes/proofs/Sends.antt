@@ -17,9 +17,6 @@ use Rattle.app_model.specs.contracts.publication.Projection as projection
 use Rattle.app_model.specs.contracts.publication.Publication as publication
 use Rattle.client_core.specs.contracts.client.Client as client
 use Rattle.client_lanes.specs.contracts.lanes.Lane as lane
-use Rattle.client_lanes.specs.contracts.lanes.Both as pair
-use Rattle.client_lanes.specs.contracts.lanes.LaneLanes.TheImpl.{ghosts}
-use Rattle.client_lanes.proofs.lanes.Both.TheSendSync as both
 use Rattle.ejson_value.specs.contracts.text.Text as text_row
 use Rattle.std.specs.contracts.alloc.Global as global_row
 use Rattle.client_parts.specs.contracts.calls.Call as ccall
@@ -376,9 +373,6 @@ lane_send = search (text.the_send, connection_send, maps.crosses, std.crosses, s
 pub lane_whole : IsSend lane.the_row
 lane_whole = search (lane_send, sendable) depth 60 fits 20000
 
-pub pair_whole : IsSend (pair.the_row lane.the_row ghosts)
-pair_whole = both.the_send lane.the_row ghosts lane_whole
-
 pub text_whole : IsSync text_row.the_row
 text_whole = search (text.the_sync) depth 5
 
@@ -391,8 +385,3 @@ pub captures_4 : (i : ℕ) (δ : Ty) (ν : Sym) (A B C D : RattleType) → IsSen
 captures_4 i δ ν A B C D a b c d =
     let Ts : List RattleType = A ∷ B ∷ C ∷ D ∷ [] in
     param_send i _ (arg_send δ no _ (recorded_send (field_at ν Ts).row _ _ (type_at ν Ts).to_one (struct_send (shape (type_at ν Ts)) (a, (b, (c, (d, tt)))))))
-
-pub captures_5 : (i : ℕ) (δ : Ty) (ν : Sym) (A B C D E : RattleType) → IsSend A → IsSend B → IsSend C → IsSend D → IsSend E → IsSend (param i (arg δ no (TupleAt ν (A ∷ B ∷ C ∷ D ∷ E ∷ []))))
-captures_5 i δ ν A B C D E a b c d e =
-    let Ts : List RattleType = A ∷ B ∷ C ∷ D ∷ E ∷ [] in
-    param_send i _ (arg_send δ no _ (recorded_send (field_at ν Ts).row _ _ (type_at ν Ts).to_one (struct_send (shape (type_at ν Ts)) (a, (b, (c, (d, (e, tt))))))))

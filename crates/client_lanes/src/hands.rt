@@ -7,7 +7,7 @@ ghost use Rattle.lane_laws.specs.Lanes.{AreTold};
 ghost use Rattle.lane_laws.specs.Unions.{AreLanes};
 ghost use Rattle.client_lanes.specs.Visits.{AreReady, Tells, Leads};
 
-use crate::lanes::{Both, Clients, Lane};
+use crate::lanes::{Clients, Lane, Three, Two};
 use crate::telling::{either, told_in_turn};
 use ejson_value::{Mem, Text};
 use heard_messages::Heard;
@@ -40,6 +40,29 @@ fn told_alone(
     told_in_turn(alloc, machine, &mut news, &mut heard, names, lane)
 }
 
+// The same of one lane by a thread, while this one waits: a thread that has just been made may wait for
+// the processor of the one that made it.
+fn told_beside<R: Threads + Sync>(
+    rt: &R,
+    alloc: Global,
+    machine: &Machine,
+    names: &[Text],
+    lane: &mut Lane,
+) -> Result<bool, Mem>
+    requires { AreReady machine.now lane.old }
+    ensures { AreTold (Tells machine.now) (Leads machine.now) names.now lane.old lane.new result }
+{
+    let (told, _) = join_mut(
+        rt,
+        &mut || -> Result<bool, Mem>
+            requires { AreReady machine.now lane.now }
+            ensures { AreTold (Tells machine.entry.now) (Leads machine.entry.now) names.entry.now lane.entry.now lane.exit.now result }
+        { told_alone(alloc, machine, names, lane) },
+        &mut || {},
+    );
+    told
+}
+
 // The same of two lanes, each by a thread.
 fn two_told<R: Threads + Sync>(
     rt: &R,
@@ -62,9 +85,9 @@ fn two_told<R: Threads + Sync>(
             ensures { AreTold (Tells machine.entry.now) (Leads machine.entry.now) names.entry.now one.entry.now one.exit.now result }
         { told_alone(alloc, machine, names, one) },
         &mut || -> Result<bool, Mem>
-            requires { AreReady machine.now other.now }
+            requires { IsSync R.row × AreReady machine.now other.now }
             ensures { AreTold (Tells machine.entry.now) (Leads machine.entry.now) names.entry.now other.entry.now other.exit.now result }
-        { told_alone(alloc, machine, names, other) },
+        { told_beside(rt, alloc, machine, names, other) },
     );
     either(first, second)
 }
@@ -75,7 +98,7 @@ fn told_by_two<R: Threads + Sync>(
     alloc: Global,
     machine: &Machine,
     names: &[Text],
-    lanes: &mut Both<Lane>,
+    lanes: &mut Two,
 ) -> Result<bool, Mem>
     requires { AreReady machine.now lanes.old }
     ensures { AreTold (Tells machine.now) (Leads machine.now) names.now lanes.old lanes.new result }
@@ -83,14 +106,14 @@ fn told_by_two<R: Threads + Sync>(
     two_told(rt, alloc, machine, names, &mut lanes.one, &mut lanes.other)
 }
 
-// The same of two pairs of lanes, each by two threads.
-fn pairs_told<R: Threads + Sync>(
+// The same of three lanes, each by a thread.
+fn three_told<R: Threads + Sync>(
     rt: &R,
     alloc: Global,
     machine: &Machine,
     names: &[Text],
-    one: &mut Both<Lane>,
-    other: &mut Both<Lane>,
+    one: &mut Lane,
+    other: &mut Two,
 ) -> Result<bool, Mem>
     requires lanes { AreLanes one.old other.old }
     requires one { AreReady machine.now one.old }
@@ -101,9 +124,9 @@ fn pairs_told<R: Threads + Sync>(
     let (first, second) = join_mut(
         rt,
         &mut || -> Result<bool, Mem>
-            requires { IsSync R.row × AreReady machine.now one.now }
+            requires { AreReady machine.now one.now }
             ensures { AreTold (Tells machine.entry.now) (Leads machine.entry.now) names.entry.now one.entry.now one.exit.now result }
-        { told_by_two(rt, alloc, machine, names, one) },
+        { told_alone(alloc, machine, names, one) },
         &mut || -> Result<bool, Mem>
             requires { IsSync R.row × AreReady machine.now other.now }
             ensures { AreTold (Tells machine.entry.now) (Leads machine.entry.now) names.entry.now other.entry.now other.exit.now result }
@@ -112,7 +135,50 @@ fn pairs_told<R: Threads + Sync>(
     either(first, second)
 }
 
+// The same.
+fn told_by_three<R: Threads + Sync>(
+    rt: &R,
+    alloc: Global,
+    machine: &Machine,
+    names: &[Text],
+    lanes: &mut Three,
+) -> Result<bool, Mem>
+    requires { AreReady machine.now lanes.old }
+    ensures { AreTold (Tells machine.now) (Leads machine.now) names.now lanes.old lanes.new result }
+{
+    three_told(rt, alloc, machine, names, &mut lanes.one, &mut lanes.other)
+}
+
 // The same of four lanes, each by a thread.
+fn four_told<R: Threads + Sync>(
+    rt: &R,
+    alloc: Global,
+    machine: &Machine,
+    names: &[Text],
+    one: &mut Lane,
+    other: &mut Three,
+) -> Result<bool, Mem>
+    requires lanes { AreLanes one.old other.old }
+    requires one { AreReady machine.now one.old }
+    requires other { AreReady machine.now other.old }
+    ensures told { AreTold (Tells machine.now) (Leads machine.now) names.now (union text_cmp one.old other.old) (union text_cmp one.new other.new) result }
+    ensures lanes { AreLanes one.new other.new }
+{
+    let (first, second) = join_mut(
+        rt,
+        &mut || -> Result<bool, Mem>
+            requires { AreReady machine.now one.now }
+            ensures { AreTold (Tells machine.entry.now) (Leads machine.entry.now) names.entry.now one.entry.now one.exit.now result }
+        { told_alone(alloc, machine, names, one) },
+        &mut || -> Result<bool, Mem>
+            requires { IsSync R.row × AreReady machine.now other.now }
+            ensures { AreTold (Tells machine.entry.now) (Leads machine.entry.now) names.entry.now other.entry.now other.exit.now result }
+        { told_by_three(rt, alloc, machine, names, other) },
+    );
+    either(first, second)
+}
+
+// The same.
 fn told_by_four<R: Threads + Sync>(
     rt: &R,
     alloc: Global,
@@ -123,7 +189,7 @@ fn told_by_four<R: Threads + Sync>(
     requires { AreReady machine.now lanes.old }
     ensures { AreTold (Tells machine.now) (Leads machine.now) names.now lanes.old lanes.new result }
 {
-    pairs_told(rt, alloc, machine, names, &mut lanes.one, &mut lanes.other)
+    four_told(rt, alloc, machine, names, &mut lanes.one, &mut lanes.other)
 }
 
 // Whether there is a processor for each lane.

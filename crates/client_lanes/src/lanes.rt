@@ -29,8 +29,8 @@ pub trait Lanes {
     fn known(&self)
         ensures { IsSorted text_cmp (clients self.now) };
 
-    /// How many they are.
-    fn len(&self) -> usize;
+    /// How many clients the lane has that has the fewest.
+    fn fewest(&self) -> usize;
 
     /// Whether a client of this name is among them.
     fn has(&self, name: &Text) -> bool
@@ -122,7 +122,7 @@ impl Lanes for Lane {
         let _ = &self.conns;
     }
 
-    fn len(&self) -> usize {
+    fn fewest(&self) -> usize {
         self.conns.len()
     }
 
@@ -177,12 +177,12 @@ impl Lanes for Lane {
 
 /// Two such, of which none has a client of the other's names.
 #[derive(Drop)]
-pub struct Both<A: Lanes> {
+pub struct Both<A: Lanes, B: Lanes> {
     pub(crate) one: A,
-    pub(crate) other: A,
+    pub(crate) other: B,
 }
 
-impl<A: Lanes> Model for Both<A> {
+impl<A: Lanes, B: Lanes> Model for Both<A, B> {
     ghost use Rattle.std.specs.Coded.{codes};
     ghost use Rattle.value_model.specs.Coding.{val_code};
     ghost use Rattle.selector_match.specs.Coding.{query_code};
@@ -198,12 +198,12 @@ impl<A: Lanes> Model for Both<A> {
 
     ghost coded = { Prim.hlevel (codes, val_code, query_code, window_code, documents_code) };
 
-    ghost view = { λ a. union text_cmp (A.clients a.one) (A.clients a.other) };
+    ghost view = { λ a. union text_cmp (A.clients a.one) (B.clients a.other) };
 
-    ghost invariant = { λ a. AreLanes (A.clients a.one) (A.clients a.other) };
+    ghost invariant = { λ a. AreLanes (A.clients a.one) (B.clients a.other) };
 }
 
-impl<A: Lanes> Lanes for Both<A> {
+impl<A: Lanes, B: Lanes> Lanes for Both<A, B> {
     ghost clients = { λ a. a };
 
     fn known(&self) {
@@ -211,8 +211,8 @@ impl<A: Lanes> Lanes for Both<A> {
         self.other.known();
     }
 
-    fn len(&self) -> usize {
-        self.one.len().saturating_add(self.other.len())
+    fn fewest(&self) -> usize {
+        self.one.fewest().min(self.other.fewest())
     }
 
     fn has(&self, name: &Text) -> bool {
@@ -228,7 +228,7 @@ impl<A: Lanes> Lanes for Both<A> {
     }
 
     fn put(&mut self, name: Text, connection: Connection) -> Result<(), Mem> {
-        if self.one.len() <= self.other.len() {
+        if self.one.fewest() <= self.other.fewest() {
             self.one.put(name, connection)
         } else {
             self.other.put(name, connection)
@@ -288,8 +288,14 @@ impl<A: Lanes> Lanes for Both<A> {
     }
 }
 
+/// Two lanes.
+pub type Two = Both<Lane, Lane>;
+
+/// Three lanes.
+pub type Three = Both<Lane, Two>;
+
 /// The clients of a world, in four lanes.
-pub type Clients = Both<Both<Lane>>;
+pub type Clients = Both<Lane, Three>;
 
 fn no_lane(alloc: Global) -> Lane
     ensures { result ≡ [] }
@@ -299,7 +305,7 @@ fn no_lane(alloc: Global) -> Lane
     }
 }
 
-fn no_lanes(alloc: Global) -> Both<Lane>
+fn no_two(alloc: Global) -> Two
     ensures { result ≡ [] }
 {
     Both {
@@ -308,12 +314,21 @@ fn no_lanes(alloc: Global) -> Both<Lane>
     }
 }
 
+fn no_three(alloc: Global) -> Three
+    ensures { result ≡ [] }
+{
+    Both {
+        one: no_lane(alloc),
+        other: no_two(alloc),
+    }
+}
+
 /// No client is there yet.
 pub fn no_clients(alloc: Global) -> Clients
     ensures { result ≡ [] }
 {
     Both {
-        one: no_lanes(alloc),
-        other: no_lanes(alloc),
+        one: no_lane(alloc),
+        other: no_three(alloc),
     }
 }

@@ -1,16 +1,19 @@
 -- Lines that are read one by one.
-use Rattle.std.proofs.Common.{◌≡◌, ℕ, ◌+◌, ◌<◌, ◌≤◌, List, [], ◌∷◌, ◌++◌, length, refl, ap, sym, subst, ◌∙◌, arith}
-use Rattle.std.proofs.lemmas.List.{length-append}
+use Rattle.std.proofs.Common.{◌≡◌, ℕ, ◌+◌, ◌<◌, ◌≤◌, List, [], ◌∷◌, ◌++◌, length, ◌==◌, true, Result, Ok, IfOk, refl, ap, sym, subst, ◌∙◌, arith}
+use Rattle.std.proofs.lemmas.Bool.{eqb-true}
+use Rattle.std.proofs.lemmas.List.{length-append, append_assoc, append-nil}
 use Rattle.checking.specs.Input.{lines_in}
+use Rattle.checking.specs.InputLaws.{lines-none}
+use Rattle.world_commands.specs.declared.tasks.Batch.{Batch}
+use Rattle.world_commands.specs.declared.tasks.Halves.{Halves}
 use Rattle.world_commands.specs.declared.tasks.ReadLine.{ReadLine}
-use Rattle.world_commands.specs.Tasks.{IsRead, AreRead, texts_of}
+use Rattle.world_commands.specs.Tasks.{IsRead, AreRead, texts_of, Reads, ReadsAll, AreHalves}
 
 -- so far the first lines of these bytes are read, and these follow
 pub record HasRead (bytes : List ℕ) (rs : List ReadLine) (rest : List ℕ) : Type 0 where
   pub lines : lines_in bytes ≡ texts_of rs ++ lines_in rest
   pub read : AreRead rs
   pub shorter : length rs + length rest ≤ length bytes
-  pub begins : rs ≡ [] → rest ≡ bytes
 
 are_read_more : (rs : List ReadLine) (r : ReadLine) → AreRead rs → IsRead r → AreRead (rs ++ r ∷ [])
 are_read_more [] r p q = (q, tt)
@@ -20,10 +23,6 @@ texts_more : (rs : List ReadLine) (r : ReadLine) (ls : List (List ℕ)) → text
 texts_more [] r ls = refl
 texts_more (x ∷ rs) r ls = ap (λ ts. x.line.now ∷ ts) (texts_more rs r ls)
 
-one_not_none : (rs : List ReadLine) (r : ReadLine) → rs ++ r ∷ [] ≡ [] → ⊥
-one_not_none [] r e = cc e
-one_not_none (x ∷ rs) r e = cc e
-
 pub one_read : (bytes : List ℕ) (rs now : List ReadLine) (r : ReadLine) (rest more : List ℕ) → HasRead bytes rs rest → now ≡ rs ++ r ∷ [] → IsRead r →
     lines_in rest ≡ r.line.now ∷ lines_in more → length more < length rest → HasRead bytes now more
 one_read bytes rs now r rest more h pushed is cut less =
@@ -31,5 +30,73 @@ one_read bytes rs now r rest more h pushed is cut less =
       lines = h.lines ∙ (ap (λ ls. texts_of rs ++ ls) cut ∙ sym (texts_more rs r (lines_in more)));
       read = are_read_more rs r h.read is;
       shorter = omega (arith, h.shorter, less, length-append rs (r ∷ []));
-      begins = λ e. absurd (one_not_none rs r e);
     })
+
+nothing : (xs : List ℕ) → length xs ≡ 0 → xs ≡ []
+nothing [] e = refl
+nothing (x ∷ xs) e = cc e
+
+-- nothing follows any more
+pub all_read : (bytes : List ℕ) (rs : List ReadLine) (rest : List ℕ) → HasRead bytes rs rest → (length rest == 0) ≡ true → ReadsAll bytes rs
+all_read bytes rs rest h none = record {
+  lines = h.lines ∙ (ap (λ ls. texts_of rs ++ lines_in ls) (nothing rest (eqb-true (length rest) 0 none)) ∙ append-nil (texts_of rs));
+  read = h.read;
+  few = omega (arith, h.shorter);
+}
+
+none_left : (more bytes : List ℕ) → length more ≤ length bytes → bytes ≡ [] → more ≡ []
+none_left more bytes less none = nothing more (let none' : length bytes ≡ 0 = ap length none in omega (arith, less, none'))
+
+-- the first lines are read, and these bytes follow
+pub first_read : (bytes now : List ℕ) (b : Batch) → lines_in bytes ≡ lines_in now ++ lines_in b.rest.now → length now + length b.rest.now ≡ length bytes → (now ≡ [] → bytes ≡ []) →
+    ReadsAll now b.read.items → Reads bytes b
+first_read bytes now b cut sizes begins r = record {
+  lines = cut ∙ ap (λ ls. ls ++ lines_in b.rest.now) r.lines;
+  read = r.read;
+  shorter = omega (arith, r.few, sizes);
+  some = λ none. none_left b.rest.now bytes (omega (arith, sizes)) (begins (lines-none now (r.lines ∙ ap texts_of none)));
+}
+
+texts_both : (xs ys : List ReadLine) → texts_of (xs ++ ys) ≡ texts_of xs ++ texts_of ys
+texts_both [] ys = refl
+texts_both (x ∷ xs) ys = ap (λ ts. x.line.now ∷ ts) (texts_both xs ys)
+
+are_read_both : (xs ys : List ReadLine) → AreRead xs → AreRead ys → AreRead (xs ++ ys)
+are_read_both [] ys p q = q
+are_read_both (x ∷ xs) ys p q = (p.0, are_read_both xs ys p.1 q)
+
+first_none : (xs ys : List ReadLine) → xs ++ ys ≡ [] → xs ≡ []
+first_none [] ys e = refl
+first_none (x ∷ xs) ys e = cc e
+
+-- what was read, where it was
+pub if_ok : {A E : Type 0} (r : Result A E) (a : A) → r ≡ Ok a → (P : A → Type 0) → IfOk r P → P a
+if_ok {A} {E} r a is P p = subst (λ (x : Result A E). IfOk x P) is p
+
+-- both parts of the first lines are read
+pub both_read : (bytes : List ℕ) (h : Halves) (xs ys : List ReadLine) (b : Batch) → ReadsAll h.one.now xs → ReadsAll h.other.now ys → b.read.items ≡ xs ++ ys → b.rest.now ≡ h.rest.now →
+    AreHalves bytes h → Reads bytes b
+both_read bytes h xs ys b p q items rest cut = record {
+  lines =
+      cut.lines
+      ∙ (ap (λ ls. ls ++ (lines_in h.other.now ++ lines_in h.rest.now)) p.lines
+      ∙ (ap (λ ls. texts_of xs ++ (ls ++ lines_in h.rest.now)) q.lines
+      ∙ (sym (append_assoc (texts_of xs) (texts_of ys) (lines_in h.rest.now))
+      ∙ (ap (λ ls. ls ++ lines_in h.rest.now) (sym (texts_both xs ys) ∙ ap texts_of (sym items))
+      ∙ ap (λ more. texts_of b.read.items ++ lines_in more) (sym rest)))));
+  read = subst (λ rs. AreRead rs) (sym items) (are_read_both xs ys p.read q.read);
+  shorter =
+      let one : length b.read.items ≡ length xs + length ys = ap length items ∙ length-append xs ys in
+      let other : length b.rest.now ≡ length h.rest.now = ap length rest in
+      omega (arith, p.few, q.few, cut.shared, one, other);
+  some = λ none. rest ∙ cut.some (lines-none h.one.now (p.lines ∙ ap texts_of (first_none xs ys (sym items ∙ none))));
+}
+
+-- the parts of what is cut twice
+pub are_halves : (bytes now : List ℕ) (h : Halves) → lines_in bytes ≡ lines_in now ++ lines_in h.rest.now → length now + length h.rest.now ≡ length bytes → (now ≡ [] → bytes ≡ []) →
+    lines_in now ≡ lines_in h.one.now ++ lines_in h.other.now → length h.one.now + length h.other.now ≡ length now → (h.one.now ≡ [] → now ≡ []) → AreHalves bytes h
+are_halves bytes now h cut sizes begins again parts first = record {
+  lines = cut ∙ (ap (λ ls. ls ++ lines_in h.rest.now) again ∙ append_assoc (lines_in h.one.now) (lines_in h.other.now) (lines_in h.rest.now));
+  shared = omega (arith, sizes, parts);
+  some = λ none. none_left h.rest.now bytes (omega (arith, sizes)) (begins (first none));
+}

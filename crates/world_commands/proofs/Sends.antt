@@ -29,7 +29,6 @@ use Rattle.world_events.specs.contracts.event.Event as event
 use Rattle.std.proofs.vec.Vec.TheSendSync as vec
 use Rattle.world_commands.specs.contracts.tasks.Task as task
 use Rattle.world_commands.specs.contracts.tasks.ReadLine as line
-use Rattle.world_commands.specs.contracts.tasks.Batch as batch
 
 -- the parts of a value that hold no value
 ruleset parts = (bytes.the_send, bytes.the_sync, text.the_send, text.the_sync, named.the_send, named.the_sync, whole.the_send, whole.the_sync, global.the_send, global.the_sync)
@@ -93,6 +92,3 @@ task_send = search (text.the_send, op_send, event_send, maps.crosses, std.crosse
 
 pub line_send : (a : NamedLft) → IsSend (line.the_field a).row
 line_send a = search (task_send, maps.crosses, std.crosses, sendable) depth 60 fits 20000
-
-pub batch_send : (a : NamedLft) → IsSend (batch.the_field a).row
-batch_send a = search (line_send, maps.crosses, std.crosses, sendable) depth 60 fits 20000

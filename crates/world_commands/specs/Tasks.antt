@@ -7,6 +7,7 @@ use Rattle.world_commands.specs.declared.tasks.Task.{Task}
 use Rattle.world_commands.specs.declared.tasks.Task.TheVariants as task
 use Rattle.world_commands.specs.declared.tasks.ReadLine.{ReadLine}
 use Rattle.world_commands.specs.declared.tasks.Batch.{Batch}
+use Rattle.world_commands.specs.declared.tasks.Halves.{Halves}
 use Rattle.world_commands.specs.Replay.{event_of, events_of, bad_line, printed, all_bytes}
 use Rattle.world_commands.specs.Stepping.{GivesEventOf, IsOperation}
 
@@ -34,6 +35,18 @@ pub record Reads (bytes : List ℕ) (b : Batch) : Type 0 where
   pub read : AreRead b.read.items
   pub shorter : length b.read.items + length b.rest.now ≤ length bytes
   pub some : b.read.items ≡ [] → b.rest.now ≡ []
+
+-- each of the lines of these bytes is read
+pub record ReadsAll (bytes : List ℕ) (rs : List ReadLine) : Type 0 where
+  pub lines : lines_in bytes ≡ texts_of rs
+  pub read : AreRead rs
+  pub few : length rs ≤ length bytes
+
+-- the first lines of these bytes, in two parts, and what follows; the first part has none only where nothing follows
+pub record AreHalves (bytes : List ℕ) (h : Halves) : Type 0 where
+  pub lines : lines_in bytes ≡ lines_in h.one.now ++ (lines_in h.other.now ++ lines_in h.rest.now)
+  pub shared : length h.one.now + (length h.other.now + length h.rest.now) ≡ length bytes
+  pub some : h.one.now ≡ [] → h.rest.now ≡ []
 
 -- what a world writes for these lines
 abbrev pub written : World → List (List ℕ) → List ℕ

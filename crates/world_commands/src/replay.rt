@@ -19,6 +19,11 @@ use read_applications::read_application;
 use std::alloc::Global;
 use world_core::World;
 
+// How many bytes the first lines have that are read at once, and how many those that follow have at most.
+const FIRST_BYTES: usize = 65_536;
+
+const MOST_BYTES: usize = 1_048_576;
+
 // The application of the first line, if it describes one.
 fn read_app(alloc: Global, line: &[u8]) -> Result<Option<App>, Mem>
     ensures app { IfOk result (λ app. app ≡ app_of (line.now ∷ [])) }
@@ -62,9 +67,11 @@ fn run_world<H: Hands, R: Readers>(
     ensures events { OnOk result (AreEvents (events_of (lines_in lines.now))) }
 {
     let mut done = Vec::new(alloc);
-    let mut batch = read_lines(alloc, lines)?;
+    let mut bytes = FIRST_BYTES;
+    let mut batch = read_lines(alloc, lines, bytes)?;
     let mut number = 2;
     while !batch.read.is_empty() {
+        bytes = bytes.saturating_mul(2).min(MOST_BYTES);
         let (ran, next) = readers.run_and_read(
             hands,
             alloc,
@@ -74,6 +81,7 @@ fn run_world<H: Hands, R: Readers>(
             output,
             done,
             batch.rest,
+            bytes,
         );
         if let Some(bad) = ran? {
             return Ok(Some(bad));

@@ -165,7 +165,7 @@ pub fn run_plain<I: Source, O: Sink>(
     run_by(&InTurn, &Alone, alloc, words, input, output, reason, left)
 }
 
-/// The same, with threads of this runtime: lines of a replay are read by one of them while those before
+/// The same, with threads of this runtime: lines of a replay are read by two of them while those before
 /// them run, and clients are told by some where a world has much to tell them.
 pub fn run_on<R: Threads + Sync, I: Source, O: Sink>(
     rt: &R,

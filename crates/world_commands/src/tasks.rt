@@ -1,10 +1,10 @@
 //! Lines of a replay, as they are read.
-ghost use Rattle.std.specs.Prelude.{◌≡◌, false, IfOk, IfSome};
+ghost use Rattle.std.specs.Prelude.{◌≡◌, ℕ, List, false, IfOk, IfSome};
 ghost use Rattle.checking.specs.Input.{lines_in, is_blank};
 ghost use Rattle.world_commands.specs.Stepping.{GivesEventOf, IsOperation};
-ghost use Rattle.world_commands.specs.Tasks.{IsTask, Reads};
+ghost use Rattle.world_commands.specs.Tasks.{IsTask, Reads, ReadsAll, AreHalves};
 
-use checking::{first_line, is_blank, read_value};
+use checking::{first_line, is_blank, read_value, split_lines};
 use collection_store::Op;
 use ejson_value::{Mem, Text};
 use json::Scratch;
@@ -12,9 +12,6 @@ use operation_reading::operation_told;
 use std::alloc::Global;
 use std::str;
 use world_events::{Event, LineFault};
-
-// A batch has the lines that begin in so many bytes.
-const BATCH_BYTES: usize = 65_536;
 
 /// What a line asks for.
 #[derive(Drop)]
@@ -113,18 +110,65 @@ fn task_of(alloc: Global, line: &[u8], scratch: &mut Scratch) -> Result<Task, Me
     }
 }
 
-/// Reads those of the lines that begin in the first 64 KiB.
-pub fn read_lines<'a>(alloc: Global, lines: &'a [u8]) -> Result<Batch<'a>, Mem>
-    ensures { IfOk result (Reads lines.now) }
+/// Reads the lines.
+pub fn read_all<'a>(alloc: Global, lines: &'a [u8]) -> Result<Vec<ReadLine<'a>>, Mem>
+    ensures { IfOk result (λ read. ReadsAll lines.now read.items) }
 {
     let mut scratch = Scratch::new(alloc);
     let mut read = Vec::new(alloc);
     let mut rest = lines;
-    while !rest.is_empty() && lines.len() - rest.len() < BATCH_BYTES {
+    while !rest.is_empty() {
         let (line, more) = first_line(rest);
         let task = task_of(alloc, line, &mut scratch)?;
         read.push(ReadLine { line, task })?;
         rest = more;
     }
-    Ok(Batch { read, rest })
+    Ok(read)
+}
+
+/// Reads the first lines, up to that which has the byte at this place.
+pub fn read_lines<'a>(alloc: Global, lines: &'a [u8], place: usize) -> Result<Batch<'a>, Mem>
+    ensures { IfOk result (Reads lines.now) }
+{
+    let (now, rest) = split_lines(lines, place);
+    Ok(Batch {
+        read: read_all(alloc, now)?,
+        rest,
+    })
+}
+
+/// First lines that are to be read in two parts, and the lines that follow.
+#[derive(Clone, Copy)]
+pub struct Halves<'a> {
+    pub one: &'a [u8],
+    pub other: &'a [u8],
+    pub rest: &'a [u8],
+}
+
+/// The first lines, up to that which has the byte at this place, in two parts.
+pub fn in_halves<'a>(lines: &'a [u8], place: usize) -> Halves<'a>
+    ensures { AreHalves lines.now result }
+{
+    let (now, rest) = split_lines(lines, place);
+    let (one, other) = split_lines(now, now.len() / 2);
+    Halves { one, other, rest }
+}
+
+/// Both parts, as each was read.
+pub fn joined<'a>(
+    halves: Halves<'a>,
+    one: Result<Vec<ReadLine<'a>>, Mem>,
+    other: Result<Vec<ReadLine<'a>>, Mem>,
+) -> Result<Batch<'a>, Mem>
+    requires one { IfOk one (λ read. ReadsAll halves.one.now read.items) }
+    requires other { IfOk other (λ read. ReadsAll halves.other.now read.items) }
+    ensures { IfOk result (λ batch. (lines : List ℕ) → AreHalves lines halves.entry → Reads lines batch) }
+{
+    let mut read = one?;
+    let mut more = other?;
+    read.append(&mut more)?;
+    Ok(Batch {
+        read,
+        rest: halves.rest,
+    })
 }

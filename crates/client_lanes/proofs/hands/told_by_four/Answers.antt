@@ -7,15 +7,15 @@ use Rattle.client_lanes.specs.Visits.{AreReady, Tells, Leads}
 use Rattle.client_lanes.proofs.Sides.{ready_left, ready_right}
 use Rattle.client_lanes.proofs.hands.told_by_four.Goals as goal
 
-pub pairs_told-requires-clause-one : goal.pairs_told-requires-clause-one
-pairs_told-requires-clause-one g c κs within =
+pub four_told-requires-clause-one : goal.four_told-requires-clause-one
+four_told-requires-clause-one g c κs within =
     ready_left c.args.machine.now c.lanes.inside.one c.lanes.inside.other (subst (λ (x : Named AConnection). AreReady c.args.machine.now x) (sym c.lanes.view_is) c.requires)
 
-pub pairs_told-requires-clause-other : goal.pairs_told-requires-clause-other
-pairs_told-requires-clause-other g c κs within =
+pub four_told-requires-clause-other : goal.four_told-requires-clause-other
+four_told-requires-clause-other g c κs within =
     ready_right c.args.machine.now c.lanes.inside.one c.lanes.inside.other c.lanes.invariant.apart (subst (λ (x : Named AConnection). AreReady c.args.machine.now x) (sym c.lanes.view_is) c.requires)
 
 pub returns : goal.returns
 returns g c =
     let m = c.args.machine.now in
-    subst (λ (x : Named AConnection). AreTold (Tells m) (Leads m) c.args.names.now x (union text_cmp c.pairs_told.new.one c.pairs_told.new.other) c.pairs_told.result) c.lanes.view_is c.pairs_told.ensures.told
+    subst (λ (x : Named AConnection). AreTold (Tells m) (Leads m) c.args.names.now x (union text_cmp c.four_told.new.one c.four_told.new.other) c.four_told.result) c.lanes.view_is c.four_told.ensures.told

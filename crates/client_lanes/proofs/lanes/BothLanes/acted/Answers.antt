@@ -13,43 +13,49 @@ use Rattle.client_lanes.proofs.lanes.BothLanes.acted.Goals as goal
 pub acted-requires : goal.acted-requires
 acted-requires g c =
     let clients = g.A.Lanes.clients in
+    let others = g.B.Lanes.clients in
     let one = clients c.self.inside.one in
-    let other = clients c.self.inside.other in
+    let other = others c.self.inside.other in
     if_left (IsReady c.args.machine.now c.args.name.now) one other c.args.name.now (sym c.has.ensures ∙ c.if-has.true) (subst (λ (x : Named AConnection). IfSome (at text_cmp x c.args.name.now) (IsReady c.args.machine.now c.args.name.now)) (sym c.self.view_is) c.requires)
 
 pub acted-requires-else-has : goal.acted-requires-else-has
 acted-requires-else-has g c =
     let clients = g.A.Lanes.clients in
+    let others = g.B.Lanes.clients in
     let one = clients c.self.inside.one in
-    let other = clients c.self.inside.other in
+    let other = others c.self.inside.other in
     if_right (IsReady c.args.machine.now c.args.name.now) one other c.args.name.now (sym c.has.ensures ∙ c.if-has.false) (subst (λ (x : Named AConnection). IfSome (at text_cmp x c.args.name.now) (IsReady c.args.machine.now c.args.name.now)) (sym c.self.view_is) c.requires)
 
 pub invariant_of-self : goal.invariant_of-self
 invariant_of-self g c =
     let clients = g.A.Lanes.clients in
+    let others = g.B.Lanes.clients in
     let one = clients c.self.inside.one in
-    let other = clients c.self.inside.other in
+    let other = others c.self.inside.other in
     (visit_left (Acts c.args.act c.args.machine.now) (c.args.machine.now, Ok (answer.Idle, None)) one (clients c.acted.new.self) other c.args.name.now (c.acted.new.machine, c.acted.result) (sym c.has.ensures ∙ c.if-has.true) c.acted.ensures c.self.invariant).lanes
 
 pub invariant_of-self-else-has : goal.invariant_of-self-else-has
 invariant_of-self-else-has g c =
     let clients = g.A.Lanes.clients in
+    let others = g.B.Lanes.clients in
     let one = clients c.self.inside.one in
-    let other = clients c.self.inside.other in
-    (visit_right (Acts c.args.act c.args.machine.now) (c.args.machine.now, Ok (answer.Idle, None)) one other (clients c.acted-else-has.new.self) c.args.name.now (c.acted-else-has.new.machine, c.acted-else-has.result) (sym c.has.ensures ∙ c.if-has.false) c.acted-else-has.ensures c.self.invariant).lanes
+    let other = others c.self.inside.other in
+    (visit_right (Acts c.args.act c.args.machine.now) (c.args.machine.now, Ok (answer.Idle, None)) one other (others c.acted-else-has.new.self) c.args.name.now (c.acted-else-has.new.machine, c.acted-else-has.result) (sym c.has.ensures ∙ c.if-has.false) c.acted-else-has.ensures c.self.invariant).lanes
 
 pub returns-then-has : goal.returns-then-has
 returns-then-has g c =
     let clients = g.A.Lanes.clients in
+    let others = g.B.Lanes.clients in
     let one = clients c.self.inside.one in
-    let other = clients c.self.inside.other in
+    let other = others c.self.inside.other in
     subst (λ (x : Named AConnection). ActsIn c.args.act c.args.machine.now c.acted.new.machine x (union text_cmp (clients c.acted.new.self) other) c.args.name.now c.acted.result) c.self.view_is
     (visit_left (Acts c.args.act c.args.machine.now) (c.args.machine.now, Ok (answer.Idle, None)) one (clients c.acted.new.self) other c.args.name.now (c.acted.new.machine, c.acted.result) (sym c.has.ensures ∙ c.if-has.true) c.acted.ensures c.self.invariant).visit
 
 pub returns-else-has : goal.returns-else-has
 returns-else-has g c =
     let clients = g.A.Lanes.clients in
+    let others = g.B.Lanes.clients in
     let one = clients c.self.inside.one in
-    let other = clients c.self.inside.other in
-    subst (λ (x : Named AConnection). ActsIn c.args.act c.args.machine.now c.acted-else-has.new.machine x (union text_cmp one (clients c.acted-else-has.new.self)) c.args.name.now c.acted-else-has.result) c.self.view_is
-    (visit_right (Acts c.args.act c.args.machine.now) (c.args.machine.now, Ok (answer.Idle, None)) one other (clients c.acted-else-has.new.self) c.args.name.now (c.acted-else-has.new.machine, c.acted-else-has.result) (sym c.has.ensures ∙ c.if-has.false) c.acted-else-has.ensures c.self.invariant).visit
+    let other = others c.self.inside.other in
+    subst (λ (x : Named AConnection). ActsIn c.args.act c.args.machine.now c.acted-else-has.new.machine x (union text_cmp one (others c.acted-else-has.new.self)) c.args.name.now c.acted-else-has.result) c.self.view_is
+    (visit_right (Acts c.args.act c.args.machine.now) (c.args.machine.now, Ok (answer.Idle, None)) one other (others c.acted-else-has.new.self) c.args.name.now (c.acted-else-has.new.machine, c.acted-else-has.result) (sym c.has.ensures ∙ c.if-has.false) c.acted-else-has.ensures c.self.invariant).visit

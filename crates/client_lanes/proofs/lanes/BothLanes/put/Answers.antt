@@ -11,35 +11,41 @@ use Rattle.client_lanes.proofs.lanes.BothLanes.put.Goals as goal
 pub put-requires : goal.put-requires
 put-requires g c =
     let clients = g.A.Lanes.clients in
-    (free_in_both (clients c.self.inside.one) (clients c.self.inside.other) c.args.name (subst (λ (x : Named AConnection). at text_cmp x c.args.name ≡ None) (sym c.self.view_is) c.requires)).0
+    let others = g.B.Lanes.clients in
+    (free_in_both (clients c.self.inside.one) (others c.self.inside.other) c.args.name (subst (λ (x : Named AConnection). at text_cmp x c.args.name ≡ None) (sym c.self.view_is) c.requires)).0
 
-pub put-requires-else-len : goal.put-requires-else-len
-put-requires-else-len g c =
+pub put-requires-else-fewest : goal.put-requires-else-fewest
+put-requires-else-fewest g c =
     let clients = g.A.Lanes.clients in
-    (free_in_both (clients c.self.inside.one) (clients c.self.inside.other) c.args.name (subst (λ (x : Named AConnection). at text_cmp x c.args.name ≡ None) (sym c.self.view_is) c.requires)).1
+    let others = g.B.Lanes.clients in
+    (free_in_both (clients c.self.inside.one) (others c.self.inside.other) c.args.name (subst (λ (x : Named AConnection). at text_cmp x c.args.name ≡ None) (sym c.self.view_is) c.requires)).1
 
 pub invariant_of-self : goal.invariant_of-self
 invariant_of-self g c =
     let clients = g.A.Lanes.clients in
+    let others = g.B.Lanes.clients in
     let free = subst (λ (x : Named AConnection). at text_cmp x c.args.name ≡ None) (sym c.self.view_is) c.requires in
-    (put_in_left c.args.name c.args.connection (clients c.self.inside.one) (clients c.put.new.self) (clients c.self.inside.other) c.put.result free c.put.ensures.ok c.put.ensures.err c.self.invariant).lanes
+    (put_in_left c.args.name c.args.connection (clients c.self.inside.one) (clients c.put.new.self) (others c.self.inside.other) c.put.result free c.put.ensures.ok c.put.ensures.err c.self.invariant).lanes
 
-pub invariant_of-self-else-len : goal.invariant_of-self-else-len
-invariant_of-self-else-len g c =
+pub invariant_of-self-else-fewest : goal.invariant_of-self-else-fewest
+invariant_of-self-else-fewest g c =
     let clients = g.A.Lanes.clients in
+    let others = g.B.Lanes.clients in
     let free = subst (λ (x : Named AConnection). at text_cmp x c.args.name ≡ None) (sym c.self.view_is) c.requires in
-    (put_in_right c.args.name c.args.connection (clients c.self.inside.one) (clients c.self.inside.other) (clients c.put-else-len.new.self) c.put-else-len.result free c.put-else-len.ensures.ok c.put-else-len.ensures.err c.self.invariant).lanes
+    (put_in_right c.args.name c.args.connection (clients c.self.inside.one) (others c.self.inside.other) (others c.put-else-fewest.new.self) c.put-else-fewest.result free c.put-else-fewest.ensures.ok c.put-else-fewest.ensures.err c.self.invariant).lanes
 
-pub returns-then-len-clause-ok : goal.returns-then-len-clause-ok
-returns-then-len-clause-ok g c =
+pub returns-then-fewest-clause-ok : goal.returns-then-fewest-clause-ok
+returns-then-fewest-clause-ok g c =
     let clients = g.A.Lanes.clients in
+    let others = g.B.Lanes.clients in
     let free = subst (λ (x : Named AConnection). at text_cmp x c.args.name ≡ None) (sym c.self.view_is) c.requires in
-    let p = put_in_left c.args.name c.args.connection (clients c.self.inside.one) (clients c.put.new.self) (clients c.self.inside.other) c.put.result free c.put.ensures.ok c.put.ensures.err c.self.invariant in
-    subst (λ (x : Named AConnection). OnOk c.put.result (union text_cmp (clients c.put.new.self) (clients c.self.inside.other) ≡ insert_entry text_cmp x c.args.name c.args.connection)) c.self.view_is p.put
+    let p = put_in_left c.args.name c.args.connection (clients c.self.inside.one) (clients c.put.new.self) (others c.self.inside.other) c.put.result free c.put.ensures.ok c.put.ensures.err c.self.invariant in
+    subst (λ (x : Named AConnection). OnOk c.put.result (union text_cmp (clients c.put.new.self) (others c.self.inside.other) ≡ insert_entry text_cmp x c.args.name c.args.connection)) c.self.view_is p.put
 
-pub returns-else-len-clause-ok : goal.returns-else-len-clause-ok
-returns-else-len-clause-ok g c =
+pub returns-else-fewest-clause-ok : goal.returns-else-fewest-clause-ok
+returns-else-fewest-clause-ok g c =
     let clients = g.A.Lanes.clients in
+    let others = g.B.Lanes.clients in
     let free = subst (λ (x : Named AConnection). at text_cmp x c.args.name ≡ None) (sym c.self.view_is) c.requires in
-    let p = put_in_right c.args.name c.args.connection (clients c.self.inside.one) (clients c.self.inside.other) (clients c.put-else-len.new.self) c.put-else-len.result free c.put-else-len.ensures.ok c.put-else-len.ensures.err c.self.invariant in
-    subst (λ (x : Named AConnection). OnOk c.put-else-len.result (union text_cmp (clients c.self.inside.one) (clients c.put-else-len.new.self) ≡ insert_entry text_cmp x c.args.name c.args.connection)) c.self.view_is p.put
+    let p = put_in_right c.args.name c.args.connection (clients c.self.inside.one) (others c.self.inside.other) (others c.put-else-fewest.new.self) c.put-else-fewest.result free c.put-else-fewest.ensures.ok c.put-else-fewest.ensures.err c.self.invariant in
+    subst (λ (x : Named AConnection). OnOk c.put-else-fewest.result (union text_cmp (clients c.self.inside.one) (others c.put-else-fewest.new.self) ≡ insert_entry text_cmp x c.args.name c.args.connection)) c.self.view_is p.put

@@ -8,8 +8,8 @@ use Rattle.lane_laws.specs.Lanes.{AreTold}
 use Rattle.lane_laws.specs.Telling.{lanes_told, told_lanes}
 use Rattle.client_lanes.specs.Visits.{Tells, Leads}
 use Rattle.client_lanes.proofs.Told.{tells_lead}
-use Rattle.client_lanes.proofs.Sends.{captures_5, global_whole, machine_whole, pair_whole, text_whole}
-use Rattle.client_lanes.proofs.hands.pairs_told.Goals as goal
+use Rattle.client_lanes.proofs.Sends.{captures_4, global_whole, lane_whole, machine_whole, text_whole}
+use Rattle.client_lanes.proofs.hands.three_told.Goals as goal
 
 pub returns-clause-told : goal.returns-clause-told
 returns-clause-told g c =
@@ -38,4 +38,4 @@ returns-clause-lanes g c =
 
 pub join_mut-first-requires-send-F : goal.join_mut-first-requires-send-F
 join_mut-first-requires-send-F g c κs within =
-    captures_5 _ _ _ _ _ _ _ _ (shr_send _ _ _ c.type_bounds.sync-R) (shr_send _ _ _ global_whole) (shr_send _ _ _ machine_whole) (shr_slice_send _ _ _ text_whole) (mut_send _ _ _ pair_whole)
+    captures_4 _ _ _ _ _ _ _ (shr_send _ _ _ global_whole) (shr_send _ _ _ machine_whole) (shr_slice_send _ _ _ text_whole) (mut_send _ _ _ lane_whole)
