@@ -1,6 +1,7 @@
 -- The lines of an input, and the value that a line is.
-use Rattle.std.specs.Prelude.{ℕ, ◌<◌, ◌≤◌, ◌⊎◌, List, [], ◌∷◌, length, Bool, Option, None, ◌||◌, ◌==◌, if◌then◌else◌}
+use Rattle.std.specs.Prelude.{ℕ, ◌<◌, ◌≤◌, ◌⊎◌, List, [], ◌∷◌, ◌++◌, length, take, drop, Bool, Option, None, ◌||◌, ◌==◌, if◌then◌else◌}
 use Rattle.std.specs.List.{list_all}
+use Rattle.std.specs.Io.BufRead.{take_through}
 use Rattle.std.specs.Str.{is_utf8}
 use Rattle.std.specs.Result.{result_ok}
 use Rattle.value_model.specs.Val.{Val}
@@ -25,6 +26,10 @@ with_byte b (line ∷ lines) = (b ∷ line) ∷ lines
 abbrev pub lines_in : List ℕ → List (List ℕ)
 lines_in [] = []
 lines_in (b ∷ bytes) = if b == line_feed then [] ∷ lines_in bytes else with_byte b (lines_in bytes)
+
+-- the lines up to that which has the byte at this place, with its line feed, or all of them
+abbrev pub lines_to : ℕ → List ℕ → List ℕ
+lines_to place bytes = take place bytes ++ take_through line_feed (drop place bytes)
 
 -- the input keeps to the limits, or passes one
 pub record IsWithin (input : List ℕ) : Type 0 where

@@ -1,6 +1,8 @@
 -- The first lines of an input, and what follows them.
-use Rattle.std.specs.Prelude.{◌≡◌, ◌≢◌, ℕ, zero, suc, ◌<◌, List, [], ◌∷◌, ◌++◌, length, take, drop, get_or, Bool, true, false, if◌then◌else◌, ◌==◌, IsUtf8, refl}
-use Rattle.std.proofs.Common.{ap, sym, ◌∙◌, arith}
+use Rattle.std.specs.Prelude.{◌≡◌, ◌≢◌, ℕ, zero, suc, ◌+◌, ◌<◌, List, [], ◌∷◌, ◌++◌, length, take, drop, get_or, Bool, true, false, if◌then◌else◌, ◌==◌, IsUtf8, refl}
+use Rattle.std.proofs.Common.{ap, sym, ◌∙◌, arith, take_all, take-append-drop}
+use Rattle.std.specs.Io.BufRead.{take_through}
+use Rattle.std.proofs.BufReadLemmas.{take_through-nil}
 use Rattle.std.specs.Str.{is_utf8}
 use Rattle.std.proofs.lemmas.Str.{IsUtf8-from_is_utf8, is_utf8-from_IsUtf8}
 use Rattle.std.proofs.lemmas.Bool.{eqb-true}
@@ -9,7 +11,7 @@ use Rattle.std.specs.Prelude.{Option, None}
 use Rattle.std.specs.Result.{result_ok}
 use Rattle.value_model.specs.Val.{Val}
 use Rattle.ejson_codec.specs.Reading.{parsed}
-use Rattle.checking.specs.Input.{line_feed, with_byte, lines_in, value_in}
+use Rattle.checking.specs.Input.{line_feed, with_byte, lines_in, lines_to, value_in}
 
 not_feed : (b : ℕ) → b ≢ line_feed → (b == line_feed) ≡ false
 not_feed b n = by (b == line_feed) refl
@@ -75,6 +77,47 @@ lines-split (b ∷ bs) zero less here =
     ∙ ap (λ t. (if t then [] ∷ [] else with_byte b []) ++ lines_in bs) (sym (eq-eqb b line_feed here))
 lines-split (b ∷ []) (suc i) less here = absurd (omega (arith, less))
 lines-split (b ∷ c ∷ cs) (suc i) less here = split-step b c cs i (lines-split (c ∷ cs) i (omega (arith, less)) here)
+
+-- the bytes up to the first line feed, or all of them
+through-cut : (xs : List ℕ) (i : ℕ) → i < length xs → ((k : ℕ) → k < i → get_or xs k 0 ≢ line_feed) → get_or xs i 0 ≡ line_feed → take (suc i) xs ≡ take_through line_feed xs
+through-cut [] i less before here = absurd (omega (arith, less))
+through-cut (b ∷ bs) zero less before here = sym (ap (λ t. if t then b ∷ [] else b ∷ take_through line_feed bs) (eq-eqb b line_feed here))
+through-cut (b ∷ bs) (suc i) less before here =
+    ap (λ l. b ∷ l) (through-cut bs i (omega (arith, less)) (λ k h. before (suc k) (omega (arith, h))) here)
+    ∙ sym (ap (λ t. if t then b ∷ [] else b ∷ take_through line_feed bs) (not_feed b (before 0 (omega arith))))
+
+through-whole : (xs : List ℕ) → ((k : ℕ) → k < length xs → get_or xs k 0 ≢ line_feed) → xs ≡ take_through line_feed xs
+through-whole [] before = refl
+through-whole (b ∷ bs) before =
+    ap (λ l. b ∷ l) (through-whole bs (λ k h. before (suc k) (omega (arith, h))))
+    ∙ sym (ap (λ t. if t then b ∷ [] else b ∷ take_through line_feed bs) (not_feed b (before 0 (omega arith))))
+
+take-on : (p k : ℕ) (xs : List ℕ) → take (p + k) xs ≡ take p xs ++ take k (drop p xs)
+take-on zero k xs = let on : zero + k ≡ k = omega arith in ap (λ n. take n xs) on
+take-on (suc p) k [] = let on : suc p + k ≡ suc (p + k) = omega arith in ap (λ n. take n []) on ∙ sym (take_all k [] (omega arith))
+take-on (suc p) k (x ∷ xs) = let on : suc p + k ≡ suc (p + k) = omega arith in ap (λ n. take n (x ∷ xs)) on ∙ ap (λ l. x ∷ l) (take-on p k xs)
+
+-- the lines up to a place, where a line feed stands from there on, and where none does
+pub lines_to-cut : (xs : List ℕ) (place i : ℕ) → i < length (drop place xs) → ((k : ℕ) → k < i → get_or (drop place xs) k 0 ≢ line_feed) → get_or (drop place xs) i 0 ≡ line_feed →
+    take (place + suc i) xs ≡ lines_to place xs
+lines_to-cut xs place i less before here = take-on place (suc i) xs ∙ ap (λ l. take place xs ++ l) (through-cut (drop place xs) i less before here)
+
+pub lines_to-whole : (xs : List ℕ) (place : ℕ) → ((k : ℕ) → k < length (drop place xs) → get_or (drop place xs) k 0 ≢ line_feed) → xs ≡ lines_to place xs
+lines_to-whole xs place before = sym (take-append-drop place xs) ∙ ap (λ l. take place xs ++ l) (through-whole (drop place xs) before)
+
+first_none : (xs ys : List ℕ) → xs ++ ys ≡ [] → xs ≡ []
+first_none [] ys e = refl
+first_none (x ∷ xs) ys e = cc e
+
+other_none : (xs ys : List ℕ) → xs ++ ys ≡ [] → ys ≡ []
+other_none [] ys e = e
+other_none (x ∷ xs) ys e = cc e
+
+-- there are some, but of no bytes
+pub lines_to-none : (place : ℕ) (xs : List ℕ) → lines_to place xs ≡ [] → xs ≡ []
+lines_to-none place xs none =
+    let left : drop place xs ≡ [] = take_through-nil line_feed (drop place xs) (ap length (other_none (take place xs) (take_through line_feed (drop place xs)) none)) in
+    sym (take-append-drop place xs) ∙ (ap (λ l. l ++ drop place xs) (first_none (take place xs) (take_through line_feed (drop place xs)) none) ∙ left)
 
 pub not_utf8 : (bs : List ℕ) → ¬ (IsUtf8 bs) → is_utf8 bs ≡ false
 not_utf8 bs n = by (is_utf8 bs) refl

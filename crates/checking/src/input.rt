@@ -1,6 +1,6 @@
 //! The lines of an input.
 ghost use Rattle.std.specs.Prelude.{◌≡◌, ◌≢◌, ◌<◌, ◌≤◌, ◌+◌, ◌∷◌, ◌++◌, [], ℕ, length, slice_index, option_map, IfOk};
-ghost use Rattle.checking.specs.Input.{line_feed, lines_in, is_blank, value_in};
+ghost use Rattle.checking.specs.Input.{line_feed, lines_in, lines_to, is_blank, value_in};
 ghost use Rattle.ejson_value.specs.View.{view};
 
 use ejson_codec::{ParseFault, parse_in};
@@ -44,9 +44,9 @@ pub fn first_line(input: &[u8]) -> (&[u8], &[u8])
 
 /// The lines up to that which has the byte at this place, and what follows.
 pub fn split_lines(input: &[u8], place: usize) -> (&[u8], &[u8])
+    ensures first { result.0.now ≡ lines_to place input.now }
+    ensures whole { result.0.now ++ result.1.now ≡ input.now }
     ensures lines { lines_in input.now ≡ lines_in result.0.now ++ lines_in result.1.now }
-    ensures bytes { length result.0.now + length result.1.now ≡ length input.now }
-    ensures some { result.0.now ≡ [] → input.now ≡ [] }
 {
     if place >= input.len() {
         return (input, &[]);

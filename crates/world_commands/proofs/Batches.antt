@@ -1,9 +1,9 @@
 -- Lines that are read one by one.
-use Rattle.std.proofs.Common.{◌≡◌, ℕ, ◌+◌, ◌<◌, ◌≤◌, List, [], ◌∷◌, ◌++◌, length, ◌==◌, true, Result, Ok, IfOk, refl, ap, sym, subst, ◌∙◌, arith}
+use Rattle.std.proofs.Common.{◌≡◌, ℕ, ◌+◌, ◌/◌, ◌<◌, ◌≤◌, List, [], ◌∷◌, ◌++◌, length, ◌==◌, true, Result, Ok, IfOk, refl, ap, sym, subst, ◌∙◌, arith}
 use Rattle.std.proofs.lemmas.Bool.{eqb-true}
-use Rattle.std.proofs.lemmas.List.{length-append, append_assoc, append-nil}
-use Rattle.checking.specs.Input.{lines_in}
-use Rattle.checking.specs.InputLaws.{lines-none}
+use Rattle.std.proofs.lemmas.List.{length-append, append-nil}
+use Rattle.checking.specs.Input.{lines_in, lines_to}
+use Rattle.checking.specs.InputLaws.{lines-none, lines_to-none}
 use Rattle.world_commands.specs.declared.tasks.Batch.{Batch}
 use Rattle.world_commands.specs.declared.tasks.Halves.{Halves}
 use Rattle.world_commands.specs.declared.tasks.ReadLine.{ReadLine}
@@ -47,14 +47,19 @@ all_read bytes rs rest h none = record {
 none_left : (more bytes : List ℕ) → length more ≤ length bytes → bytes ≡ [] → more ≡ []
 none_left more bytes less none = nothing more (let none' : length bytes ≡ 0 = ap length none in omega (arith, less, none'))
 
+-- what follows the first lines is no longer than the whole
+parts : (now rest bytes : List ℕ) → now ++ rest ≡ bytes → length now + length rest ≡ length bytes
+parts now rest bytes whole = sym (length-append now rest) ∙ ap length whole
+
 -- the first lines are read, and these bytes follow
-pub first_read : (bytes now : List ℕ) (b : Batch) → lines_in bytes ≡ lines_in now ++ lines_in b.rest.now → length now + length b.rest.now ≡ length bytes → (now ≡ [] → bytes ≡ []) →
-    ReadsAll now b.read.items → Reads bytes b
-first_read bytes now b cut sizes begins r = record {
+pub first_read : (bytes now : List ℕ) (place : ℕ) (b : Batch) → now ≡ lines_to place bytes → now ++ b.rest.now ≡ bytes → lines_in bytes ≡ lines_in now ++ lines_in b.rest.now →
+    ReadsAll now b.read.items → Reads bytes place b
+first_read bytes now place b is whole cut r = record {
+  first = ap lines_in (sym is) ∙ r.lines;
   lines = cut ∙ ap (λ ls. ls ++ lines_in b.rest.now) r.lines;
   read = r.read;
-  shorter = omega (arith, r.few, sizes);
-  some = λ none. none_left b.rest.now bytes (omega (arith, sizes)) (begins (lines-none now (r.lines ∙ ap texts_of none)));
+  shorter = omega (arith, r.few, parts now b.rest.now bytes whole);
+  some = λ none. none_left b.rest.now bytes (omega (arith, parts now b.rest.now bytes whole)) (lines_to-none place bytes (sym is ∙ lines-none now (r.lines ∙ ap texts_of none)));
 }
 
 texts_both : (xs ys : List ReadLine) → texts_of (xs ++ ys) ≡ texts_of xs ++ texts_of ys
@@ -65,38 +70,38 @@ are_read_both : (xs ys : List ReadLine) → AreRead xs → AreRead ys → AreRea
 are_read_both [] ys p q = q
 are_read_both (x ∷ xs) ys p q = (p.0, are_read_both xs ys p.1 q)
 
-first_none : (xs ys : List ReadLine) → xs ++ ys ≡ [] → xs ≡ []
-first_none [] ys e = refl
-first_none (x ∷ xs) ys e = cc e
-
 -- what was read, where it was
 pub if_ok : {A E : Type 0} (r : Result A E) (a : A) → r ≡ Ok a → (P : A → Type 0) → IfOk r P → P a
 if_ok {A} {E} r a is P p = subst (λ (x : Result A E). IfOk x P) is p
 
 -- both parts of the first lines are read
-pub both_read : (bytes : List ℕ) (h : Halves) (xs ys : List ReadLine) (b : Batch) → ReadsAll h.one.now xs → ReadsAll h.other.now ys → b.read.items ≡ xs ++ ys → b.rest.now ≡ h.rest.now →
-    AreHalves bytes h → Reads bytes b
-both_read bytes h xs ys b p q items rest cut = record {
-  lines =
-      cut.lines
-      ∙ (ap (λ ls. ls ++ (lines_in h.other.now ++ lines_in h.rest.now)) p.lines
-      ∙ (ap (λ ls. texts_of xs ++ (ls ++ lines_in h.rest.now)) q.lines
-      ∙ (sym (append_assoc (texts_of xs) (texts_of ys) (lines_in h.rest.now))
-      ∙ (ap (λ ls. ls ++ lines_in h.rest.now) (sym (texts_both xs ys) ∙ ap texts_of (sym items))
-      ∙ ap (λ more. texts_of b.read.items ++ lines_in more) (sym rest)))));
-  read = subst (λ rs. AreRead rs) (sym items) (are_read_both xs ys p.read q.read);
-  shorter =
-      let one : length b.read.items ≡ length xs + length ys = ap length items ∙ length-append xs ys in
-      let other : length b.rest.now ≡ length h.rest.now = ap length rest in
-      omega (arith, p.few, q.few, cut.shared, one, other);
-  some = λ none. rest ∙ cut.some (lines-none h.one.now (p.lines ∙ ap texts_of (first_none xs ys (sym items ∙ none))));
-}
+pub both_read : (bytes : List ℕ) (place : ℕ) (h : Halves) (xs ys : List ReadLine) (b : Batch) → ReadsAll h.one.now xs → ReadsAll h.other.now ys → b.read.items ≡ xs ++ ys → b.rest.now ≡ h.rest.now →
+    AreHalves bytes place h → Reads bytes place b
+both_read bytes place h xs ys b p q items rest cut =
+    let all : lines_in (lines_to place bytes) ≡ texts_of b.read.items =
+    cut.first
+    ∙ (ap (λ ls. ls ++ lines_in h.other.now) p.lines
+    ∙ (ap (λ ls. texts_of xs ++ ls) q.lines
+    ∙ (sym (texts_both xs ys) ∙ ap texts_of (sym items)))) in
+    let whole : length (lines_to place bytes) + length h.rest.now ≡ length bytes = parts (lines_to place bytes) h.rest.now bytes cut.whole in
+    let other : length b.rest.now ≡ length h.rest.now = ap length rest in
+    record {
+      first = all;
+      lines = cut.lines ∙ (ap (λ ls. ls ++ lines_in h.rest.now) all ∙ ap (λ more. texts_of b.read.items ++ lines_in more) (sym rest));
+      read = subst (λ rs. AreRead rs) (sym items) (are_read_both xs ys p.read q.read);
+      shorter =
+          let one : length b.read.items ≡ length xs + length ys = ap length items ∙ length-append xs ys in
+          omega (arith, p.few, q.few, parts h.one.now h.other.now (lines_to place bytes) cut.both, whole, one, other);
+      some = λ none. none_left b.rest.now bytes (omega (arith, whole, other)) (lines_to-none place bytes (lines-none (lines_to place bytes) (all ∙ ap texts_of none)));
+    }
 
 -- the parts of what is cut twice
-pub are_halves : (bytes now : List ℕ) (h : Halves) → lines_in bytes ≡ lines_in now ++ lines_in h.rest.now → length now + length h.rest.now ≡ length bytes → (now ≡ [] → bytes ≡ []) →
-    lines_in now ≡ lines_in h.one.now ++ lines_in h.other.now → length h.one.now + length h.other.now ≡ length now → (h.one.now ≡ [] → now ≡ []) → AreHalves bytes h
-are_halves bytes now h cut sizes begins again parts first = record {
-  lines = cut ∙ (ap (λ ls. ls ++ lines_in h.rest.now) again ∙ append_assoc (lines_in h.one.now) (lines_in h.other.now) (lines_in h.rest.now));
-  shared = omega (arith, sizes, parts);
-  some = λ none. none_left h.rest.now bytes (omega (arith, sizes)) (begins (first none));
+pub are_halves : (bytes now : List ℕ) (place : ℕ) (h : Halves) → now ≡ lines_to place bytes → now ++ h.rest.now ≡ bytes → lines_in bytes ≡ lines_in now ++ lines_in h.rest.now →
+    h.one.now ≡ lines_to (length now / 2) now → h.one.now ++ h.other.now ≡ now → lines_in now ≡ lines_in h.one.now ++ lines_in h.other.now → AreHalves bytes place h
+are_halves bytes now place h is whole cut half both again = record {
+  half = half ∙ ap (λ l. lines_to (length l / 2) l) is;
+  both = both ∙ is;
+  whole = ap (λ l. l ++ h.rest.now) (sym is) ∙ whole;
+  first = ap lines_in (sym is) ∙ again;
+  lines = cut ∙ ap (λ l. lines_in l ++ lines_in h.rest.now) is;
 }

@@ -1,8 +1,8 @@
 -- Lines of a replay as they are read, and what some of them do, one after another.
-use Rattle.std.specs.Prelude.{◌≡◌, ◌+◌, ◌≤◌, ℕ, List, [], ◌∷◌, ◌++◌, length, map, true, false, Option, Some, None}
+use Rattle.std.specs.Prelude.{◌≡◌, ◌+◌, ◌/◌, ◌≤◌, ℕ, List, [], ◌∷◌, ◌++◌, length, map, true, false, Option, Some, None}
 use Rattle.core_model.specs.World.{World}
 use Rattle.core_model.specs.Events.{AreEvents}
-use Rattle.checking.specs.Input.{lines_in, is_blank}
+use Rattle.checking.specs.Input.{lines_in, lines_to, is_blank}
 use Rattle.world_commands.specs.declared.tasks.Task.{Task}
 use Rattle.world_commands.specs.declared.tasks.Task.TheVariants as task
 use Rattle.world_commands.specs.declared.tasks.ReadLine.{ReadLine}
@@ -29,8 +29,10 @@ AreRead (r ∷ rs) = IsRead r × AreRead rs
 abbrev pub texts_of : List ReadLine → List (List ℕ)
 texts_of rs = map (λ r. r.line.now) rs
 
--- the batch has the first lines of these bytes, each read, and what follows; it has none only where nothing follows
-pub record Reads (bytes : List ℕ) (b : Batch) : Type 0 where
+-- the batch has the lines of these bytes up to that which has the byte at this place, each read, and what follows; it has
+-- none only where nothing follows
+pub record Reads (bytes : List ℕ) (place : ℕ) (b : Batch) : Type 0 where
+  pub first : lines_in (lines_to place bytes) ≡ texts_of b.read.items
   pub lines : lines_in bytes ≡ texts_of b.read.items ++ lines_in b.rest.now
   pub read : AreRead b.read.items
   pub shorter : length b.read.items + length b.rest.now ≤ length bytes
@@ -42,11 +44,14 @@ pub record ReadsAll (bytes : List ℕ) (rs : List ReadLine) : Type 0 where
   pub read : AreRead rs
   pub few : length rs ≤ length bytes
 
--- the first lines of these bytes, in two parts, and what follows; the first part has none only where nothing follows
-pub record AreHalves (bytes : List ℕ) (h : Halves) : Type 0 where
-  pub lines : lines_in bytes ≡ lines_in h.one.now ++ (lines_in h.other.now ++ lines_in h.rest.now)
-  pub shared : length h.one.now + (length h.other.now + length h.rest.now) ≡ length bytes
-  pub some : h.one.now ≡ [] → h.rest.now ≡ []
+-- the lines of these bytes up to that which has the byte at this place, in two parts of which the first ends in their middle,
+-- and what follows
+pub record AreHalves (bytes : List ℕ) (place : ℕ) (h : Halves) : Type 0 where
+  pub half : h.one.now ≡ lines_to (length (lines_to place bytes) / 2) (lines_to place bytes)
+  pub both : h.one.now ++ h.other.now ≡ lines_to place bytes
+  pub whole : lines_to place bytes ++ h.rest.now ≡ bytes
+  pub first : lines_in (lines_to place bytes) ≡ lines_in h.one.now ++ lines_in h.other.now
+  pub lines : lines_in bytes ≡ lines_in (lines_to place bytes) ++ lines_in h.rest.now
 
 -- what a world writes for these lines
 abbrev pub written : World → List (List ℕ) → List ℕ

@@ -30,7 +30,7 @@ pub trait Readers {
         requires read { AreRead lines.now }
         requires numbers { first + length lines.now < 2 ^ 32 }
         ensures ran { IfOk result.0 (RunsLines (texts_of lines.now) first world.old world.new output.old.items output.new.items) }
-        ensures next { IfOk result.1 (Reads rest.now) };
+        ensures next { IfOk result.1 (Reads rest.now place) };
 }
 
 /// Who runs the lines, once they have run.

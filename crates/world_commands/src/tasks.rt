@@ -128,7 +128,7 @@ pub fn read_all<'a>(alloc: Global, lines: &'a [u8]) -> Result<Vec<ReadLine<'a>>,
 
 /// Reads the first lines, up to that which has the byte at this place.
 pub fn read_lines<'a>(alloc: Global, lines: &'a [u8], place: usize) -> Result<Batch<'a>, Mem>
-    ensures { IfOk result (Reads lines.now) }
+    ensures { IfOk result (Reads lines.now place) }
 {
     let (now, rest) = split_lines(lines, place);
     Ok(Batch {
@@ -147,7 +147,7 @@ pub struct Halves<'a> {
 
 /// The first lines, up to that which has the byte at this place, in two parts.
 pub fn in_halves<'a>(lines: &'a [u8], place: usize) -> Halves<'a>
-    ensures { AreHalves lines.now result }
+    ensures { AreHalves lines.now place result }
 {
     let (now, rest) = split_lines(lines, place);
     let (one, other) = split_lines(now, now.len() / 2);
@@ -162,7 +162,7 @@ pub fn joined<'a>(
 ) -> Result<Batch<'a>, Mem>
     requires one { IfOk one (λ read. ReadsAll halves.one.now read.items) }
     requires other { IfOk other (λ read. ReadsAll halves.other.now read.items) }
-    ensures { IfOk result (λ batch. (lines : List ℕ) → AreHalves lines halves.entry → Reads lines batch) }
+    ensures { IfOk result (λ batch. (lines : List ℕ) (place : ℕ) → AreHalves lines place halves.entry → Reads lines place batch) }
 {
     let mut read = one?;
     let mut more = other?;
