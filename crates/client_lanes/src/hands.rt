@@ -1,7 +1,10 @@
-//! Clients are told in turn, or those of each lane by a thread.
+//! Clients are told in turn, or those of each lane by a thread; so are the documents of a store printed.
+ghost use Rattle.std.specs.Prelude.{◌≡◌, length, IfOk};
 ghost use Rattle.std.specs.Thread.{IsSync};
 ghost use Rattle.map_model.specs.Maps.{union};
 ghost use Rattle.value_model.specs.Order.{text_cmp};
+ghost use Rattle.history_log.specs.Lines.{store_lines};
+ghost use Rattle.store_machine.specs.State.{held_by};
 ghost use Rattle.source_laws.specs.News.{AreNews};
 ghost use Rattle.lane_laws.specs.Lanes.{AreTold};
 ghost use Rattle.lane_laws.specs.Unions.{AreLanes};
@@ -9,6 +12,7 @@ ghost use Rattle.client_lanes.specs.Visits.{AreReady, Tells, Leads};
 
 use crate::lanes::{Clients, Lane, Three, Two};
 use crate::telling::{either, told_in_turn};
+use ejson_codec::Lines;
 use ejson_value::{Mem, Text};
 use heard_messages::Heard;
 use shared_news::SharedNews;
@@ -16,10 +20,14 @@ use std::alloc::Global;
 use std::marker::Sync;
 use std::thread::{Threads, available_parallelism, join_mut};
 use store_machine::Machine;
+use store_printing::store_lines;
 
 /// How many entries of the history there are to show, to all of them together, so that threads are worth
 /// it.
 const MUCH_WORK: u64 = 1000;
+
+/// How many documents there are, so that threads are worth it to print them.
+const MANY_DOCUMENTS: usize = 1000;
 
 // How many lanes there are.
 const LANES: usize = 4;
@@ -200,7 +208,7 @@ fn are_many(rt: &impl Threads) -> bool {
     }
 }
 
-/// How clients are told.
+/// How clients are told, and documents printed.
 pub trait Hands {
     /// What it takes.
     ghost ready: { Type 0 };
@@ -222,6 +230,11 @@ pub trait Hands {
         requires news { AreNews machine.now news.old }
         ensures told { AreTold (Tells machine.now) (Leads machine.now) names.now clients.old clients.new result }
         ensures news { AreNews machine.now news.new };
+
+    /// What `store` prints.
+    fn store_lines(&self, alloc: Global, machine: &Machine) -> Result<Lines, Mem>
+        requires { ready }
+        ensures { IfOk result (λ lines. lines ≡ store_lines (length machine.now.history) (held_by machine.now).rows) };
 }
 
 /// One after another.
@@ -242,6 +255,10 @@ impl Hands for InTurn {
         clients: &mut Clients,
     ) -> Result<bool, Mem> {
         told_in_turn(alloc, machine, news, heard, names, clients)
+    }
+
+    fn store_lines(&self, _alloc: Global, machine: &Machine) -> Result<Lines, Mem> {
+        machine.store_lines()
     }
 }
 
@@ -275,5 +292,12 @@ impl<'a, R: Threads + Sync> Hands for OnThreads<'a, R> {
             return told_in_turn(alloc, machine, news, heard, names, clients);
         }
         told_by_four(self.rt, alloc, machine, names, clients)
+    }
+
+    fn store_lines(&self, alloc: Global, machine: &Machine) -> Result<Lines, Mem> {
+        if machine.contents().len() < MANY_DOCUMENTS || !are_many(self.rt) {
+            return machine.store_lines();
+        }
+        store_lines(self.rt, alloc, machine.length(), machine.contents())
     }
 }

@@ -12,4 +12,5 @@ pub use batch::Batch;
 pub use history_model::entry::Entry;
 pub use kept::{call_bytes, new_bytes};
 pub use kept_entry::KeptEntry;
+pub use lines::{doc_line, store_line};
 pub use log::{Log, Logged};

@@ -66,6 +66,13 @@ pub(crate) fn first_line(alloc: Global, word: &str, entries: u64) -> Result<Line
     Ok(lines)
 }
 
+/// The first line of a store whose history has so many entries.
+pub fn store_line(alloc: Global, entries: u64) -> Result<Text, Mem>
+    ensures { IfOk result (λ line. line ≡ line_of (worded (codes "store") (number entries ∷ []))) }
+{
+    count_line(alloc, "store", entries)
+}
+
 fn put_doc(alloc: Global, out: &mut TextWriter, key: &Key, doc: &Doc) -> Result<(), Mem>
     ensures { OnOk result (out.new ≡ out.old ++ tree_tokens (written (doc_value (key.now, doc.now)))) }
 {
@@ -76,7 +83,8 @@ fn put_doc(alloc: Global, out: &mut TextWriter, key: &Key, doc: &Doc) -> Result<
     out.end_array()
 }
 
-fn doc_line(alloc: Global, room: &mut Vec<u8>, key: &Key, doc: &Doc) -> Result<Text, Mem>
+/// The line of a document of a store, written in the room.
+pub fn doc_line(alloc: Global, room: &mut Vec<u8>, key: &Key, doc: &Doc) -> Result<Text, Mem>
     ensures { IfOk result (λ line. line ≡ line_of (doc_value (key.now, doc.now))) }
 {
     let mut out = line_in(alloc, room);

@@ -147,7 +147,7 @@ pub(crate) fn happen<H: Hands>(
         Event::Settle => settle_unprinted(hands, inside),
         Event::Show { client } => show(inside, client),
         Event::Journal { client } => journal(inside, client),
-        Event::Store => store(inside),
+        Event::Store => store(hands, inside),
         Event::History => history(inside),
     }
 }

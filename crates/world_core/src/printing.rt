@@ -6,7 +6,7 @@ ghost use Rattle.world_laws.specs.World.{as_world, IsWorld};
 ghost use Rattle.world_core.specs.Kept.{seen};
 
 use crate::inside::Inside;
-use client_lanes::Lanes;
+use client_lanes::{Hands, Lanes};
 use ejson_value::{Mem, Text};
 use world_lines::Printed;
 
@@ -33,10 +33,11 @@ pub(crate) fn journal(inside: &Inside, client: &Text) -> Result<Printed, Mem>
 }
 
 /// The documents of the store.
-pub(crate) fn store(inside: &Inside) -> Result<Printed, Mem>
+pub(crate) fn store<H: Hands>(hands: &H, inside: &Inside) -> Result<Printed, Mem>
+    requires { H.ready }
     ensures { IfOk result (λ printed. printed ≡ lines_of (as_world (seen inside.now)) event.Store) }
 {
-    Ok(Printed::of(inside.machine.store_lines()?))
+    Ok(Printed::of(hands.store_lines(inside.alloc, &inside.machine)?))
 }
 
 /// The entries of its history.
