@@ -1,5 +1,5 @@
 -- Lemmas of selectors that are read part by part.
-use Rattle.std.proofs.Common.{◌≡◌, ◌==◌, ℕ, Bool, true, false, codes, length, List, [], ◌∷◌, Ok, Err, refl, ap, ap₂}
+use Rattle.std.proofs.Common.{◌≡◌, ◌==◌, ℕ, true, false, codes, length, List, [], ◌∷◌, Ok, Err, refl, ap, ap₂}
 use Rattle.std.specs.Prelude.{if◌then◌else◌}
 use Rattle.std.specs.List.{list_all}
 use Rattle.std.specs.Ordering.{is_eq}
@@ -15,10 +15,10 @@ use Rattle.selector_match.specs.Named.{has_id}
 use Rattle.selector_match.specs.Reading.{clause_made, queries_reading, condition_reading, is_literal, list_operand, literals_operand, some_queries_reading, more_queries_reading}
 
 -- the condition that `_id` is a text
-pub id_clause : (top : Bool) (n : List ℕ) (v : Val) (id : List ℕ) → is_eq (text_cmp n (codes "_id")) ≡ true → v ≡ text id → clause_made top n (queries_reading v) (condition_reading v) ≡ Ok (has_id id)
-id_clause top n v id named is =
+pub id_clause : (n : List ℕ) (v : Val) (id : List ℕ) → is_eq (text_cmp n (codes "_id")) ≡ true → v ≡ text id → clause_made n (queries_reading v) (condition_reading v) ≡ Ok (has_id id)
+id_clause n v id named is =
     let same = exact_bytes n (codes "_id") (equal_of (text_cmp n (codes "_id")) named) in
-    ap₂ (λ m w. clause_made top m (queries_reading w) (condition_reading w)) same is
+    ap₂ (λ m w. clause_made m (queries_reading w) (condition_reading w)) same is
 
 pub after-query : (cs : List Clause) → after clause cs no_clauses ≡ query_of cs
 after-query [] = refl

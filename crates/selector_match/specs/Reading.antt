@@ -107,9 +107,9 @@ by_connective None qs = Err fault.UnknownOperator
 by_connective (Some c) qs = made (λ x. joined c x) qs
 
 -- a condition by its name, whose value is read as selectors and as what a path has to meet
-abbrev pub clause_made : Bool → List ℕ → Reading Queries → Reading Predicates → Reading Clause
-clause_made top n queries condition =
-    if begins_with_dollar n then (if top then by_connective (connective_named n) queries else Err fault.UnknownOperator) else with_both at_path (path_reading n) condition
+abbrev pub clause_made : List ℕ → Reading Queries → Reading Predicates → Reading Clause
+clause_made n queries condition =
+    if begins_with_dollar n then by_connective (connective_named n) queries else with_both at_path (path_reading n) condition
 
 -- an operator with an operand that holds no operators
 abbrev pub plain_made : PlainName → Val → Reading Predicate
@@ -132,15 +132,15 @@ predicate_made (Some (name.Plain n)) v element set = plain_made n v
 predicate_made (Some name.ElementMatch) v element set = made has_element element
 predicate_made (Some name.Not) v element set = made negated set
 
--- Selectors at the top and under `$and`, `$or` and `$nor` may have these three; one that tests an element may not.
+-- A selector is read alike at the top, under `$and`, `$or` and `$nor`, and as the test of an element.
 abbrev mutual
   pub reading : Val → Reading Query
-  reading (object fs) = clauses_reading true fs
+  reading (object fs) = clauses_reading fs
   reading _ = Err fault.NotObject
 
-  pub clauses_reading : Bool → Fields → Reading Query
-  clauses_reading top no_fields = Ok no_clauses
-  clauses_reading top (field n v fs) = with_both clause (clause_made top n (queries_reading v) (condition_reading v)) (clauses_reading top fs)
+  pub clauses_reading : Fields → Reading Query
+  clauses_reading no_fields = Ok no_clauses
+  clauses_reading (field n v fs) = with_both clause (clause_made n (queries_reading v) (condition_reading v)) (clauses_reading fs)
 
   -- a list, not empty, of selectors
   pub queries_reading : Val → Reading Queries
@@ -164,9 +164,9 @@ abbrev mutual
   predicates_reading no_fields = Ok no_predicates
   predicates_reading (field n v fs) = with_both predicate (predicate_made (operator_named n) v (element_operand v) (set_operand v)) (predicates_reading fs)
 
-  -- the operand of `$elemMatch`, which is an object: a set of operators, or a selector
+  -- The operand of `$elemMatch`, which is an object: a set of operators where all its names begin with `$`, or a selector, in which `_id` is a name like any other.
   pub element_operand : Val → Reading ElementTest
-  element_operand (object fs) = if is_operator_set fs then made by_predicates (predicates_reading fs) else made by_query (clauses_reading false fs)
+  element_operand (object fs) = if is_operator_set fs then made by_predicates (predicates_reading fs) else made by_query (clauses_reading fs)
   element_operand _ = Err fault.BadOperand
 
   -- the operand of `$not`, which is a set of operators

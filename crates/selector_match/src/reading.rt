@@ -177,7 +177,7 @@ fn read_selector(alloc: Global, value: &Value) -> Result<Selector, SelectorFault
     ensures { Gives (λ q. q) result (reading (view value.now)) }
 {
     match value {
-        Value::Object(fields) => read_conditions(alloc, fields, true),
+        Value::Object(fields) => read_conditions(alloc, fields),
         Value::Null
         | Value::Bool(_)
         | Value::Int(_)
@@ -189,36 +189,28 @@ fn read_selector(alloc: Global, value: &Value) -> Result<Selector, SelectorFault
     }
 }
 
-// The conditions of a selector, which may have connectives where it isn't the test of an element.
+// The conditions of a selector.
 #[cycle(reading)]
-fn read_conditions(alloc: Global, fields: &Doc, top: bool) -> Result<Selector, SelectorFault>
-    ensures { Gives (λ q. q) result (clauses_reading top (fields_of fields.now)) }
+fn read_conditions(alloc: Global, fields: &Doc) -> Result<Selector, SelectorFault>
+    ensures { Gives (λ q. q) result (clauses_reading (fields_of fields.now)) }
 {
     let mut conditions = Vec::new(alloc);
     for (name, value) in fields.iter() {
-        let condition = read_condition(alloc, name, value, top)?;
+        let condition = read_condition(alloc, name, value)?;
         conditions.push(condition)?;
     }
     Ok(Selector { conditions })
 }
 
 #[cycle(reading)]
-fn read_condition(
-    alloc: Global,
-    name: &Text,
-    value: &Value,
-    top: bool,
-) -> Result<Condition, SelectorFault>
-    ensures { Gives clause_view result (clause_made top name.now (queries_reading (view value.now)) (condition_reading (view value.now))) }
+fn read_condition(alloc: Global, name: &Text, value: &Value) -> Result<Condition, SelectorFault>
+    ensures { Gives clause_view result (clause_made name.now (queries_reading (view value.now)) (condition_reading (view value.now))) }
 {
     if let Some(id) = id_asked(name, value) {
         let copied = id.copy()?;
         return Ok(Condition::HasId(copied));
     }
     if begins_with_dollar(name) {
-        if !top {
-            return Err(SelectorFault::UnknownOperator);
-        }
         let Some(connective) = connective_named(name) else {
             return Err(SelectorFault::UnknownOperator);
         };
@@ -348,7 +340,7 @@ fn read_element_operand(alloc: Global, value: &Value) -> Result<Test, SelectorFa
                     kind: TestKind::Operators(operators),
                 })
             } else {
-                let selector = read_conditions(alloc, fields, false)?;
+                let selector = read_conditions(alloc, fields)?;
                 Ok(Test {
                     kind: TestKind::Fields(selector),
                 })

@@ -27,27 +27,27 @@ read_conditions-loop-name-preserved t c =
     let value = c.in-Some.value.now in
     let all = c.loop-name.invariant.2.1 ∙ ap (λ rest. done ++ rest) c.in-Some.ensures.steps in
     let made_so_far = map clause_view c.loop-name.conditions.items in
-    let more = clauses_reading c.args.top (fields_of (entries c.next.new.self)) in (
+    let more = clauses_reading (fields_of (entries c.next.new.self)) in (
       tt,
       tt,
       (done ++ (name, value) ∷ [], all ∙ sym (append_assoc done ((name, value) ∷ []) c.next.new.self)),
       c.loop-name.invariant.3
-          ∙ (ap (λ it. made (λ q. after clause made_so_far q) (clauses_reading c.args.top (fields_of (entries it)))) c.in-Some.ensures.steps
-          ∙ (made_more clause made_so_far (clause_view c.in_ok-condition.condition) (clause_made c.args.top c.in-Some.name.now (queries_reading (view c.in-Some.value.now)) (condition_reading (view c.in-Some.value.now))) more c.in_ok-condition.ensures
+          ∙ (ap (λ it. made (λ q. after clause made_so_far q) (clauses_reading (fields_of (entries it)))) c.in-Some.ensures.steps
+          ∙ (made_more clause made_so_far (clause_view c.in_ok-condition.condition) (clause_made c.in-Some.name.now (queries_reading (view c.in-Some.value.now)) (condition_reading (view c.in-Some.value.now))) more c.in_ok-condition.ensures
           ∙ ap (λ xs. made (λ q. after clause xs q) more) (sym (ap (λ xs. map clause_view xs) c.in_ok-push.ensures.items ∙ map-append clause_view c.loop-name.conditions.items (c.in_ok-condition.condition ∷ []))))),
     )
 
 pub read_conditions-returns : goal.read_conditions-returns
 read_conditions-returns t c =
     let made_so_far = map clause_view c.loop-name.conditions.items in
-    sym (ap (λ es. clauses_reading c.args.top (fields_of es)) (ap entries c.into_iter-name-iterator.ensures.into_iter_gives ∙ c.iter-name-items.ensures.all))
+    sym (ap (λ es. clauses_reading (fields_of es)) (ap entries c.into_iter-name-iterator.ensures.into_iter_gives ∙ c.iter-name-items.ensures.all))
     ∙ (c.loop-name.invariant.3
-    ∙ (ap (λ it. made (λ q. after clause made_so_far q) (clauses_reading c.args.top (fields_of (entries it)))) c.in-None.ensures.steps.0
+    ∙ (ap (λ it. made (λ q. after clause made_so_far q) (clauses_reading (fields_of (entries it)))) c.in-None.ensures.steps.0
     ∙ ap (λ q. Ok q) (after-query made_so_far)))
 
 pub read_condition-returns-in-Some : goal.read_condition-returns-in-Some
 read_condition-returns-in-Some t c =
-    id_clause c.args.top c.args.name.now (view c.args.value.now) c.in-Some.id.now c.in-Some.ensures.name c.in-Some.ensures.value
+    id_clause c.args.name.now (view c.args.value.now) c.in-Some.id.now c.in-Some.ensures.name c.in-Some.ensures.value
     ∙ ap (λ id. Ok (has_id id)) (sym c.in_ok-copied.ensures)
 
 pub read_operators-read_operator-requires : goal.read_operators-read_operator-requires

@@ -44,7 +44,7 @@ invariant-read_conditions-loop-name l =
     (goal.iterator-read_conditions-loop-name).can_next l.name-iterator ×
     (goal.iterator-read_conditions-loop-name).is_finite l.name-iterator ×
     ((done : List (List ℕ × Value)) × (l.initial.name-iterator ≡ done ++ l.name-iterator)) ×
-    (clauses_reading l.top (fields_of (entries l.initial.name-iterator)) ≡ made (λ q. after clause (map clause_view l.conditions.items) q) (clauses_reading l.top (fields_of (entries l.name-iterator))))
+    (clauses_reading (fields_of (entries l.initial.name-iterator)) ≡ made (λ q. after clause (map clause_view l.conditions.items) q) (clauses_reading (fields_of (entries l.name-iterator))))
 
 abbrev pub invariant-read_operators-loop-name : goal.invariant-read_operators-loop-name
 invariant-read_operators-loop-name l =
