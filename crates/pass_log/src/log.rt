@@ -108,14 +108,25 @@ impl<E, N: LogName> Writer<E, N> {
         ensures history { self.new ≡ self.old ++ entry.now ∷ [] }
         ensures place { result ≡ length self.old }
     {
-        self.append_as::<Brand>(log, entry)
+        self.append_told::<Brand>(log, entry)
     }
 
     // A step sees no argument of the call that makes it, so the entry comes as the name of a type.
-    fn append_as<A: Added<E>>(&mut self, log: &Log<E, N>, entry: &E) -> u64
+    fn append_told<A: Added<E>>(&mut self, log: &Log<E, N>, entry: &E) -> u64
         requires room { length self.old < 2 ^ 63 }
         requires added { A.entries ≡ entry.now ∷ [] }
         ensures history { self.new ≡ self.old ++ entry.now ∷ [] }
+        ensures place { result ≡ length self.old }
+    {
+        let _entry = entry;
+        self.append_as::<A>(log)
+    }
+
+    /// Adds the one entry that `A` names. No value of it is needed.
+    pub fn append_as<A: Added<E>>(&mut self, log: &Log<E, N>) -> u64
+        requires room { length self.old < 2 ^ 63 }
+        requires one { length A.entries ≡ 1 }
+        ensures history { self.new ≡ self.old ++ A.entries }
         ensures place { result ≡ length self.old }
     {
         let place = log

@@ -4,3 +4,4 @@ pub mod Operating
 pub mod Machines
 pub mod Steppings
 pub mod Nexts
+pub mod Lasts

@@ -76,7 +76,7 @@ from_call session k j le = ap (λ o. is_gt (ordering_then o (nat_cmp k j))) (tie
     by Equal m = refl
     by Greater m = absurd (omega (arith, m, le))
 
-session_le : (a b : RunKey) → is_gt (run_cmp a b) ≡ false → a.0 ≤ b.0
+pub session_le : (a b : RunKey) → is_gt (run_cmp a b) ≡ false → a.0 ≤ b.0
 session_le a b = by (nat_cmp a.0 b.0) (ranks a.0 b.0)
   where
     by : (o : Ordering) → MatchOrdering o (a.0 < b.0) (a.0 ≡ b.0) (b.0 < a.0) → is_gt (ordering_then o (nat_cmp a.1 b.1)) ≡ false → a.0 ≤ b.0
@@ -98,7 +98,7 @@ pub record IsFirst {X : Type 0} (entries : List (RunKey × X)) (session k : ℕ)
   pub there : is_some (at run_cmp entries key) ≡ true
   pub least : (q : RunKey) → is_gt (run_cmp (session, k) q) ≡ false → is_some (at run_cmp entries q) ≡ true → is_gt (run_cmp key q) ≡ false
 
-none_unless : {X : Type 0} (o : Option X) → (is_some o ≡ true → ⊥) → o ≡ None
+pub none_unless : {X : Type 0} (o : Option X) → (is_some o ≡ true → ⊥) → o ≡ None
 none_unless None f = refl
 none_unless (Some x) f = absurd (f refl)
 
@@ -150,7 +150,7 @@ free_begins app p session k st none =
     or_true (is_some (status_in (held_by (seen app p)) session k))
     ∙ ap (λ b. is_some (status_in (held_by (seen app p)) session k) || b) (sym (next_where_none session k (held_by (seen app p)).runs (λ j le. none_seen app p session j st (none j le))))
 
-some_status : (app : App) (o : Option Called) → is_some (option_map (λ (c : Called). status_of (begun_of app c)) o) ≡ is_some o
+pub some_status : (app : App) (o : Option Called) → is_some (option_map (λ (c : Called). status_of (begun_of app c)) o) ≡ is_some o
 some_status app None = refl
 some_status app (Some c) = refl
 

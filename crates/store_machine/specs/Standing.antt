@@ -1,5 +1,5 @@
 -- What a machine keeps: all that its history leads to.
-use Rattle.std.specs.Prelude.{◌≡◌, ℕ, List, nat_le, Option, None, Some, option_map, if◌then◌else◌}
+use Rattle.std.specs.Prelude.{◌≡◌, ℕ, ◌<◌, ◌^◌, List, nat_le, true, Option, None, Some, is_some, option_map, if◌then◌else◌}
 use Rattle.std.specs.Ordering.{eq_by_cmp}
 use Rattle.map_model.specs.Maps.{at}
 use Rattle.value_model.specs.Val.{Val}
@@ -69,6 +69,11 @@ pub record HasSteppedAt (app : App) (store : StoreState) (calls : Calls) (key : 
 
 abbrev pub AreSame : Calls → Calls → Type 0
 AreSame calls calls' = (q : RunKey) → at run_cmp calls' q ≡ at run_cmp calls q
+
+-- of the numbers below 2^64, the greatest that one of the session's calls has
+abbrev pub IsLastAmong : Calls → ℕ → Option ℕ → Type 0
+IsLastAmong calls session (Some last) = (is_some (at run_cmp calls (session, last)) ≡ true) × ((k : ℕ) → last < k → k < 2 ^ 64 → at run_cmp calls (session, k) ≡ None)
+IsLastAmong calls session None = (k : ℕ) → k < 2 ^ 64 → at run_cmp calls (session, k) ≡ None
 
 -- ---- the machine's parts
 

@@ -1,5 +1,5 @@
 -- The machine of a store as contracts see it: its application and its history, and nothing else. Its documents and runs are what the history leads to.
-use Rattle.std.specs.Prelude.{◌≡◌, ℕ, List, [], ◌∷◌, ◌++◌, length, Bool, Option, None, Some, is_some, Result, Ok, Err, if◌then◌else◌}
+use Rattle.std.specs.Prelude.{◌≡◌, ℕ, ◌<◌, List, [], ◌∷◌, ◌++◌, length, Bool, true, Option, None, Some, is_some, Result, Ok, Err, if◌then◌else◌}
 use Rattle.map_model.specs.Maps.{at}
 use Rattle.value_model.specs.Val.{Val}
 use Rattle.ejson_value.specs.View.{view}
@@ -51,6 +51,11 @@ begin_answer m session k name params seed =
 -- the call has begun, and has not ended
 abbrev pub is_running : MachineState → ℕ → ℕ → Bool
 is_running m session k = goes_on (at run_cmp (held_by m).runs (session, k))
+
+-- the greatest number of the session's calls that have begun, None where none has
+abbrev pub IsLastBegun : MachineState → ℕ → Option ℕ → Type 0
+IsLastBegun m session (Some last) = (is_some (status_in (held_by m) session last) ≡ true) × ((k : ℕ) → last < k → status_in (held_by m) session k ≡ None)
+IsLastBegun m session None = (k : ℕ) → status_in (held_by m) session k ≡ None
 
 -- what a step leaves: its entry, where its run goes on
 abbrev pub step_state : MachineState → ℕ → ℕ → MachineState

@@ -1,5 +1,5 @@
 //! Calls that begin.
-ghost use Rattle.std.specs.Prelude.{◌≡◌, ◌+◌, ◌-◌, ◌<◌, ◌^◌, ◌||◌, nat_lt, ◌++◌, ◌∷◌, [], length, None, Some, true, is_some, option_map, IfOk, OnOk, OnErr};
+ghost use Rattle.std.specs.Prelude.{◌≡◌, ◌+◌, ◌-◌, ◌<◌, ◌≤◌, ℕ, ◌^◌, ◌||◌, nat_lt, ◌++◌, ◌∷◌, [], length, None, Some, true, is_some, option_map, IfOk, OnOk, OnErr};
 ghost use Rattle.map_model.specs.Maps.{at};
 ghost use Rattle.app_model.specs.App.{App as AnApp, method as method_of};
 ghost use Rattle.ejson_value.specs.View.{view};
@@ -7,8 +7,8 @@ ghost use Rattle.program_model.specs.Run.{begun};
 ghost use Rattle.ejson_value.specs.Measure.{capped};
 ghost use Rattle.history_model.specs.declared.entry.Entry.TheVariants.{Begin};
 ghost use Rattle.history_model.specs.History.{run_cmp, status_of, status_in, steps_of, kept_with, is_next, max_entries, max_kept};
-ghost use Rattle.store_machine.specs.State.{held_by, begin_answer, BeginGives};
-ghost use Rattle.store_machine.specs.Standing.{begun_of, IsPut, AreSame, kept_of, uncounted, seen, Stand};
+ghost use Rattle.store_machine.specs.State.{held_by, begin_answer, BeginGives, IsLastBegun};
+ghost use Rattle.store_machine.specs.Standing.{begun_of, IsPut, AreSame, IsLastAmong, kept_of, uncounted, seen, Stand};
 
 use crate::called::{Called, steps_of};
 use crate::fault::BeginFault;
@@ -18,6 +18,7 @@ use ejson_value::{Items, Mem, Text, Value, copy};
 use history_log::{Entry, call_bytes};
 use program_steps::Status;
 use std::alloc::Global;
+use std::ops::Bound;
 
 // How far the call's run is, None where it has none.
 fn status_now(calls: &Calls, session: u32, k: u64) -> Result<Option<Status>, Mem>
@@ -209,6 +210,41 @@ pub(crate) fn may_begin(app: &App, parts: &Parts, session: u32, k: u64) -> bool
         None => true,
         Some((key, _)) => key.0 != session || key.1 == k,
     }
+}
+
+fn fits(number: u64)
+    ensures { number < 2 ^ 64 }
+{
+    let _number = number;
+}
+
+// No call has a number past the greatest that there is.
+fn none_beyond(calls: &Calls, session: u32)
+    ensures { (k : ℕ) → 2 ^ 64 ≤ k → at run_cmp calls.now.entries (session, k) ≡ None }
+{
+    let behind = (Bound::Excluded((session, u64::MAX)), Bound::Unbounded);
+    if let Some((key, _)) = calls.range(behind).next() {
+        fits(key.1);
+    }
+}
+
+fn last_among(calls: &Calls, session: u32) -> Option<u64>
+    ensures { IsLastAmong calls.now.entries session result }
+{
+    match calls.range(..=(session, u64::MAX)).next_back() {
+        None => None,
+        Some((key, _)) => { if key.0 == session { Some(key.1) } else { None } }
+    }
+}
+
+/// The greatest number of the session's calls that have begun, None where none has.
+pub(crate) fn last_begun(app: &App, parts: &Parts, session: u32) -> Option<u64>
+    requires { Stand app.now parts.now }
+    ensures { IsLastBegun (seen app.now parts.now) session result }
+{
+    let _app = app;
+    none_beyond(&parts.calls, session);
+    last_among(&parts.calls, session)
 }
 
 /// Begins the call's run, or answers how far it is where it has one.

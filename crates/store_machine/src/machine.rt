@@ -5,9 +5,9 @@ ghost use Rattle.history_model.specs.History.{status_in, status_at, changes_betw
 ghost use Rattle.history_model.specs.Operations.{operation_in};
 ghost use Rattle.history_log.specs.Entries.{told_operation};
 ghost use Rattle.history_log.specs.Lines.{store_lines, history_lines};
-ghost use Rattle.store_machine.specs.State.{programs, held_by, held_after, begin_answer, is_running, step_state, admin_answer, BeginGives, AdminGives};
+ghost use Rattle.store_machine.specs.State.{programs, held_by, held_after, begin_answer, is_running, step_state, admin_answer, BeginGives, AdminGives, IsLastBegun};
 
-use crate::beginning::{begin, may_begin};
+use crate::beginning::{begin, last_begun, may_begin};
 use crate::fault::{AdminFault, BeginFault};
 use crate::making::{admin, admin_told};
 use crate::parts::Parts;
@@ -24,11 +24,23 @@ use std::marker::Model;
 
 /// The machine of a store. It holds an application and a history, which it makes longer entry by entry,
 /// and keeps what the history leads to: the documents, and how far each call's run is.
-#[derive(Drop)]
 pub struct Machine {
     alloc: Global,
     app: App,
     parts: Parts,
+}
+
+// A `derive` would have each crate that lets one go prove anew how all that it holds is let go.
+impl Drop for Machine {
+    fn drop(self) {
+        let Machine {
+            alloc: _,
+            app,
+            parts,
+        } = self;
+        drop(app);
+        drop(parts);
+    }
 }
 
 impl Model for Machine {
@@ -104,6 +116,13 @@ impl Machine {
         ensures { result ≡ (is_some (status_in (held_by self.now) session k) || is_next session k (held_by self.now).runs) }
     {
         may_begin(&self.app, &self.parts, session, k)
+    }
+
+    /// The greatest number of the session's calls that have begun, None where none has.
+    pub fn last_begun(&self, session: u32) -> Option<u64>
+        ensures { IsLastBegun self.now session result }
+    {
+        last_begun(&self.app, &self.parts, session)
     }
 
     /// Begins the call `k` of the session: its method, the parameters and the seed. Where it has a run
