@@ -33,7 +33,6 @@ use stub_simulation::{Simulated, simulate_over};
 const CALL_LIMIT: usize = 65_536;
 
 /// A client. Contracts see its application, its name, and its state.
-#[derive(Drop)]
 pub struct Client {
     pub(crate) alloc: Global,
     pub(crate) app: App,
@@ -52,6 +51,34 @@ pub struct Client {
     pub(crate) calls: Vec<Call>,
     /// Room for reading, lent to each text.
     pub(crate) scratch: Box<Scratch>,
+}
+
+// A `derive` would have each crate that lets one go prove anew how all that it holds is let go.
+impl Drop for Client {
+    fn drop(self) {
+        let Client {
+            alloc: _,
+            app,
+            name,
+            session,
+            is_failed: _,
+            broken,
+            waiting,
+            view,
+            subs,
+            calls,
+            scratch,
+        } = self;
+        drop(app);
+        drop(name);
+        drop(session);
+        drop(broken);
+        drop(waiting);
+        drop(view);
+        drop(subs);
+        drop(calls);
+        drop(scratch);
+    }
 }
 
 impl Model for Client {

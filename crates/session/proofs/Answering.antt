@@ -7,24 +7,24 @@ use Rattle.serde_json.specs.Read as json
 use Rattle.merge_model.specs.Publishing.{apply}
 use Rattle.ddp_messages.specs.ClientMessage.{ClientMessage}
 use Rattle.method_queue.specs.Queue.{Waiting, Queue, pushed}
-use Rattle.live_observer.specs.Observing.{AnObserver}
-use Rattle.journal_model.specs.Texts.{server_text}
-use Rattle.journal_model.specs.Items.{Item, bad}
-use Rattle.journal_model.specs.Subscriptions.{Live}
-use Rattle.journal_model.specs.Methods.{Blocking}
-use Rattle.journal_model.specs.State.{State, own_after}
-use Rattle.journal_model.specs.Out.{own_messages}
-use Rattle.journal_model.specs.Taking.{max_text, Taken, at_once, to_queue, taken_tree, taken_text}
-use Rattle.session_texts.specs.declared.taking.Answer.{Answer}
-use Rattle.session_texts.specs.declared.taking.Answer.TheVariants as answer
-use Rattle.session_texts.specs.Taking.{as_item}
-use Rattle.session_texts.specs.Said.{answer_messages}
-use Rattle.session_state.specs.Own.{as_state, stepped, observers_after}
-use Rattle.session_state.specs.Subs.{observers_of}
+use Rattle.session_handling.specs.live_observer.Observing.{AnObserver}
+use Rattle.session_handling.specs.journal_model.Texts.{server_text}
+use Rattle.session_handling.specs.journal_model.Items.{Item, bad}
+use Rattle.session_handling.specs.journal_model.Subscriptions.{Live}
+use Rattle.session_handling.specs.journal_model.Methods.{Blocking}
+use Rattle.session_handling.specs.journal_model.State.{State, own_after}
+use Rattle.session_handling.specs.journal_model.Out.{own_messages}
+use Rattle.session_handling.specs.journal_model.Taking.{max_text, Taken, at_once, to_queue, taken_tree, taken_text}
+use Rattle.session_handling.specs.session_texts.declared.taking.Answer.{Answer}
+use Rattle.session_handling.specs.session_texts.declared.taking.Answer.TheVariants as answer
+use Rattle.session_handling.specs.session_texts.Taking.{as_item}
+use Rattle.session_handling.specs.session_texts.Said.{answer_messages}
+use Rattle.session_handling.specs.session_state.Own.{as_state, stepped, observers_after}
+use Rattle.session_handling.specs.session_state.Subs.{observers_of}
 use Rattle.session_parts.specs.declared.adding.Addition.{Addition}
-use Rattle.session_laws.specs.Storing.{kept_as, shown_id}
-use Rattle.session_laws.specs.Session.{is_full}
-use Rattle.session_laws.specs.Events.{IsAnswered, queued}
+use Rattle.session_handling.specs.session_laws.Storing.{kept_as, shown_id}
+use Rattle.session_handling.specs.session_laws.Session.{is_full}
+use Rattle.session_handling.specs.session_laws.Events.{IsAnswered, queued}
 use Rattle.session.specs.declared.inner.Inner.{Inner}
 use Rattle.session.specs.Kept.{seen, IsKept}
 use Rattle.session.specs.Adding.{Follows, step_by, IsAddedTo}

@@ -6,16 +6,16 @@ use Rattle.std.proofs.lemmas.Bool.{eq-eqb}
 use Rattle.std.proofs.lemmas.List.{length-map, length-append}
 use Rattle.map_model.specs.Maps.{at, IsSorted}
 use Rattle.map_model.specs.MapLaws.{sorted-set}
-use Rattle.journal_model.specs.Subscriptions.{Live}
-use Rattle.journal_model.specs.Methods.{Phase, running, refused, finished, Method, Blocking, freed, phase_at, turned, fired, fire}
-use Rattle.journal_model.specs.State.{State}
-use Rattle.journal_laws.specs.Blocking.{turned_other, phase_new, phase_fired}
-use Rattle.session_relation.specs.Fired.{Armed, unfired, least_with, is_opening}
-use Rattle.session_relation.specs.FiredLaws.{number_order, fired_armed, turned_armed, called_armed, refused_armed}
-use Rattle.session_relation.specs.Stands.{end_of, armed_at, fired_state}
-use Rattle.session_state.specs.declared.own.Step.{Step}
-use Rattle.session_state.specs.declared.own.Step.TheVariants as step
-use Rattle.session_state.specs.Own.{stepped, CanStep}
+use Rattle.session_handling.specs.journal_model.Subscriptions.{Live}
+use Rattle.session_handling.specs.journal_model.Methods.{Phase, running, refused, finished, Method, Blocking, freed, phase_at, turned, fired, fire}
+use Rattle.session_handling.specs.journal_model.State.{State}
+use Rattle.session_handling.specs.journal_laws.Blocking.{turned_other, phase_new, phase_fired}
+use Rattle.session_handling.specs.session_relation.Fired.{Armed, unfired, least_with, is_opening}
+use Rattle.session_handling.specs.session_relation_for_proofs.FiredLaws.{number_order, fired_armed, turned_armed, called_armed, refused_armed}
+use Rattle.session_handling.specs.session_relation.Stands.{end_of, armed_at, fired_state}
+use Rattle.session_handling.specs.session_state.declared.own.Step.{Step}
+use Rattle.session_handling.specs.session_state.declared.own.Step.TheVariants as step
+use Rattle.session_handling.specs.session_state.Own.{stepped, CanStep}
 use Rattle.session_parts.specs.Adding.{armed_by, CanArm}
 use Rattle.session.specs.Kept.{IsCounted}
 use Rattle.session.specs.Adding.{Follows}

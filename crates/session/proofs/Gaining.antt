@@ -7,19 +7,19 @@ use Rattle.value_model.specs.Val.{Entries}
 use Rattle.ejson_value.specs.declared.key.Key.{Key}
 use Rattle.merge_box.specs.State.{KeptDocs}
 use Rattle.ddp_messages.specs.ServerMessage.{ServerMessage}
-use Rattle.journal_model.specs.Texts.{server_text}
-use Rattle.journal_model.specs.State.{State}
-use Rattle.journal_model.specs.Methods.{all_told}
-use Rattle.journal_model.specs.Shown.{difference}
-use Rattle.journal_model.specs.Out.{about, updated}
-use Rattle.session_relation.specs.Stands.{added_messages}
+use Rattle.session_handling.specs.journal_model.Texts.{server_text}
+use Rattle.session_handling.specs.journal_model.State.{State}
+use Rattle.session_handling.specs.journal_model.Methods.{all_told}
+use Rattle.session_handling.specs.journal_model.Shown.{difference}
+use Rattle.session_handling.specs.journal_model.Out.{about, updated}
+use Rattle.session_handling.specs.session_relation.Stands.{added_messages}
 use Rattle.session_journal.specs.declared.journal.Line.{Line}
 use Rattle.session_journal.specs.Journal.{items_of}
-use Rattle.session_state.specs.Own.{as_state, stepped}
+use Rattle.session_handling.specs.session_state.Own.{as_state, stepped}
 use Rattle.session_parts.specs.declared.adding.Addition.{Addition}
 use Rattle.session_parts.specs.Adding.{updated_text}
 use Rattle.session_parts.specs.Parts.{gained_texts, line_of, HasGained}
-use Rattle.session_laws.specs.Adding.{HasAddedTexts}
+use Rattle.session_handling.specs.session_laws.Adding.{HasAddedTexts}
 use Rattle.session.specs.declared.inner.Inner.{Inner}
 use Rattle.session.specs.Kept.{seen}
 use Rattle.session.specs.Adding.{StaysElse}

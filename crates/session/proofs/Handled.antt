@@ -9,23 +9,23 @@ use Rattle.ddp_messages.specs.ClientMessage.{ClientMessage}
 use Rattle.ddp_messages.specs.ClientMessage as client
 use Rattle.app_model.specs.App.{App, method}
 use Rattle.method_queue.specs.Queue.{Waiting, Queue}
-use Rattle.live_observer.specs.Observing.{AnObserver}
-use Rattle.journal_model.specs.Publication.{Making, making}
-use Rattle.journal_model.specs.Items.{Item}
-use Rattle.journal_model.specs.Items as item
-use Rattle.journal_model.specs.Subscriptions.{Live, sub_named, is_crowded}
-use Rattle.journal_model.specs.Methods.{Blocking, freed}
-use Rattle.journal_model.specs.State.{State}
-use Rattle.journal_model.specs.Fits.{item_for, opened_by, closed_by}
-use Rattle.session_state.specs.declared.own.Step.{Step}
-use Rattle.session_state.specs.declared.own.Step.TheVariants as step
-use Rattle.session_state.specs.Own.{as_state, stepped, started_by, observers_after as observers_stepped}
-use Rattle.session_state.specs.Subs.{observers_of, observers_without as without_stepped}
+use Rattle.session_handling.specs.live_observer.Observing.{AnObserver}
+use Rattle.session_handling.specs.journal_model.Publication.{Making, making}
+use Rattle.session_handling.specs.journal_model.Items.{Item}
+use Rattle.session_handling.specs.journal_model.Items as item
+use Rattle.session_handling.specs.journal_model.Subscriptions.{Live, sub_named, is_crowded}
+use Rattle.session_handling.specs.journal_model.Methods.{Blocking, freed}
+use Rattle.session_handling.specs.journal_model.State.{State}
+use Rattle.session_handling.specs.journal_model.Fits.{item_for, opened_by, closed_by}
+use Rattle.session_handling.specs.session_state.declared.own.Step.{Step}
+use Rattle.session_handling.specs.session_state.declared.own.Step.TheVariants as step
+use Rattle.session_handling.specs.session_state.Own.{as_state, stepped, started_by, observers_after as observers_stepped}
+use Rattle.session_handling.specs.session_state.Subs.{observers_of, observers_without as without_stepped}
 use Rattle.session_parts.specs.declared.adding.Addition.{Addition}
 use Rattle.session_handling.specs.Handling.{Carries}
-use Rattle.session_laws.specs.Session.{ASession, is_full}
-use Rattle.session_laws.specs.Observers.{observers_without}
-use Rattle.session_laws.specs.Events.{HasDone, HasHandled, IsHandledAs, plain_call, observers_after}
+use Rattle.session_handling.specs.session_laws.Session.{ASession, is_full}
+use Rattle.session_handling.specs.session_laws.Observers.{observers_without}
+use Rattle.session_handling.specs.session_laws.Events.{HasDone, HasHandled, IsHandledAs, plain_call, observers_after}
 use Rattle.session.specs.declared.inner.Inner.{Inner}
 use Rattle.session.specs.Kept.{seen, IsKept}
 use Rattle.session.specs.Adding.{Follows, IsAddedTo}

@@ -10,24 +10,24 @@ use Rattle.app_model.specs.App.{App}
 use Rattle.ddp_messages.specs.ClientMessage.{ClientMessage}
 use Rattle.ddp_messages.specs.ServerMessage.{ServerMessage}
 use Rattle.merge_box.specs.State.{KeptDocs}
-use Rattle.journal_model.specs.Texts.{server_text}
-use Rattle.journal_model.specs.Items.{Item}
-use Rattle.journal_model.specs.Out.{own_messages}
+use Rattle.session_handling.specs.journal_model.Texts.{server_text}
+use Rattle.session_handling.specs.journal_model.Items.{Item}
+use Rattle.session_handling.specs.journal_model.Out.{own_messages}
 use Rattle.method_queue.specs.Queue.{Waiting, Queue}
-use Rattle.journal_model.specs.Methods.{Blocking}
-use Rattle.journal_model.specs.State.{State, own_after}
-use Rattle.session_relation.specs.declared.stored.Stored.{Stored}
+use Rattle.session_handling.specs.journal_model.Methods.{Blocking}
+use Rattle.session_handling.specs.journal_model.State.{State, own_after}
+use Rattle.session_handling.specs.session_relation.declared.stored.Stored.{Stored}
 use Rattle.session_journal.specs.declared.journal.Line.{Line}
 use Rattle.session_journal.specs.Journal.{AJournal, items_of}
-use Rattle.session_state.specs.Own.{as_state, stepped, Watch}
-use Rattle.session_state.specs.Subs.{observers_of}
+use Rattle.session_handling.specs.session_state.Own.{as_state, stepped, Watch}
+use Rattle.session_handling.specs.session_state.Subs.{observers_of}
 use Rattle.session_parts.specs.declared.adding.Addition.{Addition}
-use Rattle.session_relation.specs.Stands.{fired_state}
+use Rattle.session_handling.specs.session_relation.Stands.{fired_state}
 use Rattle.session_parts.specs.Parts.{line_of, AreSame, HasGained}
-use Rattle.session_laws.specs.Session.{ASession, is_full, max_items}
-use Rattle.session_laws.specs.Adding.{HasAdded}
-use Rattle.session_laws.specs.Storing.{kept_as, shown_id}
-use Rattle.session_laws.specs.Events.{HasDone, Waits}
+use Rattle.session_handling.specs.session_laws.Session.{ASession, is_full, max_items}
+use Rattle.session_handling.specs.session_laws.Adding.{HasAdded}
+use Rattle.session_handling.specs.session_laws.Storing.{kept_as, shown_id}
+use Rattle.session_handling.specs.session_laws.Events.{HasDone, Waits}
 use Rattle.session.specs.declared.inner.Inner.{Inner}
 use Rattle.session.specs.Kept.{seen, IsCounted, IsKept}
 use Rattle.session.specs.Adding.{StaysElse, Follows, IsAddedTo, AreAlike}

@@ -9,17 +9,17 @@ use Rattle.ddp_messages.specs.ServerMessage.{ServerMessage}
 use Rattle.program_steps.specs.declared.outcome.Status.{Status}
 use Rattle.program_steps.specs.Runs.{End}
 use Rattle.method_queue.specs.Queue.{Queue, other_than}
-use Rattle.journal_model.specs.Texts.{server_text}
-use Rattle.journal_model.specs.Items.{Item}
-use Rattle.journal_model.specs.Methods.{Phase, running, Method, Blocking, freed, is_blocked_by, phase_at, id_at}
-use Rattle.journal_model.specs.State.{own_after}
-use Rattle.journal_model.specs.Out.{refused_with, all_refused_with}
-use Rattle.session_state.specs.Own.{as_state, stepped, watch_after}
-use Rattle.session_state.specs.Subs.{observers_of}
+use Rattle.session_handling.specs.journal_model.Texts.{server_text}
+use Rattle.session_handling.specs.journal_model.Items.{Item}
+use Rattle.session_handling.specs.journal_model.Methods.{Phase, running, Method, Blocking, freed, is_blocked_by, phase_at, id_at}
+use Rattle.session_handling.specs.journal_model.State.{own_after}
+use Rattle.session_handling.specs.journal_model.Out.{refused_with, all_refused_with}
+use Rattle.session_handling.specs.session_state.Own.{as_state, stepped, watch_after}
+use Rattle.session_handling.specs.session_state.Subs.{observers_of}
 use Rattle.session_parts.specs.declared.adding.Addition.{Addition}
-use Rattle.session_laws.specs.Storing.{kept_as}
-use Rattle.session_laws.specs.Session.{ASession, is_full, is_at_work, is_running, can_learn, can_refuse}
-use Rattle.session_laws.specs.Events.{HasLearnt}
+use Rattle.session_handling.specs.session_laws.Storing.{kept_as}
+use Rattle.session_handling.specs.session_laws.Session.{ASession, is_full, is_at_work, is_running, can_learn, can_refuse}
+use Rattle.session_handling.specs.session_laws.Events.{HasLearnt}
 use Rattle.session.specs.declared.inner.Inner.{Inner}
 use Rattle.session.specs.Kept.{seen, IsKept}
 use Rattle.session.specs.Adding.{IsAddedTo}

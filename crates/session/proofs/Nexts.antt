@@ -4,10 +4,10 @@ use Rattle.std.specs.Prelude.{◌==◌, ◌&&◌, not, option_map, unwrap_or, is
 use Rattle.std.proofs.lemmas.Bool.{ne_eqb}
 use Rattle.ddp_messages.specs.ClientMessage.{ClientMessage}
 use Rattle.method_queue.specs.Queue.{Waiting, Queue, next_message, taken}
-use Rattle.journal_model.specs.Methods.{Blocking}
-use Rattle.session_state.specs.Own.{as_state}
+use Rattle.session_handling.specs.journal_model.Methods.{Blocking}
+use Rattle.session_handling.specs.session_state.Own.{as_state}
 use Rattle.session_parts.specs.declared.adding.Addition.{Addition}
-use Rattle.session_laws.specs.Session.{ASession, is_at_work, can_handle}
+use Rattle.session_handling.specs.session_laws.Session.{ASession, is_at_work, can_handle}
 use Rattle.session.specs.declared.inner.Inner.{Inner}
 use Rattle.session.specs.Kept.{seen, IsKept}
 use Rattle.session.specs.Handling.{IsNextBy, IsNext}

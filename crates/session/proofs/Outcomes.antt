@@ -6,16 +6,16 @@ use Rattle.ejson_value.specs.declared.change.Publish.{Publish}
 use Rattle.ejson_value.specs.Rows.{Rows}
 use Rattle.program_steps.specs.declared.outcome.Status.{Status}
 use Rattle.ddp_messages.specs.ClientMessage.{ClientMessage}
-use Rattle.journal_model.specs.Methods.{Blocking}
-use Rattle.journal_model.specs.Taking.{Taken, at_once, to_queue, taken_text}
-use Rattle.session_laws.specs.declared.fault.EventFault.{EventFault}
-use Rattle.session_laws.specs.declared.fault.EventFault.TheVariants as fault
-use Rattle.session_laws.specs.Session.{ASession, max_outbox, is_full, is_at_work, can_handle, can_load, can_advance, can_learn, can_refuse, IsCause, HadRoom, tested, dropped}
-use Rattle.session_laws.specs.Events.{Outcome, IsTakenAs, IsCrowdedOut, IsPutCause, IsTakeCause, KeepsTaking, Takes, HasHandled, Handles, HasLoaded, Loads, HasAdvanced, Advances, HasFed, Feeds, observer_of, IsLearnt, Learns, HasRefused, Refuses, Closes}
-use Rattle.session_laws.specs.Keeping.{answered_keeps, queued_keeps}
-use Rattle.session_laws.specs.Learning.{learnt_keeps, refused_keeps, dropped_keeps}
-use Rattle.session_laws.specs.Handled.{handled_keeps}
-use Rattle.session_laws.specs.Showing.{StandsAnywhere, loaded_keeps, advanced_keeps, fed_keeps}
+use Rattle.session_handling.specs.journal_model.Methods.{Blocking}
+use Rattle.session_handling.specs.journal_model.Taking.{Taken, at_once, to_queue, taken_text}
+use Rattle.session_handling.specs.session_laws.declared.fault.EventFault.{EventFault}
+use Rattle.session_handling.specs.session_laws.declared.fault.EventFault.TheVariants as fault
+use Rattle.session_handling.specs.session_laws.Session.{ASession, max_outbox, is_full, is_at_work, can_handle, can_load, can_advance, can_learn, can_refuse, IsCause, HadRoom, tested, dropped}
+use Rattle.session_handling.specs.session_laws.Events.{Outcome, IsTakenAs, IsCrowdedOut, IsPutCause, IsTakeCause, KeepsTaking, Takes, HasHandled, Handles, HasLoaded, Loads, HasAdvanced, Advances, HasFed, Feeds, observer_of, IsLearnt, Learns, HasRefused, Refuses, Closes}
+use Rattle.session_handling.specs.session_laws.Keeping.{answered_keeps, queued_keeps}
+use Rattle.session_handling.specs.session_laws_for_proofs.Learning.{learnt_keeps, refused_keeps, dropped_keeps}
+use Rattle.session_handling.specs.session_laws_for_proofs.Handled.{handled_keeps}
+use Rattle.session_handling.specs.session_laws.Showing.{StandsAnywhere, loaded_keeps, advanced_keeps, fed_keeps}
 
 -- ---- what the tests answer
 

@@ -8,11 +8,11 @@ use Rattle.method_queue.specs.Queue.{Waiting, Queue, max_bytes, waiting_bytes, I
 use Rattle.method_queue.specs.Faults.{IsCause}
 use Rattle.method_queue.specs.declared.fault.PushFault.{PushFault}
 use Rattle.method_queue.specs.declared.fault.PushFault.TheVariants.{Full, Memory}
-use Rattle.journal_model.specs.Methods.{Blocking, freed}
-use Rattle.session_laws.specs.Session.{max_waiting, is_crowded}
-use Rattle.session_laws.specs.Events.{IsPutCause}
-use Rattle.session_laws.specs.declared.fault.EventFault.{EventFault}
-use Rattle.session_laws.specs.declared.fault.EventFault.TheVariants as fault
+use Rattle.session_handling.specs.journal_model.Methods.{Blocking, freed}
+use Rattle.session_handling.specs.session_laws.Session.{max_waiting, is_crowded}
+use Rattle.session_handling.specs.session_laws.Events.{IsPutCause}
+use Rattle.session_handling.specs.session_laws.declared.fault.EventFault.{EventFault}
+use Rattle.session_handling.specs.session_laws.declared.fault.EventFault.TheVariants as fault
 use Rattle.session.specs.Adding.{fault_of, IsPushCause}
 use Rattle.session.specs.declared.inner.Inner.{Inner}
 use Rattle.session.specs.Kept.{seen, IsKept}

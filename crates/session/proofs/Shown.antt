@@ -9,25 +9,25 @@ use Rattle.ejson_value.specs.declared.change.Publish.{Publish}
 use Rattle.ejson_value.specs.Changes.{news_of}
 use Rattle.ejson_value.specs.Rows.{Rows}
 use Rattle.method_queue.specs.Queue.{Queue}
-use Rattle.publication.specs.Cursors.{ACursors}
-use Rattle.publication.specs.Published.{IsQuery}
-use Rattle.live_observer.specs.Observing.{AnObserver, APlan, cursors_of, StandsAt, IsPlanOf, carried}
-use Rattle.journal_model.specs.Texts.{server_text}
-use Rattle.journal_model.specs.Items.{load, advance}
-use Rattle.journal_model.specs.Items as item
-use Rattle.journal_model.specs.Subscriptions.{Live, of_sub, cursor_of, may_load, loaded, moved, advanced}
-use Rattle.journal_model.specs.Methods.{Blocking}
-use Rattle.journal_model.specs.State.{State, or_zero, own_after}
-use Rattle.journal_model.specs.Out.{ready}
-use Rattle.session_relation.specs.declared.stored.Stored.TheVariants as stored
-use Rattle.session_state.specs.declared.own.Step.TheVariants as step
-use Rattle.session_state.specs.Own.{as_state, stepped, observers_after}
-use Rattle.session_state.specs.Subs.{observers_of, live_of, observer_at as observer_kept, observers_with as kept_with}
+use Rattle.session_handling.specs.publication.Cursors.{ACursors}
+use Rattle.session_handling.specs.publication.Published.{IsQuery}
+use Rattle.session_handling.specs.live_observer.Observing.{AnObserver, APlan, cursors_of, StandsAt, IsPlanOf, carried}
+use Rattle.session_handling.specs.journal_model.Texts.{server_text}
+use Rattle.session_handling.specs.journal_model.Items.{load, advance}
+use Rattle.session_handling.specs.journal_model.Items as item
+use Rattle.session_handling.specs.journal_model.Subscriptions.{Live, of_sub, cursor_of, may_load, loaded, moved, advanced}
+use Rattle.session_handling.specs.journal_model.Methods.{Blocking}
+use Rattle.session_handling.specs.journal_model.State.{State, or_zero, own_after}
+use Rattle.session_handling.specs.journal_model.Out.{ready}
+use Rattle.session_handling.specs.session_relation.declared.stored.Stored.TheVariants as stored
+use Rattle.session_handling.specs.session_state.declared.own.Step.TheVariants as step
+use Rattle.session_handling.specs.session_state.Own.{as_state, stepped, observers_after}
+use Rattle.session_handling.specs.session_state.Subs.{observers_of, live_of, observer_at as observer_kept, observers_with as kept_with}
 use Rattle.session_parts.specs.declared.adding.Addition.{Addition}
-use Rattle.session_laws.specs.Session.{ASession, is_full, is_at_work, can_load, place_on, place_after}
-use Rattle.session_laws.specs.Observers.{observer_at, observers_with}
-use Rattle.session_laws.specs.Loading.{advanced_is, with_same}
-use Rattle.session_laws.specs.Events.{HasLoaded, HasAdvanced, HasFed, Tells, observer_of}
+use Rattle.session_handling.specs.session_laws.Session.{ASession, is_full, is_at_work, can_load, place_on, place_after}
+use Rattle.session_handling.specs.session_laws.Observers.{observer_at, observers_with}
+use Rattle.session_handling.specs.session_laws.Loading.{advanced_is, with_same}
+use Rattle.session_handling.specs.session_laws.Events.{HasLoaded, HasAdvanced, HasFed, Tells, observer_of}
 use Rattle.session.specs.declared.inner.Inner.{Inner}
 use Rattle.session.specs.Kept.{seen, IsKept}
 use Rattle.session.specs.Adding.{IsAddedTo}

@@ -3,21 +3,21 @@ use Rattle.std.specs.Prelude.{◌≡◌, ℕ, length, Some}
 use Rattle.merge_model.specs.Publishing.{Call}
 use Rattle.value_model.specs.Val.{Entries}
 use Rattle.ejson_value.specs.declared.key.Key.{Key}
-use Rattle.journal_model.specs.Methods.{running, phase_at}
-use Rattle.journal_model.specs.State.{State}
-use Rattle.session_texts.specs.declared.taking.Answer.{Answer}
-use Rattle.session_texts.specs.declared.taking.Answer.TheVariants as answer
-use Rattle.session_state.specs.declared.own.Step.{Step}
-use Rattle.session_state.specs.declared.own.Step.TheVariants as step
-use Rattle.session_state.specs.Own.{as_state, stepped}
+use Rattle.session_handling.specs.journal_model.Methods.{running, phase_at}
+use Rattle.session_handling.specs.journal_model.State.{State}
+use Rattle.session_handling.specs.session_texts.declared.taking.Answer.{Answer}
+use Rattle.session_handling.specs.session_texts.declared.taking.Answer.TheVariants as answer
+use Rattle.session_handling.specs.session_state.declared.own.Step.{Step}
+use Rattle.session_handling.specs.session_state.declared.own.Step.TheVariants as step
+use Rattle.session_handling.specs.session_state.Own.{as_state, stepped}
 use Rattle.method_queue.specs.Queue.{Queue, IsFull}
 use Rattle.method_queue.specs.declared.fault.PushFault.{PushFault}
 use Rattle.method_queue.specs.declared.fault.PushFault.TheVariants.{Full, Memory}
-use Rattle.session_laws.specs.declared.fault.EventFault.{EventFault}
-use Rattle.session_laws.specs.declared.fault.EventFault.TheVariants as fault
+use Rattle.session_handling.specs.session_laws.declared.fault.EventFault.{EventFault}
+use Rattle.session_handling.specs.session_laws.declared.fault.EventFault.TheVariants as fault
 use Rattle.session_parts.specs.declared.adding.Addition.{Addition}
 use Rattle.session_parts.specs.Parts.{HasGained}
-use Rattle.session_laws.specs.Adding.{HasAddedTexts}
+use Rattle.session_handling.specs.session_laws.Adding.{HasAddedTexts}
 use Rattle.session.specs.declared.inner.Inner.{Inner}
 use Rattle.session.specs.Kept.{seen, IsCounted, IsKept}
 

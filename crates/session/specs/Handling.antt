@@ -5,12 +5,12 @@ use Rattle.value_model.specs.Val.{Entries}
 use Rattle.ejson_value.specs.declared.key.Key.{Key}
 use Rattle.ddp_messages.specs.ClientMessage.{ClientMessage}
 use Rattle.method_queue.specs.Queue.{Queue, taken, started}
-use Rattle.journal_model.specs.Fits.{item_for}
-use Rattle.session_state.specs.declared.own.Step.{Step}
-use Rattle.session_state.specs.declared.own.Step.TheVariants as step
+use Rattle.session_handling.specs.journal_model.Fits.{item_for}
+use Rattle.session_handling.specs.session_state.declared.own.Step.{Step}
+use Rattle.session_handling.specs.session_state.declared.own.Step.TheVariants as step
 use Rattle.session_parts.specs.declared.adding.Addition.{Addition}
 use Rattle.session_handling.specs.Handling.{IsAddition}
-use Rattle.session_laws.specs.Session.{ASession}
+use Rattle.session_handling.specs.session_laws.Session.{ASession}
 
 -- the addition is that of the item which is made of the message, whose text has this place
 abbrev pub IsNextBy : ℕ → ClientMessage → ASession → Addition → Type 0

@@ -1,16 +1,16 @@
 -- What a `Session` keeps.
 use Rattle.std.specs.Prelude.{◌≡◌, ℕ, ◌+◌, ◌≤◌, List, map, length, Some, option_map, IfSome}
 use Rattle.method_queue.specs.Queue.{Waiting}
-use Rattle.journal_model.specs.Methods.{Blocking, running, phase_at}
-use Rattle.journal_model.specs.State.{State}
-use Rattle.session_relation.specs.Stands.{armed_at}
+use Rattle.session_handling.specs.journal_model.Methods.{Blocking, running, phase_at}
+use Rattle.session_handling.specs.journal_model.State.{State}
+use Rattle.session_handling.specs.session_relation.Stands.{armed_at}
 use Rattle.std.specs.Ordering.{nat_cmp}
 use Rattle.map_model.specs.Maps.{at}
 use Rattle.session_journal.specs.declared.journal.Line.{Line}
 use Rattle.session_journal.specs.Journal.{items_of}
-use Rattle.session_state.specs.Own.{as_state}
-use Rattle.session_state.specs.Subs.{observers_of}
-use Rattle.session_laws.specs.Session.{ASession, max_items, max_waiting}
+use Rattle.session_handling.specs.session_state.Own.{as_state}
+use Rattle.session_handling.specs.session_state.Subs.{observers_of}
+use Rattle.session_handling.specs.session_laws.Session.{ASession, max_items, max_waiting}
 use Rattle.session.specs.declared.inner.Inner.{Inner}
 
 -- as contracts see it

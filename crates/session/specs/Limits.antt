@@ -1,8 +1,8 @@
 -- What a session tells of its limits, and what an advance looks at.
 use Rattle.std.specs.Prelude.{ℕ, length, Bool, ◌||◌, Option, None, Some}
-use Rattle.live_observer.specs.Observing.{AnObserver}
-use Rattle.session_state.specs.Calls.{has_refused}
-use Rattle.session_laws.specs.Session.{ASession, is_full}
+use Rattle.session_handling.specs.live_observer.Observing.{AnObserver}
+use Rattle.session_handling.specs.session_state.Calls.{has_refused}
+use Rattle.session_handling.specs.session_laws.Session.{ASession, is_full}
 
 -- the journal is full, or the history had no room for some call
 abbrev pub is_limited : ASession → Bool

@@ -1,8 +1,8 @@
 -- The lines of a session's journal.
 use Rattle.std.specs.Prelude.{ℕ, List, [], ◌∷◌, Option}
-use Rattle.session_relation.specs.declared.stored.Stored.{Stored}
+use Rattle.session_handling.specs.session_relation.declared.stored.Stored.{Stored}
 use Rattle.session_journal.specs.declared.journal.Line.{Line}
-use Rattle.session_laws.specs.Session.{ASession}
+use Rattle.session_handling.specs.session_laws.Session.{ASession}
 
 -- each item with the id that a print of it shows, if it shows one
 abbrev pub lines_with : List Stored → List (Option (List ℕ)) → List Line

@@ -2,10 +2,10 @@
 use Rattle.std.specs.Prelude.{ℕ, List, Option, None, Some, option_map}
 use Rattle.ejson_value.specs.declared.change.Change.{Change}
 use Rattle.ejson_value.specs.declared.change.Publish.{Publish}
-use Rattle.live_observer.specs.Observing.{AnObserver, APlan, IsPlanOf, carried}
-use Rattle.journal_model.specs.Subscriptions.{Live}
-use Rattle.session_state.specs.Subs.{observer_at, observers_with}
-use Rattle.session_laws.specs.Events.{Tells}
+use Rattle.session_handling.specs.live_observer.Observing.{AnObserver, APlan, IsPlanOf, carried}
+use Rattle.session_handling.specs.journal_model.Subscriptions.{Live}
+use Rattle.session_handling.specs.session_state.Subs.{observer_at, observers_with}
+use Rattle.session_handling.specs.session_laws.Events.{Tells}
 
 -- where there is an observer, it tells these news of the changes, and the plan is its own
 abbrev pub IsObserved : Option AnObserver → List Change → List Publish → Option APlan → Type 0

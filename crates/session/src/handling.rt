@@ -2,8 +2,8 @@
 ghost use Rattle.std.specs.Prelude.{◌≡◌, ◌==◌, ◌&&◌, not, is_none, length, true, drop, IfOk, IsTrue, OnOk, OnErr, None, Some};
 ghost use Rattle.ddp_messages.specs.ClientMessage.{client_view};
 ghost use Rattle.session_parts.specs.Adding.{call_by};
-ghost use Rattle.session_laws.specs.Session.{can_handle, HadRoom};
-ghost use Rattle.session_laws.specs.Events.{HasHandled, Handles};
+ghost use Rattle.session_handling.specs.session_laws.Session.{can_handle, HadRoom};
+ghost use Rattle.session_handling.specs.session_laws.Events.{HasHandled, Handles};
 ghost use Rattle.session.specs.Kept.{seen, IsKept};
 ghost use Rattle.session.specs.Handling.{IsNextBy, IsNext, gone_by, passed};
 
@@ -12,9 +12,9 @@ use ddp_messages::FromClient;
 use ejson_value::Mem;
 use method_queue::MethodQueue;
 use session_handling::Asked;
-use session_laws::EventFault;
+use session_handling::session_laws::EventFault;
+use session_handling::session_state::Step;
 use session_parts::{Addition, News};
-use session_state::Step;
 use std::collections::VecDeque;
 
 // Whether a message waits and no call blocks.

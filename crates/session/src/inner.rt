@@ -1,9 +1,9 @@
 //! What a session keeps, and one item more.
 ghost use Rattle.std.specs.Prelude.{◌≡◌, ◌≤◌, true, false, OnOk, OnErr};
-ghost use Rattle.journal_model.specs.Methods.{is_blocked_by};
+ghost use Rattle.session_handling.specs.journal_model.Methods.{is_blocked_by};
 ghost use Rattle.session_parts.specs.Adding.{call_by};
 ghost use Rattle.session_parts.specs.Known.{AreRightBy, AreLearntBy};
-ghost use Rattle.session_laws.specs.Session.{new_session, is_full, is_at_work, tested};
+ghost use Rattle.session_handling.specs.session_laws.Session.{new_session, is_full, is_at_work, tested};
 ghost use Rattle.session.specs.Kept.{seen, IsKept};
 ghost use Rattle.session.specs.Adding.{IsAddedTo, AreAlike, Follows};
 
@@ -12,7 +12,7 @@ use ejson_value::Mem;
 use json::Scratch;
 use known_texts::KnownTexts;
 use method_queue::MethodQueue;
-use session_laws::EventFault;
+use session_handling::session_laws::EventFault;
 use session_parts::{Addition, News, Parts};
 use std::alloc::Global;
 use std::collections::VecDeque;

@@ -1,20 +1,20 @@
 //! What is learnt of calls.
 ghost use Rattle.std.specs.Prelude.{◌≡◌, false, true, Some, None, OnOk, OnErr};
 ghost use Rattle.method_queue.specs.Queue.{other_than};
-ghost use Rattle.journal_model.specs.Methods.{is_blocked_by, phase_at, running};
-ghost use Rattle.session_laws.specs.Session.{is_full, is_running, has_news, can_learn, can_refuse, HadRoom};
-ghost use Rattle.session_laws.specs.Events.{IsLearnt, HasRefused, Learns, Refuses};
+ghost use Rattle.session_handling.specs.journal_model.Methods.{is_blocked_by, phase_at, running};
+ghost use Rattle.session_handling.specs.session_laws.Session.{is_full, is_running, has_news, can_learn, can_refuse, HadRoom};
+ghost use Rattle.session_handling.specs.session_laws.Events.{IsLearnt, HasRefused, Learns, Refuses};
 ghost use Rattle.session.specs.Kept.{seen, IsKept};
 
 use crate::inner::{Inner, add, is_at_work, is_blocked_by, test};
 use ejson_value::Mem;
 use method_queue::MethodQueue;
 use program_steps::{End, Status};
-use session_laws::EventFault;
+use session_handling::session_laws::EventFault;
+use session_handling::session_relation::Stored;
+use session_handling::session_state::{Phase, Step, id_at, phase_at};
+use session_handling::session_texts::{Texts, refused_texts, result_text};
 use session_parts::{Addition, News};
-use session_relation::Stored;
-use session_state::{Phase, Step, id_at, phase_at};
-use session_texts::{Texts, refused_texts, result_text};
 
 // The number of the call that the status has news of for a session.
 fn has_news(status: &Status, is_blocking: bool) -> bool

@@ -1,6 +1,6 @@
 //! What others see of a session, and what they take out.
 ghost use Rattle.std.specs.Prelude.{◌≡◌, length, slice_get, option_map};
-ghost use Rattle.session_laws.specs.Events.{Sends};
+ghost use Rattle.session_handling.specs.session_laws.Events.{Sends};
 ghost use Rattle.session_journal.specs.Journal.{runs};
 ghost use Rattle.session.specs.Kept.{seen, IsKept};
 ghost use Rattle.session.specs.Lines.{lines_of};

@@ -1,10 +1,10 @@
 //! Sessions.
 ghost use Rattle.std.specs.Prelude.{◌≡◌, ◌≤◌, ◌+◌, ◌*◌, length, map, slice_get, option_map, option_copied, IfOk};
-ghost use Rattle.journal_model.specs.Subscriptions.{sub_named};
-ghost use Rattle.session_laws.specs.Session.{new_session};
-ghost use Rattle.session_laws.specs.Events.{Takes, Handles, Loads, Advances, Feeds, Learns, Refuses, Sends, Closes, observer_of};
-ghost use Rattle.session_state.specs.Own.{as_blocking};
-ghost use Rattle.session_state.specs.Subs.{as_live, observers_of};
+ghost use Rattle.session_handling.specs.journal_model.Subscriptions.{sub_named};
+ghost use Rattle.session_handling.specs.session_laws.Session.{new_session};
+ghost use Rattle.session_handling.specs.session_laws.Events.{Takes, Handles, Loads, Advances, Feeds, Learns, Refuses, Sends, Closes, observer_of};
+ghost use Rattle.session_handling.specs.session_state.Own.{as_blocking};
+ghost use Rattle.session_handling.specs.session_state.Subs.{as_live, observers_of};
 ghost use Rattle.session_work.specs.Work.{as_work, work_of, running_from};
 ghost use Rattle.session_journal.specs.Journal.{runs};
 ghost use Rattle.ejson_value.specs.Changes.{news_of};
@@ -25,10 +25,10 @@ use json::Scratch;
 use known_texts::KnownTexts;
 use program_steps::Status;
 use selector_match::Steps;
+use session_handling::session_laws::EventFault;
+use session_handling::session_state::{Call, Sub, sub_named};
+use session_handling::session_texts::Texts;
 use session_journal::Line;
-use session_laws::EventFault;
-use session_state::{Call, Sub, sub_named};
-use session_texts::Texts;
 use session_work::{Work, running, tasks_of};
 use std::alloc::Global;
 use std::marker::Model;
@@ -38,9 +38,16 @@ use std::sync::ledger::Ledger;
 /// keeps neither the texts that it took, nor the moments of its store, nor the texts that were sent:
 /// it stands for them by a relation that each event keeps. A call of `learn` or `refuse` hands in
 /// what is so at some moment of the store.
-#[derive(Drop)]
 pub struct Session {
     inner: Inner,
+}
+
+// A `derive` would have each crate that lets one go prove anew how all that it holds is let go.
+impl Drop for Session {
+    fn drop(self) {
+        let Session { inner } = self;
+        drop(inner);
+    }
 }
 
 impl Model for Session {
@@ -48,7 +55,7 @@ impl Model for Session {
     ghost use Rattle.value_model.specs.Coding.{val_code};
     ghost use Rattle.selector_match.specs.Coding.{query_code};
     ghost use Rattle.sort_window.specs.Coding.{window_code};
-    ghost use Rattle.session_laws.specs.Session.{ASession};
+    ghost use Rattle.session_handling.specs.session_laws.Session.{ASession};
     ghost use Rattle.session.specs.Kept.{seen, IsKept};
 
     ghost Value = { ASession };

@@ -3,11 +3,11 @@ ghost use Rattle.std.specs.Prelude.{◌≡◌, ◌<◌, ◌≤◌, length, false
 ghost use Rattle.std.specs.VecDeque.{deque_len, deque_capacity};
 ghost use Rattle.ddp_messages.specs.ClientMessage.{client_view};
 ghost use Rattle.method_queue.specs.Queue.{pushed, IsFull};
-ghost use Rattle.journal_model.specs.Taking.{to_queue, taken_text};
-ghost use Rattle.session_texts.specs.Taking.{as_item};
-ghost use Rattle.session_laws.specs.Storing.{kept_as};
-ghost use Rattle.session_laws.specs.Session.{is_full, is_at_work, HadRoom};
-ghost use Rattle.session_laws.specs.Events.{IsAnswered, IsTakenAs, IsTakeCause, IsPutCause, Takes};
+ghost use Rattle.session_handling.specs.journal_model.Taking.{to_queue, taken_text};
+ghost use Rattle.session_handling.specs.session_texts.Taking.{as_item};
+ghost use Rattle.session_handling.specs.session_laws.Storing.{kept_as};
+ghost use Rattle.session_handling.specs.session_laws.Session.{is_full, is_at_work, HadRoom};
+ghost use Rattle.session_handling.specs.session_laws.Events.{IsAnswered, IsTakenAs, IsTakeCause, IsPutCause, Takes};
 ghost use Rattle.session.specs.Kept.{seen, IsKept};
 ghost use Rattle.session.specs.Adding.{step_by, fault_of, IsPushCause};
 
@@ -15,11 +15,11 @@ use crate::inner::{Inner, add, is_at_work, test};
 use ddp_messages::FromClient;
 use ejson_value::{Mem, Text};
 use method_queue::{MethodQueue, PushFault};
-use session_laws::EventFault;
+use session_handling::session_laws::EventFault;
+use session_handling::session_relation::Stored;
+use session_handling::session_state::Step;
+use session_handling::session_texts::{Answer, Taken, answer_texts, taken_from};
 use session_parts::{Addition, News};
-use session_relation::Stored;
-use session_state::Step;
-use session_texts::{Answer, Taken, answer_texts, taken_from};
 use std::alloc::Global;
 use std::collections::VecDeque;
 

@@ -34,11 +34,23 @@ pub struct Lent {
 /// What publications, each called with its parameters, tell of the entries of one store's history: what
 /// is kept of it is made once, however many sessions ask. The last batch of changes is kept too. A
 /// contract sees what each publication tells of each entry that is kept, and the batch.
-#[derive(Drop)]
 pub struct SharedNews {
     alloc: Global,
     sources: Vec<Source>,
     batch: Option<Arc<Batch>>,
+}
+
+// A `derive` would have each crate that lets one go prove anew how all that it holds is let go.
+impl Drop for SharedNews {
+    fn drop(self) {
+        let SharedNews {
+            alloc: _,
+            sources,
+            batch,
+        } = self;
+        drop(sources);
+        drop(batch);
+    }
 }
 
 impl Model for SharedNews {

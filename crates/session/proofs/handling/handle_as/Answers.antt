@@ -3,8 +3,8 @@ use Rattle.merge_model.specs.Publishing.{Call}
 use Rattle.value_model.specs.Val.{Entries}
 use Rattle.ejson_value.specs.declared.key.Key.{Key}
 use Rattle.method_queue.specs.Queue.{Queue}
-use Rattle.session_laws.specs.Session.{ASession}
-use Rattle.session_laws.specs.Events.{HasHandled}
+use Rattle.session_handling.specs.session_laws.Session.{ASession}
+use Rattle.session_handling.specs.session_laws.Events.{HasHandled}
 use Rattle.session.specs.declared.inner.Inner.{Inner}
 use Rattle.session.specs.Kept.{seen}
 use Rattle.session.specs.Adding.{IsAddedTo, AreAlike}

@@ -1,6 +1,6 @@
 use Rattle.std.proofs.Common.{refl}
 use Rattle.std.proofs.lemmas.Result.{on_ok_weaker}
-use Rattle.session_state.specs.Own.{as_state}
+use Rattle.session_handling.specs.session_state.Own.{as_state}
 use Rattle.session_parts.specs.Adding.{call_by}
 use Rattle.session.specs.declared.inner.Inner.{Inner}
 use Rattle.session.proofs.Counted.{can_step}

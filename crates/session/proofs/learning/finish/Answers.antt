@@ -1,15 +1,15 @@
 use Rattle.std.proofs.Common.{◌≡◌, List, ℕ, [], ◌∷◌, ◌++◌, map, None, Some, refl, ap, sym, subst, ◌∙◌}
 use Rattle.program_steps.specs.Runs.{End, outcome_view}
-use Rattle.journal_model.specs.Items.{finished}
-use Rattle.journal_model.specs.Methods.{id_at}
-use Rattle.journal_model.specs.Texts.{server_text}
-use Rattle.journal_model.specs.Out.{result_by}
-use Rattle.session_relation.specs.declared.stored.Stored.TheVariants.{Finished}
-use Rattle.session_state.specs.declared.own.Step.TheVariants.{Finish}
-use Rattle.session_state.specs.declared.calls.Method.{Method}
-use Rattle.session_state.specs.Calls.{as_method}
+use Rattle.session_handling.specs.journal_model.Items.{finished}
+use Rattle.session_handling.specs.journal_model.Methods.{id_at}
+use Rattle.session_handling.specs.journal_model.Texts.{server_text}
+use Rattle.session_handling.specs.journal_model.Out.{result_by}
+use Rattle.session_handling.specs.session_relation.declared.stored.Stored.TheVariants.{Finished}
+use Rattle.session_handling.specs.session_state.declared.own.Step.TheVariants.{Finish}
+use Rattle.session_handling.specs.session_state.declared.calls.Method.{Method}
+use Rattle.session_handling.specs.session_state.Calls.{as_method}
 use Rattle.session_parts.specs.declared.adding.Addition.{Addition}
-use Rattle.session_laws.specs.Events.{IsLearnt}
+use Rattle.session_handling.specs.session_laws.Events.{IsLearnt}
 use Rattle.session.specs.declared.inner.Inner.{Inner}
 use Rattle.session.specs.Kept.{seen}
 use Rattle.session.proofs.Keeping.{HasMoved, HasStayed}

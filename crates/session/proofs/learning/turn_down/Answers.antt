@@ -1,12 +1,12 @@
 use Rattle.std.proofs.Common.{◌≡◌, List, [], ◌∷◌, map, None, refl, ap, sym, ◌∙◌}
-use Rattle.journal_model.specs.Items.{refused}
-use Rattle.journal_model.specs.Methods.{id_at}
-use Rattle.journal_model.specs.Texts.{server_text}
-use Rattle.journal_model.specs.Out.{history_full, all_refused_with}
-use Rattle.session_relation.specs.declared.stored.Stored.TheVariants.{Refused}
-use Rattle.session_state.specs.declared.own.Step.TheVariants.{Refuse}
-use Rattle.session_state.specs.declared.calls.Method.{Method}
-use Rattle.session_state.specs.Calls.{as_method}
+use Rattle.session_handling.specs.journal_model.Items.{refused}
+use Rattle.session_handling.specs.journal_model.Methods.{id_at}
+use Rattle.session_handling.specs.journal_model.Texts.{server_text}
+use Rattle.session_handling.specs.journal_model.Out.{history_full, all_refused_with}
+use Rattle.session_handling.specs.session_relation.declared.stored.Stored.TheVariants.{Refused}
+use Rattle.session_handling.specs.session_state.declared.own.Step.TheVariants.{Refuse}
+use Rattle.session_handling.specs.session_state.declared.calls.Method.{Method}
+use Rattle.session_handling.specs.session_state.Calls.{as_method}
 use Rattle.session_parts.specs.declared.adding.Addition.{Addition}
 use Rattle.session.specs.declared.inner.Inner.{Inner}
 use Rattle.session.specs.Kept.{seen}

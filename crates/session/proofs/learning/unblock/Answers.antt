@@ -1,7 +1,7 @@
 use Rattle.std.proofs.Common.{[], None, refl}
-use Rattle.journal_model.specs.Items.{unblocked}
-use Rattle.session_relation.specs.declared.stored.Stored.TheVariants.{Unblocked}
-use Rattle.session_state.specs.declared.own.Step.TheVariants.{Unblock}
+use Rattle.session_handling.specs.journal_model.Items.{unblocked}
+use Rattle.session_handling.specs.session_relation.declared.stored.Stored.TheVariants.{Unblocked}
+use Rattle.session_handling.specs.session_state.declared.own.Step.TheVariants.{Unblock}
 use Rattle.session_parts.specs.declared.adding.Addition.{Addition}
 use Rattle.session.specs.declared.inner.Inner.{Inner}
 use Rattle.session.proofs.Keeping.{HasMoved, HasStayed}

@@ -1,6 +1,6 @@
 use Rattle.std.specs.Prelude.{Bool, Ok, is_some}
 use Rattle.std.proofs.Common.{ap, subst, ◌∙◌}
-use Rattle.session_laws.specs.Session.{HadRoom}
+use Rattle.session_handling.specs.session_laws.Session.{HadRoom}
 use Rattle.session.specs.Kept.{seen}
 use Rattle.session.proofs.Outcomes.{tested_is, advances}
 use Rattle.session.proofs.showing.advance.Goals as goal

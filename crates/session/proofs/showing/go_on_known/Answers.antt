@@ -1,7 +1,7 @@
 use Rattle.std.proofs.Common.{None, refl}
 use Rattle.std.proofs.lemmas.Result.{on_ok_weaker}
-use Rattle.session_relation.specs.declared.stored.Stored.TheVariants.{Advance}
-use Rattle.session_state.specs.declared.own.Step.TheVariants.{Show}
+use Rattle.session_handling.specs.session_relation.declared.stored.Stored.TheVariants.{Advance}
+use Rattle.session_handling.specs.session_state.declared.own.Step.TheVariants.{Show}
 use Rattle.session_parts.specs.declared.adding.Addition.{Addition}
 use Rattle.session.proofs.Keeping.{HasMoved, HasStayed}
 use Rattle.session.proofs.Shown.{has_gone}

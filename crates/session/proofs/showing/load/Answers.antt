@@ -1,8 +1,8 @@
 use Rattle.std.specs.Prelude.{Bool, Err, Ok}
 use Rattle.std.proofs.Common.{refl, ap, subst, ◌∙◌}
-use Rattle.session_laws.specs.declared.fault.EventFault.{EventFault}
-use Rattle.session_laws.specs.Session.{can_load, IsCause, HadRoom}
-use Rattle.session_laws.specs.Events.{Loads, Outcome}
+use Rattle.session_handling.specs.session_laws.declared.fault.EventFault.{EventFault}
+use Rattle.session_handling.specs.session_laws.Session.{can_load, IsCause, HadRoom}
+use Rattle.session_handling.specs.session_laws.Events.{Loads, Outcome}
 use Rattle.session.specs.Kept.{seen}
 use Rattle.session.proofs.Outcomes.{on_error, memory_cause, tested_is, loads, loads_none}
 use Rattle.session.proofs.showing.load.Goals as goal

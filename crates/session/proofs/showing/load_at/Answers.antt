@@ -1,9 +1,9 @@
 use Rattle.std.proofs.Common.{◌≡◌, List, Some, None, refl, ap, sym, ◌∙◌}
 use Rattle.std.specs.Prelude.{map}
-use Rattle.session_relation.specs.declared.stored.Stored.TheVariants.{Load}
-use Rattle.session_state.specs.declared.own.Step.TheVariants.{Show}
-use Rattle.session_state.specs.declared.subs.Sub.{Sub}
-use Rattle.session_state.specs.Subs.{as_live, live_of}
+use Rattle.session_handling.specs.session_relation.declared.stored.Stored.TheVariants.{Load}
+use Rattle.session_handling.specs.session_state.declared.own.Step.TheVariants.{Show}
+use Rattle.session_handling.specs.session_state.declared.subs.Sub.{Sub}
+use Rattle.session_handling.specs.session_state.Subs.{as_live, live_of}
 use Rattle.merge_model.specs.Publishing.{apply}
 use Rattle.ejson_value.specs.Changes.{news_of}
 use Rattle.session_parts.specs.declared.adding.Addition.{Addition}

@@ -1,7 +1,7 @@
 use Rattle.std.proofs.Common.{List, Some, Option, subst, ◌∙◌}
 use Rattle.ejson_value.specs.declared.change.Change.{Change}
-use Rattle.live_observer.specs.Observing.{AnObserver}
-use Rattle.session_laws.specs.Events.{Tells}
+use Rattle.session_handling.specs.live_observer.Observing.{AnObserver}
+use Rattle.session_handling.specs.session_laws.Events.{Tells}
 use Rattle.session.specs.Observed.{IsObserved}
 use Rattle.session.proofs.Shown.{observer_is}
 use Rattle.session.proofs.showing.observed.Goals as goal

@@ -1,6 +1,6 @@
 use Rattle.std.proofs.Common.{◌+◌, None, refl, sym, arith}
-use Rattle.session_state.specs.declared.own.Step.{Step}
-use Rattle.session_state.specs.Own.{as_state}
+use Rattle.session_handling.specs.session_state.declared.own.Step.{Step}
+use Rattle.session_handling.specs.session_state.Own.{as_state}
 use Rattle.session_parts.specs.declared.adding.Addition.{Addition}
 use Rattle.session.specs.declared.inner.Inner.{Inner}
 use Rattle.session.specs.Adding.{Follows}

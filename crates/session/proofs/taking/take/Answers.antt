@@ -1,8 +1,8 @@
 use Rattle.std.specs.Prelude.{Bool, Err, Ok}
 use Rattle.std.proofs.Common.{ap, subst, ◌∙◌}
-use Rattle.session_laws.specs.declared.fault.EventFault.{EventFault}
-use Rattle.session_laws.specs.Session.{IsCause, HadRoom}
-use Rattle.session_laws.specs.Events.{Takes, Outcome}
+use Rattle.session_handling.specs.session_laws.declared.fault.EventFault.{EventFault}
+use Rattle.session_handling.specs.session_laws.Session.{IsCause, HadRoom}
+use Rattle.session_handling.specs.session_laws.Events.{Takes, Outcome}
 use Rattle.session.specs.Kept.{seen}
 use Rattle.session.proofs.Outcomes.{on_error, tested_is, takes_refused, takes_so}
 use Rattle.session.proofs.taking.take.Goals as goal

@@ -1,9 +1,9 @@
 use Rattle.std.specs.Prelude.{OnOk}
 use Rattle.std.proofs.Common.{ℕ, length, ap, sym, subst, ◌∙◌, arith}
 use Rattle.ddp_messages.specs.ClientMessage.{client_view}
-use Rattle.journal_model.specs.Taking.{Taken, taken_text}
-use Rattle.session_texts.specs.Taking.{as_taken}
-use Rattle.session_laws.specs.Events.{IsTakenAs}
+use Rattle.session_handling.specs.journal_model.Taking.{Taken, taken_text}
+use Rattle.session_handling.specs.session_texts.Taking.{as_taken}
+use Rattle.session_handling.specs.session_laws.Events.{IsTakenAs}
 use Rattle.session.specs.Kept.{seen}
 use Rattle.session.proofs.Outcomes.{put_causes}
 use Rattle.session.proofs.Answering.{is_little}

@@ -1,6 +1,6 @@
 use Rattle.std.proofs.Common.{◌≤◌, ◌+◌, ◌*◌, length, subst}
-use Rattle.session_laws.specs.Session.{ASession}
-use Rattle.session_laws.specs.Events.{Advances, observer_of}
+use Rattle.session_handling.specs.session_laws.Session.{ASession}
+use Rattle.session_handling.specs.session_laws.Events.{Advances, observer_of}
 use Rattle.session.specs.Kept.{seen}
 use Rattle.session.specs.Limits.{watched_count}
 use Rattle.session.proofs.session.Session.advance.Goals as goal

@@ -1,7 +1,7 @@
 -- blocking
 use Rattle.std.proofs.Common.{option_map, ap, ◌∙◌}
-use Rattle.session_state.specs.Own.{as_blocking}
-use Rattle.session_laws.specs.Session.{ASession}
+use Rattle.session_handling.specs.session_state.Own.{as_blocking}
+use Rattle.session_handling.specs.session_laws.Session.{ASession}
 use Rattle.session.proofs.session.Session.blocking.Goals as goal
 
 pub returns : goal.returns

@@ -1,6 +1,6 @@
 use Rattle.std.proofs.Common.{subst}
-use Rattle.session_laws.specs.Session.{ASession, dropped}
-use Rattle.session_laws.specs.Events.{Closes}
+use Rattle.session_handling.specs.session_laws.Session.{ASession, dropped}
+use Rattle.session_handling.specs.session_laws.Events.{Closes}
 use Rattle.session.specs.Kept.{seen}
 use Rattle.session.proofs.Outcomes.{closes}
 use Rattle.session.proofs.session.Session.close.Goals as goal

@@ -1,8 +1,8 @@
 use Rattle.std.proofs.Common.{sym, subst}
 use Rattle.ejson_value.specs.Changes.{news_of}
 use Rattle.session_parts.specs.Known.{AreRight, AreLearnt}
-use Rattle.session_laws.specs.Session.{ASession}
-use Rattle.session_laws.specs.Events.{Feeds}
+use Rattle.session_handling.specs.session_laws.Session.{ASession}
+use Rattle.session_handling.specs.session_laws.Events.{Feeds}
 use Rattle.session.specs.Kept.{seen}
 use Rattle.session.proofs.session.Session.feed.Goals as goal
 

@@ -1,6 +1,6 @@
 use Rattle.std.proofs.Common.{subst}
-use Rattle.session_laws.specs.Session.{ASession}
-use Rattle.session_laws.specs.Events.{Handles}
+use Rattle.session_handling.specs.session_laws.Session.{ASession}
+use Rattle.session_handling.specs.session_laws.Events.{Handles}
 use Rattle.session.specs.Kept.{seen}
 use Rattle.session.proofs.session.Session.handle.Goals as goal
 

@@ -1,6 +1,6 @@
 use Rattle.std.proofs.Common.{ap, ◌∙◌}
 use Rattle.session.specs.Limits.{is_limited}
-use Rattle.session_laws.specs.Session.{ASession}
+use Rattle.session_handling.specs.session_laws.Session.{ASession}
 use Rattle.session.proofs.session.Session.limited.Goals as goal
 
 pub returns : goal.returns

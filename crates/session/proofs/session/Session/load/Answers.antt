@@ -1,6 +1,6 @@
 use Rattle.std.proofs.Common.{subst}
-use Rattle.session_laws.specs.Session.{ASession}
-use Rattle.session_laws.specs.Events.{Loads}
+use Rattle.session_handling.specs.session_laws.Session.{ASession}
+use Rattle.session_handling.specs.session_laws.Events.{Loads}
 use Rattle.session.specs.Kept.{seen}
 use Rattle.session.proofs.session.Session.load.Goals as goal
 

@@ -2,7 +2,7 @@ use Rattle.std.specs.Prelude.{slice_get}
 use Rattle.std.proofs.Common.{ap, ◌∙◌}
 use Rattle.session_journal.specs.Journal.{runs}
 use Rattle.session.specs.Lines.{lines_of}
-use Rattle.session_laws.specs.Session.{ASession}
+use Rattle.session_handling.specs.session_laws.Session.{ASession}
 use Rattle.session.proofs.session.Session.record.Goals as goal
 
 pub returns : goal.returns

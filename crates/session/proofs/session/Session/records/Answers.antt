@@ -1,7 +1,7 @@
 use Rattle.std.proofs.Common.{ap, ◌∙◌, length}
 use Rattle.session_journal.specs.Journal.{runs}
 use Rattle.session.specs.Lines.{lines_of}
-use Rattle.session_laws.specs.Session.{ASession}
+use Rattle.session_handling.specs.session_laws.Session.{ASession}
 use Rattle.session.proofs.session.Session.records.Goals as goal
 
 pub returns : goal.returns

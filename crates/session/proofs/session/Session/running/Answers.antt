@@ -2,7 +2,7 @@
 use Rattle.std.specs.Prelude.{IfOk}
 use Rattle.std.proofs.Common.{◌≡◌, subst}
 use Rattle.session_work.specs.Work.{running_from}
-use Rattle.session_laws.specs.Session.{ASession}
+use Rattle.session_handling.specs.session_laws.Session.{ASession}
 use Rattle.session.proofs.session.Session.running.Goals as goal
 
 pub returns : goal.returns

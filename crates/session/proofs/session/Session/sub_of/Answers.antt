@@ -1,8 +1,8 @@
 use Rattle.std.proofs.Common.{List, map, ap, ◌∙◌}
-use Rattle.journal_model.specs.Subscriptions.{sub_named}
-use Rattle.session_state.specs.declared.subs.Sub.{Sub}
-use Rattle.session_state.specs.Subs.{as_live}
-use Rattle.session_laws.specs.Session.{ASession}
+use Rattle.session_handling.specs.journal_model.Subscriptions.{sub_named}
+use Rattle.session_handling.specs.session_state.declared.subs.Sub.{Sub}
+use Rattle.session_handling.specs.session_state.Subs.{as_live}
+use Rattle.session_handling.specs.session_laws.Session.{ASession}
 use Rattle.session.proofs.session.Session.sub_of.Goals as goal
 
 pub returns : goal.returns

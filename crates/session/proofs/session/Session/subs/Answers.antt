@@ -1,9 +1,9 @@
 -- subs
 use Rattle.std.proofs.Common.{map, ap, ◌∙◌}
-use Rattle.session_state.specs.declared.subs.Sub.{Sub}
-use Rattle.session_state.specs.Subs.{as_live, observers_of}
+use Rattle.session_handling.specs.session_state.declared.subs.Sub.{Sub}
+use Rattle.session_handling.specs.session_state.Subs.{as_live, observers_of}
 use Rattle.std.specs.Prelude.{List}
-use Rattle.session_laws.specs.Session.{ASession}
+use Rattle.session_handling.specs.session_laws.Session.{ASession}
 use Rattle.session.proofs.session.Session.subs.Goals as goal
 
 pub returns-clause-live : goal.returns-clause-live

@@ -2,7 +2,7 @@
 use Rattle.std.proofs.Common.{◌≡◌, rules, length, ap, sym, ◌∙◌}
 use Rattle.std.proofs.lemmas.List.{length-map}
 use Rattle.method_queue.specs.Queue.{Waiting}
-use Rattle.session_laws.specs.Session.{ASession}
+use Rattle.session_handling.specs.session_laws.Session.{ASession}
 use Rattle.session.proofs.session.Session.waiting.Goals as goal
 
 pub returns : goal.returns

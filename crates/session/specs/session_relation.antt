@@ -1,0 +1,2 @@
+-- What crates above name of `session_relation`.
+pub use Rattle.session_handling.specs.session_relation.declared
