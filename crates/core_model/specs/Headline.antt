@@ -1,5 +1,5 @@
 -- What holds of a world: the headline, and what holds of a settled world.
-use Rattle.std.specs.Prelude.{◌≡◌, ◌⊎◌, ℕ, ◌-◌, ◌<◌, ◌≤◌, ◌==◌, List, [], ◌∷◌, ◌++◌, length, filter, take, Bool, true, false, not, ◌||◌, nat_lt, Some, None, IsSome, IfSome, is_some, if◌then◌else◌}
+use Rattle.std.specs.Prelude.{◌≡◌, ◌⊎◌, ℕ, ◌+◌, ◌-◌, ◌*◌, ◌<◌, ◌≤◌, ◌==◌, List, [], ◌∷◌, ◌++◌, length, filter, take, Bool, true, false, not, ◌||◌, nat_lt, Some, None, IsSome, IfSome, is_some, if◌then◌else◌}
 use Rattle.std.specs.List.{list_any, list_all}
 use Rattle.merge_model.specs.Merge.{IsMerge}
 use Rattle.merge_model.specs.Publishing.{shown_since}
@@ -20,13 +20,14 @@ use Rattle.journal_model.specs.Items.{Item}
 use Rattle.journal_model.specs.Items as item
 use Rattle.journal_model.specs.Subscriptions.{Live, of_sub}
 use Rattle.journal_model.specs.Methods.{Method, Blocking}
-use Rattle.journal_model.specs.State.{state_of, calling}
+use Rattle.journal_model.specs.State.{calling}
 use Rattle.journal_model.specs.Moments.{Moment}
 use Rattle.journal_model.specs.Shown.{calls_of}
 use Rattle.journal_model.specs.Out.{out}
 use Rattle.journal_model.specs.Counting.{results, updateds, methods_handled, is_running}
-use Rattle.journal_model.specs.CaughtUp.{AreCaughtUp}
-use Rattle.journal_model.specs.LooksBack.{opened_in, loaded_at, is_closed, answers_of, answers_by_fate}
+use Rattle.journal_model.specs.LooksBack.{opened_in, loaded_at, is_closed, is_refused_in}
+use Rattle.journal_model.specs.Replies.{replies, replies_due}
+use Rattle.journal_model.specs.Reflected.{methods_reflected}
 use Rattle.core_model.specs.Store.{programs, held_in, moments}
 use Rattle.core_model.specs.Conn.{Conn, state_in, journal_limit}
 use Rattle.core_model.specs.World.{World, conn_of}
@@ -83,13 +84,6 @@ abbrev pub calls_in : List Item → List Blocking
 calls_in [] = []
 calls_in (i ∷ items) = call_by i ++ calls_in items
 
-abbrev pub refuses : ℕ → Item → Bool
-refuses k (item.refused j place) = k == j
-refuses k i = false
-
-abbrev pub is_refused_in : List Item → ℕ → Bool
-is_refused_in items k = list_any (refuses k) items
-
 -- those that were not refused
 abbrev pub standing : List Item → List Blocking
 standing items = filter (λ (b : Blocking). not (is_refused_in items b.k)) (calls_in items)
@@ -103,18 +97,47 @@ abbrev pub begun_in : ℕ → List Entry → List Blocking
 begun_in number [] = []
 begun_in number (e ∷ es) = begun_by number e ++ begun_in number es
 
+-- the call that blocks is still to begin; those before it are begun
+pub record IsAwaiting (history : List Entry) (c : Conn) : Type 0 where
+  pub call : Blocking
+  pub blocks : (state_in c).blocking ≡ Some call
+  pub others : begun_in c.number history ++ call ∷ [] ≡ standing c.items
+
+-- The history begins each call that stands exactly once, in order, with its method, its parameters and its seed; the one that
+-- blocks may be still to begin.
+abbrev pub IsOnce : List Entry → Conn → Type 0
+IsOnce history c = (begun_in c.number history ≡ standing c.items) ⊎ IsAwaiting history c
+
 -- ---- answers
 
--- Each subscription that was opened has its `ready` where it was loaded, and then its `nosub` where it was closed. Each method that was handled has one `result` and one `updated`, and the `result`
--- stands first. From the `updated` on each live subscription shows at least what the method wrote (Meteor's DDP.md, "Managing data", "Remote procedure calls").
+-- What is so of the messages of every session, at work or at rest. The `ready`s and `nosub`s with an id are those that the requests
+-- with it have, in their order. No `updated` stands before its `result`. And at no time are more methods with an id `updated` than there
+-- are whose writes each live subscription shows that is loaded (Meteor's DDP.md, "Managing data", "Remote procedure calls").
+pub record IsAnswering (number : ℕ) (C : List Moment) (items : List Item) : Type 0 where
+  pub subs : (id : List ℕ) → replies id (out C number items) ≡ replies_due id items
+  pub order : (id : List ℕ) (ms rest : List ServerMessage) → out C number items ≡ ms ++ rest → updateds id ms ≤ results id ms
+  pub shown : (id : List ℕ) (n : ℕ) → updateds id (out C number (take n items)) ≤ methods_reflected id (take n items)
+
+-- And nothing is left to answer. Each subscription that was opened is loaded or closed, so that each `sub` has its `ready` or a `nosub`.
+-- Each method that was handled has one `result` and one `updated`.
 pub record IsAnswered (number : ℕ) (C : List Moment) (items : List Item) : Type 0 where
-  pub subs : (s : ℕ) → s < opened_in items → (answers_of s items ≡ answers_by_fate (is_some (loaded_at s items)) (is_closed s items)) × ((is_some (loaded_at s items) || is_closed s items) ≡ true)
+  pub so_far : IsAnswering number C items
+  pub subs : (s : ℕ) → s < opened_in items → (is_some (loaded_at s items) || is_closed s items) ≡ true
   pub result : (id : List ℕ) → results id (out C number items) ≡ methods_handled id items
   pub updated : (id : List ℕ) → updateds id (out C number items) ≡ methods_handled id items
-  pub order : (id : List ℕ) (ms rest : List ServerMessage) → out C number items ≡ ms ++ rest → updateds id ms ≤ results id ms
-  pub shown : AreCaughtUp (state_of items)
 
 -- ---- the headline
+
+-- how many items the journal may have, by the texts that the session took, the history and the subscriptions that were opened
+abbrev pub most_items : List Entry → Conn → ℕ
+most_items history c = 3 * length c.received + length history * opened_in c.items
+
+-- What holds of every session: its calls are begun once, its requests have the answers that are due so far, and its journal has at
+-- most three items for each text that it took, and as many as the history has entries for each subscription that it opened.
+pub record IsTrueSession (app : App) (history : List Entry) (c : Conn) : Type 0 where
+  pub once : IsOnce history c
+  pub answering : IsAnswering c.number (moments app c.number history) c.items
+  pub short : length c.items ≤ most_items history c
 
 -- What holds of a quiescent session: nothing of a simulation is left in what its client shows; that is, key by key and field by field, the merge of what its live subscriptions publish of the store,
 -- queried anew, where the one that has published a field longest goes before the others; each `sub` and each `method` has its answers; and each call that was handled and not refused was begun once.
@@ -124,9 +147,11 @@ pub record IsWhole (app : App) (history : List Entry) (c : Conn) : Type 0 where
   pub answered : IsAnswered c.number (moments app c.number history) c.items
   pub once : begun_in c.number history ≡ standing c.items
 
--- THE HEADLINE: the store is the fold of one legal history, and whenever a session is quiescent its client has what is published of the store.
+-- THE HEADLINE: the store is the fold of one legal history, each session is true to it, and whenever a session is quiescent its client
+-- has what is published of the store.
 pub record IsTrueWorld (w : World) : Type 0 where
   pub legal : IsLegal (programs w.app) w.history
+  pub sessions : (name : List ℕ) → IfSome (conn_of w name) (IsTrueSession w.app w.history)
   pub whole : (name : List ℕ) → IfSome (conn_of w name) (λ (c : Conn). IsQuiescent w.history c → IsWhole w.app w.history c)
 
 -- ---- clients that break
@@ -152,10 +177,28 @@ abbrev pub is_bad : Item → Bool
 is_bad (item.bad reason offending) = true
 is_bad i = false
 
--- The session is quiescent; or its client sent a text as it stands; or one of its texts was refused; or the client took a text that is too long; or the journal is full.
+-- the journal is full, and may be
+pub record IsFilled (history : List Entry) (c : Conn) : Type 0 where
+  pub full : journal_limit ≤ length c.items
+  pub many : journal_limit ≤ most_items history c
+
+-- The session is quiescent; or its client sent a text as it stands; or one of its texts was refused; or the client took a text that is
+-- too long; or the journal is full.
 abbrev pub IsAtRest : List Entry → Conn → Type 0
 IsAtRest history c =
-    IsQuiescent history c ⊎ ((c.made_raw ≡ true) ⊎ ((list_any is_bad c.items ≡ true) ⊎ ((c.client.broken ≡ Some 1) ⊎ (journal_limit ≤ length c.items))))
+    IsQuiescent history c ⊎ ((c.made_raw ≡ true) ⊎ ((list_any is_bad c.items ≡ true) ⊎ ((c.client.broken ≡ Some 1) ⊎ IsFilled history c)))
+
+-- The client sent no text as it stands, none of its texts was refused, it took none that is too long, and its journal has room for all
+-- that may come of its texts and the history.
+pub record IsModest (history : List Entry) (c : Conn) : Type 0 where
+  pub asked : c.made_raw ≡ false
+  pub read : list_any is_bad c.items ≡ false
+  pub taken : list_any is_long (taken_by c) ≡ false
+  pub few : most_items history c < journal_limit
+
+-- so it is quiescent, where it is there
+abbrev pub AreModestQuiescent : World → Type 0
+AreModestQuiescent w = (name : List ℕ) → IfSome (conn_of w name) (λ (c : Conn). c.is_dropped ≡ false → IsModest w.history c → IsQuiescent w.history c)
 
 -- each session whose client is there is at rest
 abbrev pub AreAtRest : World → Type 0

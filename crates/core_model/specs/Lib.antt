@@ -9,3 +9,10 @@ pub mod Events
 pub mod Lines
 pub mod Headline
 pub mod WorldLaws
+-- what lies below, for the crates above
+pub mod history_log
+pub mod history_model
+pub mod history_model_for_proofs
+pub mod journal_model
+pub mod program_model
+pub mod publication

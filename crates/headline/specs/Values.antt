@@ -7,21 +7,21 @@ use Rattle.ddp_messages.specs.ClientMessage.{ClientMessage}
 use Rattle.ddp_messages.specs.ClientMessage as client
 use Rattle.ddp_messages.specs.Limits.{ClientHasValues}
 use Rattle.app_model.specs.App.{App}
-use Rattle.history_model.specs.declared.entry.Entry.{Entry}
-use Rattle.history_model.specs.History.{status_in}
-use Rattle.journal_model.specs.Items.{Item, params_of, handled_by, handled}
-use Rattle.journal_model.specs.Items as item
-use Rattle.journal_model.specs.Methods.{Blocking}
-use Rattle.journal_model.specs.Taking.{Taken, at_once, to_queue, taken_text, connects, message_of, queued_from}
-use Rattle.journal_model.specs.Answering.{Answers}
+use Rattle.link_laws.specs.history_model.declared.entry.Entry.{Entry}
+use Rattle.link_laws.specs.history_model.History.{status_in}
+use Rattle.link_laws.specs.journal_model.Items.{Item, params_of, handled_by, handled}
+use Rattle.link_laws.specs.journal_model.Items as item
+use Rattle.link_laws.specs.journal_model.Methods.{Blocking}
+use Rattle.link_laws.specs.journal_model.Taking.{Taken, at_once, to_queue, taken_text, connects, message_of, queued_from}
+use Rattle.link_laws.specs.journal_model.Answering.{Answers}
 use Rattle.stored_values.specs.Values.{AreEntries}
 use Rattle.stored_values.specs.TakenValues.{IsTaken, taken_is}
-use Rattle.core_model.specs.declared.events.Act.{Act}
-use Rattle.core_model.specs.declared.events.Act.TheVariants as act
-use Rattle.core_model.specs.Store.{held_in}
-use Rattle.core_model.specs.Conn.{Conn, state_in}
-use Rattle.core_model.specs.Acts.{without_run, unbegun, is_refused, begin_entry, begun, is_kept, entries}
-use Rattle.core_model.specs.Headline.{calls_in}
+use Rattle.link_laws.specs.core_model.declared.events.Act.{Act}
+use Rattle.link_laws.specs.core_model.declared.events.Act.TheVariants as act
+use Rattle.link_laws.specs.core_model.Store.{held_in}
+use Rattle.link_laws.specs.core_model.Conn.{Conn, state_in}
+use Rattle.link_laws.specs.core_model.Acts.{without_run, unbegun, is_refused, begin_entry, begun, is_kept, entries}
+use Rattle.link_laws.specs.core_model.Headline.{calls_in}
 use Rattle.link_laws.specs.Session.{IsServed}
 
 -- ---- messages

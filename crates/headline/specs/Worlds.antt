@@ -2,19 +2,20 @@
 use Rattle.std.specs.Prelude.{◌≡◌, ℕ, List, [], ◌∷◌, Option, Some, None, IfSome, refl}
 use Rattle.std.proofs.Common.{sym, subst}
 use Rattle.app_model.specs.App.{App}
-use Rattle.history_model.specs.declared.entry.Entry.{Entry}
-use Rattle.history_model.specs.declared.entry.Entry.TheVariants as entry
-use Rattle.history_model.specs.History.{IsLegal}
+use Rattle.link_laws.specs.history_model.declared.entry.Entry.{Entry}
+use Rattle.link_laws.specs.history_model.declared.entry.Entry.TheVariants as entry
+use Rattle.link_laws.specs.history_model.History.{IsLegal}
 use Rattle.stored_values.specs.Values.{HasValues, AreEntries}
 use Rattle.stored_values.specs.MomentValues.{moments_are_kept}
-use Rattle.core_model.specs.declared.events.Event.{Event}
-use Rattle.core_model.specs.Store.{programs}
-use Rattle.core_model.specs.Conn.{Conn}
-use Rattle.core_model.specs.World.{World, start, conn_of}
-use Rattle.core_model.specs.Events.{run, AreEvents}
-use Rattle.core_model.specs.Headline.{IsQuiescent, IsWhole, IsTrueWorld}
+use Rattle.link_laws.specs.core_model.declared.events.Event.{Event}
+use Rattle.link_laws.specs.core_model.Store.{programs}
+use Rattle.link_laws.specs.core_model.Conn.{Conn}
+use Rattle.link_laws.specs.core_model.World.{World, start, conn_of}
+use Rattle.link_laws.specs.core_model.Events.{run, AreEvents}
+use Rattle.link_laws.specs.core_model.Headline.{IsTrueSession, IsQuiescent, IsWhole, IsTrueWorld}
 use Rattle.link_laws.specs.Lift.{IsKept, Holds, every_world}
 use Rattle.link_laws.specs.Links.{IsLinked, links_kept}
+use Rattle.link_laws.specs.Sessions.{session_is_true}
 use Rattle.link_laws.specs.Whole.{quiescent_is_whole}
 use Rattle.headline.specs.Values.{entries_more, act_valued}
 
@@ -35,10 +36,14 @@ sound_kept first = record {
 }
 
 true_world : (first : App) (w : World) → HasValues (programs first) → Holds (IsSound first) IsLinked (sound_kept first) w → IsTrueWorld w
-true_world first w good l = record { legal = l.history.legal; whole = λ name. by name (conn_of w name) refl }
+true_world first w good l = record { legal = l.history.legal; sessions = λ name. each name (conn_of w name) refl; whole = λ name. by name (conn_of w name) refl }
   where
     values : HasValues (programs w.app)
     values = subst (λ (a : App). HasValues (programs a)) (sym l.history.same) good
+
+    each : (name : List ℕ) (o : Option Conn) → conn_of w name ≡ o → IfSome o (IsTrueSession w.app w.history)
+    each name None e = tt
+    each name (Some c) e = session_is_true w.app w.history c (l.all name c e)
 
     by : (name : List ℕ) (o : Option Conn) → conn_of w name ≡ o → IfSome o (λ (c : Conn). IsQuiescent w.history c → IsWhole w.app w.history c)
     by name None e = tt

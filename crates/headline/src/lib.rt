@@ -5,16 +5,17 @@
 ghost use Rattle.std.specs.Prelude.{List};
 ghost use Rattle.app_model.specs.App.{App};
 ghost use Rattle.stored_values.specs.Values.{HasValues};
-ghost use Rattle.core_model.specs.declared.events.Event.{Event};
-ghost use Rattle.core_model.specs.Store.{programs};
-ghost use Rattle.core_model.specs.World.{start};
-ghost use Rattle.core_model.specs.Events.{run, AreEvents};
-ghost use Rattle.core_model.specs.Headline.{IsTrueWorld};
+ghost use Rattle.link_laws.specs.core_model.declared.events.Event.{Event};
+ghost use Rattle.link_laws.specs.core_model.Store.{programs};
+ghost use Rattle.link_laws.specs.core_model.World.{start};
+ghost use Rattle.link_laws.specs.core_model.Events.{run, AreEvents};
+ghost use Rattle.link_laws.specs.core_model.Headline.{IsTrueWorld};
 
 /// Over every list of events, whenever a session is quiescent, what its client shows equals, field by field, the merge of
-/// its live publications over the store, queried anew; the store is the fold of one legal history in which each method that
-/// was handled and not refused stands exactly once; and each request has its answers. The application's programs are made
-/// of values, as each that is read is.
+/// its live publications over the store, queried anew; the store is the fold of one legal history, which begins each method
+/// that any session handled and that was not refused exactly once; and each request has its answers. At each time, too, a
+/// method's `updated` comes after what it wrote is shown. The application's programs are made of values, as each that is
+/// read is.
 pub fn worlds_are_true()
     ensures { (app : App) (events : List Event) → HasValues (programs app) → AreEvents events → IsTrueWorld (run (start app) events) }
 {}

@@ -99,12 +99,12 @@ pub record IsLast (k : ℕ) (methods : List Method) : Type 0 where
 abbrev pub BlocksLast : State → Type 0
 BlocksLast st = (k : ℕ) → is_blocked_by k st.blocking ≡ true → IsLast k st.methods
 
-turned_length : (k : ℕ) (p : Phase) (ms : List Method) → length (turned k p ms) ≡ length ms
+pub turned_length : (k : ℕ) (p : Phase) (ms : List Method) → length (turned k p ms) ≡ length ms
 turned_length k p [] = refl
 turned_length zero p (m ∷ ms) = refl
 turned_length (suc k) p (m ∷ ms) = ap suc (turned_length k p ms)
 
-fire_length : (ls : List Live) (ms : List Method) → length (fire ls ms) ≡ length ms
+pub fire_length : (ls : List Live) (ms : List Method) → length (fire ls ms) ≡ length ms
 fire_length ls [] = refl
 fire_length ls (m ∷ ms) = ap suc (fire_length ls ms)
 

@@ -56,7 +56,7 @@ open_is app number st (client.pong id) s message cursors e = cc e
 
 -- ---- a subscription that is closed
 
-named_live : (id : List ℕ) (ls : List Live) (s : ℕ) → sub_named id ls ≡ Some s → is_live s ls ≡ true
+pub named_live : (id : List ℕ) (ls : List Live) (s : ℕ) → sub_named id ls ≡ Some s → is_live s ls ≡ true
 named_live id [] s e = cc e
 named_live id (l ∷ ls) s e =
     elim (is_name id l.id) as (λ b. cond b (Some l.sub) (sub_named id ls) ≡ Some s → cond (s == l.sub) true (is_live s ls) ≡ true) [

@@ -17,3 +17,7 @@ pub mod Told
 pub mod Takes
 pub mod SubAnswers
 pub mod Order
+pub mod Beginnings
+pub mod Reflecting
+pub mod Replying
+pub mod Lengths

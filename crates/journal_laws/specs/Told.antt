@@ -128,7 +128,7 @@ was_either k items i w = by (eq-or-lt_of_le w.within)
 
 -- ---- what a call's phase says
 
-abbrev Says : ℕ → List Item → Option Phase → Type 0
+abbrev pub Says : ℕ → List Item → Option Phase → Type 0
 Says k items (Some (finished place)) = (finished_at k items ≡ Some place) × (WasFenceOpen k items → ⊥)
 Says k items (Some (told place)) = (finished_at k items ≡ Some place) × WasFenceOpen k items
 Says k items o = finished_at k items ≡ None
@@ -221,7 +221,7 @@ says_from app number C st before (i ∷ items) t l h f =
     subst (KnowsFences (state_from (after st i) items)) (append_assoc before (i ∷ []) items)
     (says_from app number C (after st i) (before ++ i ∷ []) items (tracks_after st before t app number C i f.0) (last_after app number C st i f.0 l) (after_says app number C st before i t f.0 l h) f.1)
 
-says : (app : App) (number : ℕ) (C : List Moment) (items : List Item) → Fits app number C items → (k : ℕ) → Says k items (phase_at k (state_of items).methods)
+pub says : (app : App) (number : ℕ) (C : List Moment) (items : List Item) → Fits app number C items → (k : ℕ) → Says k items (phase_at k (state_of items).methods)
 says app number C items f = says_from app number C started [] items tracks_first (λ k e. cc e) (λ k. refl) f
 
 -- ---- the law

@@ -96,7 +96,7 @@ loaded_here s place (l ∷ ls) e =
 moved_none : (count : ℕ) → moved count None ≡ None
 moved_none count = refl
 
-advanced_here : (s count : ℕ) (ls : List Live) → cursor_of s (advanced s count ls) ≡ moved count (cursor_of s ls)
+pub advanced_here : (s count : ℕ) (ls : List Live) → cursor_of s (advanced s count ls) ≡ moved count (cursor_of s ls)
 advanced_here s count [] = refl
 advanced_here s count (l ∷ ls) =
     elim (s == l.sub) as (λ b. s == l.sub ≡ b → cursor_of s (cond b (record l { cursor = moved count l.cursor } ∷ ls) (l ∷ advanced s count ls)) ≡ moved count (cond b l.cursor (cursor_of s ls))) [

@@ -2,7 +2,7 @@
 //! which its contract states.
 #![tactic(auto)]
 
-ghost use Rattle.std.specs.Prelude.{◌≡◌, ◌↔◌, ◌≤◌, ℕ, ◌+◌, ◌++◌, [], List, map, true, is_some};
+ghost use Rattle.std.specs.Prelude.{◌≡◌, ◌↔◌, ◌≤◌, ℕ, suc, ◌+◌, ◌*◌, ◌++◌, [], List, length, map, take, true, is_some};
 ghost use Rattle.map_model.specs.Maps.{IsSorted};
 ghost use Rattle.map_model.specs.Differences.{all_taken};
 ghost use Rattle.merge_model.specs.Merge.{IsMerge};
@@ -11,6 +11,7 @@ ghost use Rattle.value_model.specs.Order.{text_cmp};
 ghost use Rattle.ejson_value.specs.declared.change.Publish.{Publish};
 ghost use Rattle.ejson_value.specs.Key.{key_cmp};
 ghost use Rattle.ejson_value.specs.Rows.{Rows};
+ghost use Rattle.ddp_messages.specs.ClientMessage.{ClientMessage};
 ghost use Rattle.ddp_messages.specs.ServerMessage.{ServerMessage};
 ghost use Rattle.app_model.specs.App.{App};
 ghost use Rattle.publication.specs.Cursors.{ACursors};
@@ -29,7 +30,10 @@ ghost use Rattle.journal_model.specs.Fits.{Fits};
 ghost use Rattle.journal_model.specs.Kept.{AreStored, AreKept};
 ghost use Rattle.journal_model.specs.Counting.{results, updateds, methods_handled, is_running, is_armed, number_in};
 ghost use Rattle.journal_model.specs.CaughtUp.{AreCaughtUp};
-ghost use Rattle.journal_model.specs.LooksBack.{cursor_in, loaded_at, is_closed, WasFenceOpen, answers_of, answers_by_fate};
+ghost use Rattle.journal_model.specs.LooksBack.{cursor_in, opened_in, loaded_at, is_closed, WasFenceOpen, answers_of, answers_by_fate};
+ghost use Rattle.journal_model.specs.Answering.{Answers};
+ghost use Rattle.journal_model.specs.Replies.{replies, replies_due};
+ghost use Rattle.journal_model.specs.Reflected.{methods_reflected};
 ghost use Rattle.journal_laws.specs.Shows.{AreInOrder};
 ghost use Rattle.journal_laws.specs.Floors.{AreFloors};
 ghost use Rattle.journal_laws.specs.Told.{is_told};
@@ -48,6 +52,11 @@ pub fn what_is_published_can_be_stored()
 /// A journal that fits a store's moments fits those with later ones.
 pub fn journals_fit_longer_stores()
     ensures { (app : App) (number : ℕ) (C more : List Moment) (items : List Item) → Fits app number C items → Fits app number (C ++ more) items }
+{}
+
+/// A beginning of a journal that fits is one that fits.
+pub fn beginnings_fit()
+    ensures { (app : App) (number : ℕ) (C : List Moment) (items : List Item) → Fits app number C items → (n : ℕ) → Fits app number C (take n items) }
 {}
 
 /// Later moments of the store leave the texts of a journal.
@@ -92,10 +101,31 @@ pub fn what_is_updated_is_shown()
     ensures { (app : App) (number : ℕ) (C : List Moment) (items : List Item) → Fits app number C items → AreCaughtUp (state_of items) }
 {}
 
+/// At no time are more methods with an id told `updated` than there are whose writes are shown by each live subscription
+/// that is loaded.
+pub fn no_method_is_updated_before_it_is_shown()
+    ensures { (app : App) (number : ℕ) (C : List Moment) (items : List Item) → Fits app number C items → (id : List ℕ) (n : ℕ) →
+        updateds id (out C number (take n items)) ≤ methods_reflected id (take n items) }
+{}
+
 /// A subscription has one `ready` where it was loaded, and then one `nosub` where it was closed.
 pub fn subscriptions_are_answered()
     ensures { (app : App) (number : ℕ) (C : List Moment) (items : List Item) → Fits app number C items →
         (s : ℕ) → answers_of s items ≡ answers_by_fate (is_some (loaded_at s items)) (is_closed s items) }
+{}
+
+/// The `ready`s and `nosub`s with an id are those that the requests with it have, in their order: a `sub` that opened a
+/// subscription has a `ready` where the subscription is loaded, one that was refused has a `nosub`, and so has each `unsub`.
+pub fn requests_are_answered()
+    ensures { (app : App) (number : ℕ) (C : List Moment) (items : List Item) → Fits app number C items →
+        (id : List ℕ) → replies id (out C number items) ≡ replies_due id items }
+{}
+
+/// A journal has at most three items for each text that its session took, and as many as the history has entries for each
+/// subscription that was opened.
+pub fn journals_are_short()
+    ensures { (app : App) (number : ℕ) (C : List Moment) (entries : ℕ) (texts : List (List ℕ)) (items : List Item) (waiting : List ClientMessage) →
+        length C ≡ suc entries → Fits app number C items → Answers texts items waiting → length items ≤ 3 * length texts + entries * opened_in items }
 {}
 
 /// The place that is kept of a subscription is the one that the journal says.

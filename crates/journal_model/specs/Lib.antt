@@ -15,3 +15,5 @@ pub mod CaughtUp
 pub mod Kept
 pub mod LooksBack
 pub mod Answering
+pub mod Replies
+pub mod Reflected

@@ -74,6 +74,15 @@ before_open s (i ∷ items) = if opens s i then [] else i ∷ before_open s item
 abbrev pub floor_in : ℕ → List Item → ℕ
 floor_in s items = reach_from [] (before_open s items)
 
+-- ---- calls that were refused
+
+abbrev pub refuses : ℕ → Item → Bool
+refuses k (item.refused j place) = k == j
+refuses k i = false
+
+abbrev pub is_refused_in : List Item → ℕ → Bool
+is_refused_in items k = list_any (refuses k) items
+
 -- ---- fences
 
 abbrev pub finish_by : ℕ → Item → Option ℕ

@@ -13,17 +13,17 @@ use Rattle.ejson_value.specs.View.{view}
 use Rattle.ddp_messages.specs.ClientMessage.{ClientMessage}
 use Rattle.program_steps.specs.declared.outcome.Status.{Status}
 use Rattle.app_model.specs.App.{App}
-use Rattle.history_model.specs.declared.entry.Entry.{Entry}
-use Rattle.history_model.specs.declared.entry.Entry.TheVariants as entry
-use Rattle.history_model.specs.History.{run_cmp, status_in, begins}
-use Rattle.history_model.specs.HistoryLaws.{run_order}
-use Rattle.history_model.specs.BegunLaws.{run_where_begun}
-use Rattle.journal_model.specs.Items.{Item}
-use Rattle.journal_model.specs.Items as item
-use Rattle.journal_model.specs.Methods.{Blocking, is_blocked_by, freed}
-use Rattle.journal_model.specs.State.{State, started, calling, after, state_of}
-use Rattle.journal_model.specs.Moments.{Moment, moment_at}
-use Rattle.journal_model.specs.Fits.{IsRefusedAt, CanFollow, Fits}
+use Rattle.core_model.specs.history_model.declared.entry.Entry.{Entry}
+use Rattle.core_model.specs.history_model.declared.entry.Entry.TheVariants as entry
+use Rattle.core_model.specs.history_model.History.{run_cmp, status_in, begins}
+use Rattle.core_model.specs.history_model.HistoryLaws.{run_order}
+use Rattle.core_model.specs.history_model.BegunLaws.{run_where_begun}
+use Rattle.core_model.specs.journal_model.Items.{Item}
+use Rattle.core_model.specs.journal_model.Items as item
+use Rattle.core_model.specs.journal_model.Methods.{Blocking, is_blocked_by, freed}
+use Rattle.core_model.specs.journal_model.State.{State, started, calling, after, state_of}
+use Rattle.core_model.specs.journal_model.Moments.{Moment, moment_at}
+use Rattle.core_model.specs.journal_model.Fits.{IsRefusedAt, CanFollow, Fits}
 use Rattle.journal_laws.specs.Appending.{state-append}
 use Rattle.journal_laws.specs.Blocking.{call_number, refused_blocks}
 use Rattle.core_model.specs.Store.{programs, held_in, value_of}

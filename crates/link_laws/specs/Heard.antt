@@ -21,8 +21,8 @@ use Rattle.client_model.specs.Taking.{max_server_text, documents_in, told_messag
 use Rattle.client_model.specs.Asking.{can_take}
 use Rattle.client_model.specs.Showing.{IsShown}
 use Rattle.client_model.specs.TakingLaws.{new_shown, texts_shown, called_shown}
-use Rattle.journal_model.specs.Texts.{or_unknown, message_in, messages_in}
-use Rattle.journal_model.specs.Data.{data_in, data_of}
+use Rattle.core_model.specs.journal_model.Texts.{or_unknown, message_in, messages_in}
+use Rattle.core_model.specs.journal_model.Data.{data_in, data_of}
 use Rattle.journal_laws.specs.Taken.{data_of-append, all_taken-append}
 use Rattle.core_model.specs.Conn.{Conn}
 use Rattle.core_model.specs.Acts.{goes_up, sends, takes}

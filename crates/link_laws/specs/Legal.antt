@@ -16,21 +16,21 @@ use Rattle.collection_store.specs.Outcome.{Outcome}
 use Rattle.collection_store.specs.Applied.{Applied}
 use Rattle.collection_store.specs.declared.operation.Op.{Op}
 use Rattle.app_model.specs.App.{App, method}
-use Rattle.history_model.specs.declared.entry.Entry.{Entry}
-use Rattle.history_model.specs.declared.entry.Entry.TheVariants as entry
-use Rattle.history_model.specs.Operations.{operation_in}
-use Rattle.history_model.specs.History.{RunKey, run_cmp, Begun, Runs, status_of, status_in, room_in, is_full, is_full_for_operation, is_next, is_answered, is_made, can_follow, IsLegal}
-use Rattle.history_model.specs.HistoryLaws.{run_order, IsLegal-append}
-use Rattle.history_model.specs.BegunLaws.{run_where_begun}
-use Rattle.journal_model.specs.declared.fault.SubFault.TheVariants as fault
-use Rattle.journal_model.specs.Publication.{Making, making}
-use Rattle.journal_model.specs.Items.{Item, name_of}
-use Rattle.journal_model.specs.Items as item
-use Rattle.journal_model.specs.Subscriptions.{sub_named, is_crowded}
-use Rattle.journal_model.specs.Methods.{Blocking}
-use Rattle.journal_model.specs.State.{State, started, after, state_of}
-use Rattle.journal_model.specs.Moments.{Moment}
-use Rattle.journal_model.specs.Fits.{seed_or, opened_by, closed_by, item_for, CanFollow, FitsFrom}
+use Rattle.core_model.specs.history_model.declared.entry.Entry.{Entry}
+use Rattle.core_model.specs.history_model.declared.entry.Entry.TheVariants as entry
+use Rattle.core_model.specs.history_model.Operations.{operation_in}
+use Rattle.core_model.specs.history_model.History.{RunKey, run_cmp, Begun, Runs, status_of, status_in, room_in, is_full, is_full_for_operation, is_next, is_answered, is_made, can_follow, IsLegal}
+use Rattle.core_model.specs.history_model.HistoryLaws.{run_order, IsLegal-append}
+use Rattle.core_model.specs.history_model.BegunLaws.{run_where_begun}
+use Rattle.core_model.specs.journal_model.declared.fault.SubFault.TheVariants as fault
+use Rattle.core_model.specs.journal_model.Publication.{Making, making}
+use Rattle.core_model.specs.journal_model.Items.{Item, name_of}
+use Rattle.core_model.specs.journal_model.Items as item
+use Rattle.core_model.specs.journal_model.Subscriptions.{sub_named, is_crowded}
+use Rattle.core_model.specs.journal_model.Methods.{Blocking}
+use Rattle.core_model.specs.journal_model.State.{State, started, after, state_of}
+use Rattle.core_model.specs.journal_model.Moments.{Moment}
+use Rattle.core_model.specs.journal_model.Fits.{seed_or, opened_by, closed_by, item_for, CanFollow, FitsFrom}
 use Rattle.core_model.specs.declared.events.Act.{Act}
 use Rattle.core_model.specs.declared.events.Act.TheVariants as act
 use Rattle.core_model.specs.Store.{programs, held_in, moments, value_of}
@@ -38,7 +38,8 @@ use Rattle.core_model.specs.Conn.{Conn, state_in}
 use Rattle.core_model.specs.Acts.{without_run, unbegun, is_refused, begin_entry, begun, is_kept, enabled, entries}
 use Rattle.core_model.specs.World.{World}
 use Rattle.core_model.specs.Events.{applied_in, by_answer, by_operation, refusal_of}
-use Rattle.core_model.specs.Headline.{call_by, calls_in, is_refused_in, begun_in}
+use Rattle.core_model.specs.journal_model.LooksBack.{is_refused_in}
+use Rattle.core_model.specs.Headline.{call_by, calls_in, begun_in}
 use Rattle.link_laws.specs.Standing.{AreBelow, below_filtered}
 use Rattle.link_laws.specs.Begun.{runs_of, unrun, IsBegun, none_begun, view_of, cancel}
 use Rattle.link_laws.specs.Session.{IsServed}

@@ -11,5 +11,17 @@ pub mod Heard
 pub mod Operations
 pub mod Legal
 pub mod Links
+pub mod Sessions
 pub mod Whole
 pub mod Worlds
+-- what lies below, for the crates above
+pub mod core_model
+pub mod core_model_for_proofs
+pub mod history_log
+pub mod history_model
+pub mod history_model_for_proofs
+pub mod journal_laws
+pub mod journal_laws_for_proofs
+pub mod journal_model
+pub mod program_model
+pub mod publication

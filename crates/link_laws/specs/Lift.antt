@@ -13,11 +13,11 @@ use Rattle.value_model.specs.Order.{text_cmp}
 use Rattle.ejson_value.specs.Key.{name_order}
 use Rattle.ddp_messages.specs.Limits.{AreShallow}
 use Rattle.app_model.specs.App.{App}
-use Rattle.history_model.specs.declared.entry.Entry.{Entry}
-use Rattle.history_model.specs.declared.entry.Entry.TheVariants as entry
-use Rattle.journal_model.specs.Items.{Item}
-use Rattle.journal_model.specs.Methods.{Blocking}
-use Rattle.journal_model.specs.Taking.{Taken, at_once, to_queue, taken_text}
+use Rattle.core_model.specs.history_model.declared.entry.Entry.{Entry}
+use Rattle.core_model.specs.history_model.declared.entry.Entry.TheVariants as entry
+use Rattle.core_model.specs.journal_model.Items.{Item}
+use Rattle.core_model.specs.journal_model.Methods.{Blocking}
+use Rattle.core_model.specs.journal_model.Taking.{Taken, at_once, to_queue, taken_text}
 use Rattle.settling.specs.Tower.{often, raised, tower}
 use Rattle.settling.specs.Rounds as rounds
 use Rattle.core_model.specs.declared.events.Act.{Act}

@@ -8,10 +8,10 @@ use Rattle.ejson_value.specs.Key.{key_cmp}
 use Rattle.program_steps.specs.declared.outcome.Status.{Status}
 use Rattle.program_steps.specs.Runs.{End}
 use Rattle.app_model.specs.App.{App}
-use Rattle.history_model.specs.declared.entry.Entry.{Entry}
-use Rattle.history_model.specs.History.{Held, nothing, carried, held_from, held, held_at, status_at}
-use Rattle.history_model.specs.HistoryLaws.{sorted_carried}
-use Rattle.journal_model.specs.Moments.{moment_at, rows_of, run_of, rows_at, run_at, end_at}
+use Rattle.core_model.specs.history_model.declared.entry.Entry.{Entry}
+use Rattle.core_model.specs.history_model.History.{Held, nothing, carried, held_from, held, held_at, status_at}
+use Rattle.core_model.specs.history_model.HistoryLaws.{sorted_carried}
+use Rattle.core_model.specs.journal_model.Moments.{moment_at, rows_of, run_of, rows_at, run_at, end_at}
 use Rattle.journal_laws.specs.Shows.{AreInOrder}
 use Rattle.core_model.specs.Store.{programs, moment_of, moments_from, moments}
 

@@ -10,14 +10,14 @@ use Rattle.value_model.specs.Val.{Val}
 use Rattle.ejson_value.specs.View.{view}
 use Rattle.program_steps.specs.declared.outcome.Status.{Status}
 use Rattle.program_steps.specs.Runs.{Outcome, End}
-use Rattle.program_model.specs.Run.{begun}
-use Rattle.program_model.specs.Steps.{stepped}
-use Rattle.history_model.specs.declared.entry.Entry.{Entry}
-use Rattle.history_model.specs.declared.entry.Entry.TheVariants as entry
-use Rattle.history_model.specs.Operations.{operation_in}
-use Rattle.history_model.specs.History.{Programs, RunKey, run_cmp, Begun, Runs, Held, later, setting_in, steps_of, with_begin, with_stepped, no_steps, with_step, carried, held, held_at, status_of, status_in, status_at}
-use Rattle.history_model.specs.HistoryLaws.{run_order, held-append, held_at-longer, held_entries}
-use Rattle.history_model.specs.RunsLaws.{operation_runs, held_is}
+use Rattle.core_model.specs.program_model.Run.{begun}
+use Rattle.core_model.specs.program_model.Steps.{stepped}
+use Rattle.core_model.specs.history_model.declared.entry.Entry.{Entry}
+use Rattle.core_model.specs.history_model.declared.entry.Entry.TheVariants as entry
+use Rattle.core_model.specs.history_model.Operations.{operation_in}
+use Rattle.core_model.specs.history_model.History.{Programs, RunKey, run_cmp, Begun, Runs, Held, later, setting_in, steps_of, with_begin, with_stepped, no_steps, with_step, carried, held, held_at, status_of, status_in, status_at}
+use Rattle.core_model.specs.history_model.HistoryLaws.{run_order, held-append, held_at-longer, held_entries}
+use Rattle.core_model.specs.history_model.RunsLaws.{operation_runs, held_is}
 
 -- ---- what an entry leaves of a run
 

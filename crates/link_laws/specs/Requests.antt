@@ -11,16 +11,16 @@ use Rattle.ddp_messages.specs.ClientMessage.{ClientMessage, client_reading}
 use Rattle.ddp_messages.specs.ClientMessage as client
 use Rattle.ddp_messages.specs.ClientLaws.{client_ok}
 use Rattle.app_model.specs.App.{App, method}
-use Rattle.journal_model.specs.declared.fault.SubFault.TheVariants as fault
-use Rattle.journal_model.specs.Publication.{Making, making}
-use Rattle.journal_model.specs.Items.{Item, id_of, handled_by, handled}
-use Rattle.journal_model.specs.Items as item
-use Rattle.journal_model.specs.Subscriptions.{sub_named, is_crowded}
-use Rattle.journal_model.specs.State.{State}
-use Rattle.journal_model.specs.Moments.{Moment}
-use Rattle.journal_model.specs.Taking.{max_text, Taken, at_once, to_queue, refused_for, taken_as, taken_named, taken_tree, taken_text, connects, message_of, is_connected_by, queued_from}
-use Rattle.journal_model.specs.Answering.{is_at_once, Answers}
-use Rattle.journal_model.specs.Fits.{seed_or, opened_by, closed_by, item_for, IsHandled, CanFollow}
+use Rattle.core_model.specs.journal_model.declared.fault.SubFault.TheVariants as fault
+use Rattle.core_model.specs.journal_model.Publication.{Making, making}
+use Rattle.core_model.specs.journal_model.Items.{Item, id_of, handled_by, handled}
+use Rattle.core_model.specs.journal_model.Items as item
+use Rattle.core_model.specs.journal_model.Subscriptions.{sub_named, is_crowded}
+use Rattle.core_model.specs.journal_model.State.{State}
+use Rattle.core_model.specs.journal_model.Moments.{Moment}
+use Rattle.core_model.specs.journal_model.Taking.{max_text, Taken, at_once, to_queue, refused_for, taken_as, taken_named, taken_tree, taken_text, connects, message_of, is_connected_by, queued_from}
+use Rattle.core_model.specs.journal_model.Answering.{is_at_once, Answers}
+use Rattle.core_model.specs.journal_model.Fits.{seed_or, opened_by, closed_by, item_for, IsHandled, CanFollow}
 use Rattle.journal_laws.specs.Takes.{IsRight, taken_right}
 
 -- ---- what comes of a text

@@ -9,18 +9,18 @@ use Rattle.ddp_messages.specs.ClientMessage.{ClientMessage}
 use Rattle.program_steps.specs.declared.outcome.Status.{Status}
 use Rattle.program_steps.specs.Runs.{End}
 use Rattle.app_model.specs.App.{App}
-use Rattle.history_model.specs.declared.entry.Entry.{Entry}
-use Rattle.history_model.specs.History.{held, status_in, status_at, begins}
-use Rattle.history_model.specs.BegunLaws.{run_where_begun}
-use Rattle.journal_model.specs.Items.{Item, handled_by}
-use Rattle.journal_model.specs.Items as item
-use Rattle.journal_model.specs.Subscriptions.{may_load, cursor_of}
-use Rattle.journal_model.specs.Methods.{Phase, running, Blocking, is_blocked_by, freed, phase_at}
-use Rattle.journal_model.specs.State.{State, started, after}
-use Rattle.journal_model.specs.Moments.{Moment, moment_at}
-use Rattle.journal_model.specs.Fits.{item_for, IsRefusedAt, MayAdvance, CanFollow}
-use Rattle.journal_model.specs.Taking.{Taken, at_once, to_queue, taken_text}
-use Rattle.journal_model.specs.Answering.{is_at_once, Answers}
+use Rattle.core_model.specs.history_model.declared.entry.Entry.{Entry}
+use Rattle.core_model.specs.history_model.History.{held, status_in, status_at, begins}
+use Rattle.core_model.specs.history_model.BegunLaws.{run_where_begun}
+use Rattle.core_model.specs.journal_model.Items.{Item, handled_by}
+use Rattle.core_model.specs.journal_model.Items as item
+use Rattle.core_model.specs.journal_model.Subscriptions.{may_load, cursor_of}
+use Rattle.core_model.specs.journal_model.Methods.{Phase, running, Blocking, is_blocked_by, freed, phase_at}
+use Rattle.core_model.specs.journal_model.State.{State, started, after}
+use Rattle.core_model.specs.journal_model.Moments.{Moment, moment_at}
+use Rattle.core_model.specs.journal_model.Fits.{item_for, IsRefusedAt, MayAdvance, CanFollow}
+use Rattle.core_model.specs.journal_model.Taking.{Taken, at_once, to_queue, taken_text}
+use Rattle.core_model.specs.journal_model.Answering.{is_at_once, Answers}
 use Rattle.journal_laws.specs.Appending.{state-append}
 use Rattle.journal_laws.specs.Takes.{IsRight, taken_right, answers_at_once, answers_later, answers_in_turn}
 use Rattle.core_model.specs.Store.{programs, held_in, moment_of, moments}

@@ -5,20 +5,20 @@ use Rattle.std.proofs.lemmas.List.{append_assoc}
 use Rattle.std.proofs.lemmas.List.Folds.{list_any-append}
 use Rattle.ddp_messages.specs.ClientMessage.{ClientMessage}
 use Rattle.app_model.specs.App.{App}
-use Rattle.history_model.specs.declared.entry.Entry.{Entry}
-use Rattle.history_model.specs.declared.entry.Entry.TheVariants as entry
-use Rattle.history_model.specs.History.{held, begins}
-use Rattle.history_model.specs.BegunLaws.{run_where_begun}
-use Rattle.journal_model.specs.Texts.{server_text}
-use Rattle.journal_model.specs.Items.{Item, handled_by}
-use Rattle.journal_model.specs.Items as item
-use Rattle.journal_model.specs.Methods.{Blocking}
-use Rattle.journal_model.specs.State.{State, started, state_of}
-use Rattle.journal_model.specs.Moments.{Moment, moment_at}
-use Rattle.journal_model.specs.Shown.{calls_of}
-use Rattle.journal_model.specs.Out.{messages_of, out_texts}
-use Rattle.journal_model.specs.Fits.{IsRefusedAt, CanFollow, Fits}
-use Rattle.journal_model.specs.Answering.{Answers}
+use Rattle.core_model.specs.history_model.declared.entry.Entry.{Entry}
+use Rattle.core_model.specs.history_model.declared.entry.Entry.TheVariants as entry
+use Rattle.core_model.specs.history_model.History.{held, begins}
+use Rattle.core_model.specs.history_model.BegunLaws.{run_where_begun}
+use Rattle.core_model.specs.journal_model.Texts.{server_text}
+use Rattle.core_model.specs.journal_model.Items.{Item, handled_by}
+use Rattle.core_model.specs.journal_model.Items as item
+use Rattle.core_model.specs.journal_model.Methods.{Blocking}
+use Rattle.core_model.specs.journal_model.State.{State, started, state_of}
+use Rattle.core_model.specs.journal_model.Moments.{Moment, moment_at}
+use Rattle.core_model.specs.journal_model.Shown.{calls_of}
+use Rattle.core_model.specs.journal_model.Out.{messages_of, out_texts}
+use Rattle.core_model.specs.journal_model.Fits.{IsRefusedAt, CanFollow, Fits}
+use Rattle.core_model.specs.journal_model.Answering.{Answers}
 use Rattle.journal_laws.specs.Appending.{fits-append, out_texts-append}
 use Rattle.journal_laws.specs.Longer.{can_follow-longer, fits_from-longer, out_texts-longer}
 use Rattle.core_model.specs.Store.{programs, moment_of, moments}

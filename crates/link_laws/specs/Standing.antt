@@ -8,15 +8,16 @@ use Rattle.std.proofs.lemmas.Bool.{eqb-true, eq-eqb, ne_eqb}
 use Rattle.value_model.specs.Val.{Val}
 use Rattle.ddp_messages.specs.ClientMessage.{ClientMessage}
 use Rattle.app_model.specs.App.{App}
-use Rattle.journal_model.specs.Items.{Item, id_of}
-use Rattle.journal_model.specs.Items as item
-use Rattle.journal_model.specs.Subscriptions.{Live}
-use Rattle.journal_model.specs.Methods.{Phase, running, refused, finished, Method, Blocking, is_blocked_by, freed, turned, fire}
-use Rattle.journal_model.specs.State.{State, started, calling, own_after, after, state_from, state_of}
-use Rattle.journal_model.specs.Moments.{Moment, moment_at}
-use Rattle.journal_model.specs.Fits.{IsRefusedAt, CanFollow, FitsFrom, Fits}
+use Rattle.core_model.specs.journal_model.Items.{Item, id_of}
+use Rattle.core_model.specs.journal_model.Items as item
+use Rattle.core_model.specs.journal_model.Subscriptions.{Live}
+use Rattle.core_model.specs.journal_model.Methods.{Phase, running, refused, finished, Method, Blocking, is_blocked_by, freed, turned, fire}
+use Rattle.core_model.specs.journal_model.State.{State, started, calling, own_after, after, state_from, state_of}
+use Rattle.core_model.specs.journal_model.Moments.{Moment, moment_at}
+use Rattle.core_model.specs.journal_model.Fits.{IsRefusedAt, CanFollow, FitsFrom, Fits}
 use Rattle.journal_laws.specs.Blocking.{call_number, refused_blocks}
-use Rattle.core_model.specs.Headline.{call_by, calls_in, refuses, is_refused_in, standing}
+use Rattle.core_model.specs.journal_model.LooksBack.{refuses, is_refused_in}
+use Rattle.core_model.specs.Headline.{call_by, calls_in, standing}
 
 -- ---- one item at the end
 

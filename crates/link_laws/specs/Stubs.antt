@@ -18,9 +18,9 @@ use Rattle.ejson_value.specs.Key.{key_cmp, key_order, key_exact}
 use Rattle.ejson_value.specs.Rows.{Rows}
 use Rattle.ejson_value.specs.Changes.{changes_of}
 use Rattle.collection_store.specs.Answered.{AreTouched}
-use Rattle.program_model.specs.Kept.{LeadsOn}
-use Rattle.program_model.specs.Steps.{Stepped}
-use Rattle.program_model.specs.StepLaws.{simulated_leads, sorted_led}
+use Rattle.core_model.specs.program_model.Kept.{LeadsOn}
+use Rattle.core_model.specs.program_model.Steps.{Stepped}
+use Rattle.core_model.specs.program_model.StepLaws.{simulated_leads, sorted_led}
 use Rattle.app_model.specs.App.{App, method}
 use Rattle.client_model.specs.Client.{Client}
 use Rattle.client_model.specs.Asking.{seed_of}

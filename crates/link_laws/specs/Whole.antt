@@ -11,31 +11,29 @@ use Rattle.ejson_value.specs.Rows.{Rows}
 use Rattle.program_steps.specs.declared.outcome.Status.{Status}
 use Rattle.program_steps.specs.Runs.{End}
 use Rattle.app_model.specs.App.{App}
-use Rattle.history_model.specs.declared.entry.Entry.{Entry}
+use Rattle.core_model.specs.history_model.declared.entry.Entry.{Entry}
 use Rattle.client_model.specs.TakingLaws.{rest_shown}
-use Rattle.journal_model.specs.Publication.{queried}
-use Rattle.journal_model.specs.Texts.{messages_in}
-use Rattle.journal_model.specs.Items.{Item, id_of}
-use Rattle.journal_model.specs.Items as item
-use Rattle.journal_model.specs.Subscriptions.{Live, is_live, cursor_of, past, is_open}
-use Rattle.journal_model.specs.Methods.{Phase, running, refused, finished, told, Method, Blocking, is_blocked_by, phase_at, turned, fired, fire}
-use Rattle.journal_model.specs.State.{State, started, own_after, after, state_from}
-use Rattle.journal_model.specs.Moments.{Moment, moment_at, run_of, end_at, rows_at}
-use Rattle.journal_model.specs.Shown.{shown_at, shown_in, merged}
-use Rattle.journal_model.specs.Data.{data_of}
-use Rattle.journal_model.specs.Out.{out_texts}
-use Rattle.journal_model.specs.Fits.{CanFollow, FitsFrom, Fits}
-use Rattle.journal_model.specs.Kept.{AreKept}
-use Rattle.journal_model.specs.Counting.{one_if, is_running, is_armed, number_in}
-use Rattle.journal_model.specs.LooksBack.{opened_in, loaded_at, advances, is_closed}
+use Rattle.core_model.specs.journal_model.Publication.{queried}
+use Rattle.core_model.specs.journal_model.Texts.{messages_in}
+use Rattle.core_model.specs.journal_model.Items.{Item, id_of}
+use Rattle.core_model.specs.journal_model.Items as item
+use Rattle.core_model.specs.journal_model.Subscriptions.{Live, is_live, cursor_of, past, is_open}
+use Rattle.core_model.specs.journal_model.Methods.{Phase, running, refused, finished, told, Method, Blocking, is_blocked_by, phase_at, turned, fired, fire}
+use Rattle.core_model.specs.journal_model.State.{State, started, own_after, after, state_from}
+use Rattle.core_model.specs.journal_model.Moments.{Moment, moment_at, run_of, end_at, rows_at}
+use Rattle.core_model.specs.journal_model.Shown.{shown_at, shown_in, merged}
+use Rattle.core_model.specs.journal_model.Data.{data_of}
+use Rattle.core_model.specs.journal_model.Out.{out_texts}
+use Rattle.core_model.specs.journal_model.Fits.{CanFollow, FitsFrom, Fits}
+use Rattle.core_model.specs.journal_model.Kept.{AreKept}
+use Rattle.core_model.specs.journal_model.Counting.{one_if, is_running, is_armed, number_in}
+use Rattle.core_model.specs.journal_model.LooksBack.{opened_in, loaded_at, advances, is_closed}
 use Rattle.journal_laws.specs.Shows.{merge_same, journal_merge}
 use Rattle.journal_laws.specs.Taken.{out-taken}
 use Rattle.journal_laws.specs.Readable.{out_reads}
 use Rattle.journal_laws.specs.Blocking.{BlocksLast, last_from}
 use Rattle.journal_laws.specs.Counts.{none_blocks, methods_are_answered}
-use Rattle.journal_laws.specs.Order.{results_come_first}
-use Rattle.journal_laws.specs.Fences.{caught_up, IsShut, AreShut, after_shut}
-use Rattle.journal_laws.specs.SubAnswers.{sub_answers}
+use Rattle.journal_laws.specs.Fences.{IsShut, AreShut, after_shut}
 use Rattle.journal_laws.specs.Tracking.{tracks}
 use Rattle.core_model.specs.Store.{held_in, moments}
 use Rattle.core_model.specs.Conn.{Conn, state_in}
@@ -43,6 +41,7 @@ use Rattle.core_model.specs.Headline.{AreAtEnd, have_ended, IsQuiescent, whole_s
 use Rattle.link_laws.specs.Moments.{moments_length, rows_now, moments_in_order}
 use Rattle.link_laws.specs.Begun.{runs_of, unrun}
 use Rattle.link_laws.specs.Links.{IsLinked}
+use Rattle.link_laws.specs.Sessions.{answering}
 
 -- ---- at the end of the history
 
@@ -180,7 +179,8 @@ module _ (app : App) (h : List Entry) (c : Conn) (p : IsLinked app h c) (q : IsQ
 
   answered : IsAnswered c.number C c.items
   answered = record {
-    subs = λ s less. (sub_answers app c.number C c.items fits s, subs_answered s less);
+    so_far = answering app h c p;
+    subs = subs_answered;
     result = λ id. let m = methods_are_answered app c.number C c.items fits id in omega (arith, m.0, ended_runs id (state_in c).methods q.ended);
     updated = λ id.
         let m = methods_are_answered app c.number C c.items fits id in
@@ -191,8 +191,6 @@ module _ (app : App) (h : List Entry) (c : Conn) (p : IsLinked app h c) (q : IsQ
           ended_runs id (state_in c).methods q.ended,
           none_armed id (length h) (state_in c).subs (state_in c).methods q.at_end (shut_from started c.items tt) (subst (λ n. AreAt n (state_in c).methods) (moments_length app c.number h) (at_from app c.number C started c.items fits tt)),
         );
-    order = λ id ms rest e. results_come_first app c.number C c.items fits id ms rest e;
-    shown = caught_up app c.number C c.items fits;
   }
 
   once : begun_in c.number h ≡ standing c.items

@@ -1,8 +1,8 @@
 -- The laws of every world that events lead to.
 use Rattle.std.specs.Prelude.{◌≡◌, ℕ, List, Option, None, Some, IfSome, refl}
 use Rattle.app_model.specs.App.{App}
-use Rattle.history_model.specs.History.{IsLegal}
-use Rattle.journal_model.specs.Kept.{AreKept}
+use Rattle.core_model.specs.history_model.History.{IsLegal}
+use Rattle.core_model.specs.journal_model.Kept.{AreKept}
 use Rattle.core_model.specs.declared.events.Event.{Event}
 use Rattle.core_model.specs.Store.{programs, moments}
 use Rattle.core_model.specs.Conn.{Conn}

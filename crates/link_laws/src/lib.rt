@@ -7,16 +7,18 @@ ghost use Rattle.std.specs.Prelude.{◌≡◌, ℕ, ◌≤◌, ◌++◌, List, l
 ghost use Rattle.program_steps.specs.declared.outcome.Status.{Status};
 ghost use Rattle.program_steps.specs.Runs.{End};
 ghost use Rattle.app_model.specs.App.{App};
-ghost use Rattle.history_model.specs.declared.entry.Entry.{Entry};
-ghost use Rattle.history_model.specs.History.{Programs, status_at, IsLegal};
-ghost use Rattle.journal_model.specs.Kept.{AreKept};
+ghost use Rattle.core_model.specs.history_model.declared.entry.Entry.{Entry};
+ghost use Rattle.core_model.specs.history_model.History.{Programs, status_at, IsLegal};
+ghost use Rattle.core_model.specs.journal_model.Kept.{AreKept};
 ghost use Rattle.core_model.specs.declared.events.Event.{Event};
 ghost use Rattle.core_model.specs.Store.{programs, moments};
 ghost use Rattle.core_model.specs.Conn.{Conn};
 ghost use Rattle.core_model.specs.World.{start, conn_of};
 ghost use Rattle.core_model.specs.Events.{run, AreEvents};
-ghost use Rattle.core_model.specs.Headline.{IsQuiescent, IsWhole};
+ghost use Rattle.core_model.specs.Headline.{IsTrueSession, IsQuiescent, IsWhole};
 ghost use Rattle.link_laws.specs.Links.{IsLinked};
+
+pub use core_model;
 
 /// The store's history is legal in every world that events lead to.
 pub fn histories_of_worlds_are_legal()
@@ -29,6 +31,12 @@ pub fn histories_of_worlds_are_legal()
 pub fn clients_are_linked_with_their_sessions()
     ensures { (app : App) (events : List Event) → AreEvents events → (name : List ℕ) →
         IfSome (conn_of (run (start app) events) name) (IsLinked (run (start app) events).app (run (start app) events).history) }
+{}
+
+/// Each session is true to the history: its calls are begun once, its requests have the answers that are due so far, and its
+/// journal is short.
+pub fn sessions_are_true()
+    ensures { (app : App) (history : List Entry) (c : Conn) → IsLinked app history c → IsTrueSession app history c }
 {}
 
 /// A quiescent session is whole, where the store has what messages can say.

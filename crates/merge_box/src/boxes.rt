@@ -6,7 +6,7 @@ ghost use Rattle.merge_model.specs.Kept.{merged as merged_docs, merged_doc, kept
 ghost use Rattle.ejson_value.specs.Key.{key_cmp};
 ghost use Rattle.ejson_value.specs.Changes.{news_of};
 ghost use Rattle.known_texts.specs.Places.{Texts};
-ghost use Rattle.merge_box.specs.State.{shared_count, IsPlan, IsBox};
+ghost use Rattle.merge_box.specs.State.{shared_count, StandsFor, IsPlan, IsBox};
 ghost use Rattle.merge_box.specs.Words.{NewsList, seen_in, said_all, AreWords};
 
 use crate::index::{Index, forget_unlisted};
@@ -75,9 +75,10 @@ fn merged_at(kept: &KeptMap, alloc: Global, key: &Key) -> Result<Option<Doc>, Me
 }
 
 impl MergeBox {
-    /// A box of which nobody publishes anything.
+    /// A box of which nobody publishes anything. It stands for no calls.
     pub fn new(alloc: Global) -> MergeBox
-        ensures { result ≡ record { kept = []; planned = [] } }
+        ensures empty { result ≡ record { kept = []; planned = [] } }
+        ensures stands { StandsFor [] result.kept }
     {
         MergeBox {
             alloc,

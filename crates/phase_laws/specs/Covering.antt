@@ -11,26 +11,27 @@ use Rattle.ejson_value.specs.View.{view}
 use Rattle.program_steps.specs.declared.step.ProgramStep.{ProgramStep}
 use Rattle.program_steps.specs.declared.outcome.Status.{Status}
 use Rattle.program_steps.specs.Runs.{Outcome, End}
-use Rattle.program_model.specs.Kept.{is_over}
+use Rattle.link_laws.specs.program_model.Kept.{is_over}
 use Rattle.app_model.specs.App.{App}
-use Rattle.history_model.specs.declared.entry.Entry.{Entry}
-use Rattle.history_model.specs.declared.entry.Entry.TheVariants as entry
-use Rattle.history_model.specs.History.{RunKey, run_cmp, Begun, held, held_at, status_of, status_at, begins, AllAbove, Rise}
-use Rattle.history_model.specs.HistoryLaws.{run_order}
-use Rattle.history_model.specs.Bounds.{IsBegun, StaysAs}
-use Rattle.history_model.specs.RunsLaws.{held_is, held_stays}
-use Rattle.history_model.specs.BegunLaws.{run_where_begun}
-use Rattle.history_model.specs.LimitLaws.{left_of}
-use Rattle.journal_model.specs.Items.{Item}
-use Rattle.journal_model.specs.Methods.{Phase, running, refused, finished, told, Method, Blocking, phase_at}
-use Rattle.journal_model.specs.Counting.{is_running}
-use Rattle.journal_model.specs.State.{state_of}
-use Rattle.journal_model.specs.Moments.{Moment, run_of, end_at}
-use Rattle.core_model.specs.Store.{programs, held_in, moments}
-use Rattle.core_model.specs.StoreLaws.{moments_past}
-use Rattle.core_model.specs.Conn.{Conn, state_in}
-use Rattle.core_model.specs.Settle.{running_from}
-use Rattle.core_model.specs.Headline.{calls_in, is_refused_in, standing, begun_by, begun_in}
+use Rattle.link_laws.specs.history_model.declared.entry.Entry.{Entry}
+use Rattle.link_laws.specs.history_model.declared.entry.Entry.TheVariants as entry
+use Rattle.link_laws.specs.history_model.History.{RunKey, run_cmp, Begun, held, held_at, status_of, status_at, begins, AllAbove, Rise}
+use Rattle.link_laws.specs.history_model.HistoryLaws.{run_order}
+use Rattle.link_laws.specs.history_model.Bounds.{IsBegun, StaysAs}
+use Rattle.link_laws.specs.history_model.RunsLaws.{held_is, held_stays}
+use Rattle.link_laws.specs.history_model.BegunLaws.{run_where_begun}
+use Rattle.link_laws.specs.history_model.LimitLaws.{left_of}
+use Rattle.link_laws.specs.journal_model.Items.{Item}
+use Rattle.link_laws.specs.journal_model.Methods.{Phase, running, refused, finished, told, Method, Blocking, phase_at}
+use Rattle.link_laws.specs.journal_model.Counting.{is_running}
+use Rattle.link_laws.specs.journal_model.State.{state_of}
+use Rattle.link_laws.specs.journal_model.Moments.{Moment, run_of, end_at}
+use Rattle.link_laws.specs.core_model.Store.{programs, held_in, moments}
+use Rattle.link_laws.specs.core_model.StoreLaws.{moments_past}
+use Rattle.link_laws.specs.core_model.Conn.{Conn, state_in}
+use Rattle.link_laws.specs.core_model.Settle.{running_from}
+use Rattle.link_laws.specs.journal_model.LooksBack.{is_refused_in}
+use Rattle.link_laws.specs.core_model.Headline.{calls_in, standing, begun_by, begun_in}
 use Rattle.link_laws.specs.Moments.{run_there}
 use Rattle.link_laws.specs.Begun.{runs_of, unrun, IsBegun as AreBegun, next_unrun}
 use Rattle.link_laws.specs.Session.{IsServed}

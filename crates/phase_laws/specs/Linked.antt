@@ -1,8 +1,8 @@
 -- An act leaves a client linked with its session.
 use Rattle.std.specs.Prelude.{◌≡◌, ◌++◌, true, false, cond, refl}
 use Rattle.app_model.specs.App.{App}
-use Rattle.core_model.specs.declared.events.Act.{Act}
-use Rattle.core_model.specs.Acts.{does, entries}
+use Rattle.link_laws.specs.core_model.declared.events.Act.{Act}
+use Rattle.link_laws.specs.core_model.Acts.{does, entries}
 use Rattle.link_laws.specs.Links.{IsLinked, links_kept}
 use Rattle.round_laws.specs.Visits.{Side, can_on, act_on}
 

@@ -10,19 +10,19 @@ use Rattle.map_model.specs.Maps.{at, IsSorted}
 use Rattle.map_model.specs.MapLaws.{key_is, eq_by_cmp-self, at-tail}
 use Rattle.app_model.specs.App.{App}
 use Rattle.program_steps.specs.declared.step.ProgramStep.{ProgramStep}
-use Rattle.history_model.specs.History.{RunKey, run_cmp, Begun, Runs, no_steps, goes_on}
-use Rattle.history_model.specs.HistoryLaws.{run_order}
-use Rattle.history_model.specs.RunsLaws.{held_is}
-use Rattle.history_model.specs.LimitLaws.{left_of}
-use Rattle.journal_model.specs.Subscriptions.{Live, cursor_of}
+use Rattle.link_laws.specs.history_model.History.{RunKey, run_cmp, Begun, Runs, no_steps, goes_on}
+use Rattle.link_laws.specs.history_model.HistoryLaws.{run_order}
+use Rattle.link_laws.specs.history_model.RunsLaws.{held_is}
+use Rattle.link_laws.specs.history_model.LimitLaws.{left_of}
+use Rattle.link_laws.specs.journal_model.Subscriptions.{Live, cursor_of}
 use Rattle.settling.specs.Rounds.{made, none_of}
-use Rattle.core_model.specs.declared.events.Act.{Act}
-use Rattle.core_model.specs.declared.events.Act.TheVariants as act
-use Rattle.core_model.specs.declared.events.Answer.TheVariants as answer
-use Rattle.core_model.specs.Store.{programs, held_in}
-use Rattle.core_model.specs.Conn.{state_in, is_full, is_at_work}
-use Rattle.core_model.specs.Acts.{may_advance, is_done}
-use Rattle.core_model.specs.Settle.{steps, steps_of, advance_to, advances}
+use Rattle.link_laws.specs.core_model.declared.events.Act.{Act}
+use Rattle.link_laws.specs.core_model.declared.events.Act.TheVariants as act
+use Rattle.link_laws.specs.core_model.declared.events.Answer.TheVariants as answer
+use Rattle.link_laws.specs.core_model.Store.{programs, held_in}
+use Rattle.link_laws.specs.core_model.Conn.{state_in, is_full, is_at_work}
+use Rattle.link_laws.specs.core_model.Acts.{may_advance, is_done}
+use Rattle.link_laws.specs.core_model.Settle.{steps, steps_of, advance_to, advances}
 use Rattle.round_laws.specs.Visits.{Side, can_on, act_on, phase_on, act_none}
 use Rattle.round_laws.specs.Repeats.{made-append}
 use Rattle.round_laws.specs.Steps.{left_at, Covers, can_step}

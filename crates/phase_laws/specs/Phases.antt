@@ -3,14 +3,14 @@ use Rattle.std.specs.Prelude.{◌≡◌, ℕ, zero, suc, List, [], ◌∷◌, �
 use Rattle.std.proofs.Common.{subst}
 use Rattle.std.proofs.lemmas.Bool.{eq-eqb}
 use Rattle.app_model.specs.App.{App}
-use Rattle.journal_model.specs.Items.{Item, id_of}
-use Rattle.journal_model.specs.Items as item
-use Rattle.journal_model.specs.Subscriptions.{Live, is_open}
-use Rattle.journal_model.specs.Methods.{Phase, running, refused, finished, told, Method, phase_at, turned, fired, fire}
-use Rattle.journal_model.specs.State.{State, started, own_after, after, state_from, state_of}
-use Rattle.journal_model.specs.Moments.{Moment}
-use Rattle.journal_model.specs.Fits.{HasEnded, CanFollow, FitsFrom, Fits}
-use Rattle.core_model.specs.Headline.{refuses, is_refused_in}
+use Rattle.link_laws.specs.journal_model.Items.{Item, id_of}
+use Rattle.link_laws.specs.journal_model.Items as item
+use Rattle.link_laws.specs.journal_model.Subscriptions.{Live, is_open}
+use Rattle.link_laws.specs.journal_model.Methods.{Phase, running, refused, finished, told, Method, phase_at, turned, fired, fire}
+use Rattle.link_laws.specs.journal_model.State.{State, started, own_after, after, state_from, state_of}
+use Rattle.link_laws.specs.journal_model.Moments.{Moment}
+use Rattle.link_laws.specs.journal_model.Fits.{HasEnded, CanFollow, FitsFrom, Fits}
+use Rattle.link_laws.specs.journal_model.LooksBack.{refuses, is_refused_in}
 
 -- ---- something of each call, by its number and its phase
 

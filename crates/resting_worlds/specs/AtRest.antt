@@ -1,42 +1,43 @@
 -- A settled world's sessions are at rest: quiescent, or for one of the named reasons not.
-use Rattle.std.specs.Prelude.{◌≡◌, ℕ, suc, List, [], ◌∷◌, ◌++◌, length, decimal, map, Bool, true, false, not, ◌&&◌, Option, Some, None, is_none, is_some, IsSome, IfSome, refl}
+use Rattle.std.specs.Prelude.{◌≡◌, ◌≤◌, ℕ, suc, List, [], ◌∷◌, ◌++◌, length, decimal, map, Bool, true, false, not, ◌&&◌, Option, Some, None, is_none, is_some, IsSome, IfSome, refl}
 use Rattle.std.specs.List.{list_any}
 use Rattle.std.proofs.Common.{ap, sym, subst, ◌∙◌, arith, append-nil, inl, inr}
 use Rattle.std.proofs.lemmas.Bool.{leb-true, or_parts}
 use Rattle.ddp_messages.specs.ClientMessage.{ClientMessage}
 use Rattle.ddp_messages.specs.ServerMessage.{ServerMessage}
 use Rattle.app_model.specs.App.{App}
-use Rattle.history_model.specs.declared.entry.Entry.{Entry}
+use Rattle.polite_clients.specs.history_model.declared.entry.Entry.{Entry}
 use Rattle.client_model.specs.Taking.{number_of}
-use Rattle.journal_model.specs.Texts.{messages_in}
-use Rattle.journal_model.specs.Items.{Item, handled}
-use Rattle.journal_model.specs.Items as item
-use Rattle.journal_model.specs.State.{State, started, after, state_from}
-use Rattle.journal_model.specs.Out.{out, out_texts}
-use Rattle.journal_model.specs.Kept.{AreKept}
-use Rattle.journal_model.specs.Taking.{is_connected_by, queued_from}
-use Rattle.journal_model.specs.Counting.{one_if, updateds}
-use Rattle.journal_laws.specs.Readable.{out_reads}
-use Rattle.journal_laws.specs.Counts.{methods_are_answered}
-use Rattle.stored_values.specs.Values.{HasValues}
-use Rattle.stored_values.specs.MomentValues.{moments_are_kept}
-use Rattle.core_model.specs.declared.events.Event.{Event}
-use Rattle.core_model.specs.declared.events.Event.TheVariants as event
-use Rattle.core_model.specs.Store.{programs, moments}
-use Rattle.core_model.specs.StoreLaws.{moments_many}
-use Rattle.core_model.specs.Conn.{Waiting, Conn, state_in, journal_limit, is_full}
-use Rattle.core_model.specs.World.{World, start, conn_of}
-use Rattle.core_model.specs.Settle.{settled}
-use Rattle.core_model.specs.Events.{run, AreEvents}
-use Rattle.core_model.specs.Headline.{IsQuiescent, IsAtRest, AreAtRest, are_updated, is_bad}
-use Rattle.link_laws.specs.Lift.{step_holds}
-use Rattle.link_laws.specs.Links.{IsLinked}
-use Rattle.headline.specs.Worlds.{IsSound}
-use Rattle.settle_laws.specs.Rest.{IsResting}
+use Rattle.polite_clients.specs.journal_model.Texts.{messages_in}
+use Rattle.polite_clients.specs.journal_model.Items.{Item, handled}
+use Rattle.polite_clients.specs.journal_model.Items as item
+use Rattle.polite_clients.specs.journal_model.State.{State, started, after, state_from}
+use Rattle.polite_clients.specs.journal_model.Out.{out, out_texts}
+use Rattle.polite_clients.specs.journal_model.Kept.{AreKept}
+use Rattle.polite_clients.specs.journal_model.Taking.{is_connected_by, queued_from}
+use Rattle.polite_clients.specs.journal_model.Counting.{one_if, updateds}
+use Rattle.polite_clients.specs.journal_laws_for_proofs.Readable.{out_reads}
+use Rattle.polite_clients.specs.journal_laws.Counts.{methods_are_answered}
+use Rattle.polite_clients.specs.stored_values.Values.{HasValues}
+use Rattle.polite_clients.specs.stored_values_for_proofs.MomentValues.{moments_are_kept}
+use Rattle.polite_clients.specs.core_model.declared.events.Event.{Event}
+use Rattle.polite_clients.specs.core_model.declared.events.Event.TheVariants as event
+use Rattle.polite_clients.specs.core_model.Store.{programs, moments}
+use Rattle.polite_clients.specs.core_model.StoreLaws.{moments_many}
+use Rattle.polite_clients.specs.core_model.Conn.{Waiting, Conn, state_in, journal_limit, is_full}
+use Rattle.polite_clients.specs.core_model.World.{World, start, conn_of}
+use Rattle.polite_clients.specs.core_model.Settle.{settled}
+use Rattle.polite_clients.specs.core_model.Events.{run, AreEvents}
+use Rattle.polite_clients.specs.core_model.Headline.{IsQuiescent, IsAtRest, AreAtRest, are_updated, is_bad}
+use Rattle.polite_clients.specs.link_laws.Lift.{step_holds}
+use Rattle.polite_clients.specs.link_laws.Links.{IsLinked}
+use Rattle.polite_clients.specs.link_laws_for_proofs.Sessions.{session_is_true}
+use Rattle.polite_clients.specs.headline_for_proofs.Worlds.{IsSound}
+use Rattle.settled_worlds.specs.settle_laws.Rest.{IsResting}
 use Rattle.settled_worlds.specs.Resting.{RestsUnless}
 use Rattle.settled_worlds.specs.Settling.{settled_sessions_rest}
-use Rattle.taking_laws.specs.Known.{IsKnown, methods_in}
-use Rattle.taking_laws.specs.Fitting.{session_after}
+use Rattle.polite_clients.specs.taking_laws.Known.{IsKnown, methods_in}
+use Rattle.polite_clients.specs.taking_laws.Fitting.{session_after}
 use Rattle.polite_clients.specs.Texts.{is_fail, asks_for, queued_exactly, first_connects}
 use Rattle.polite_clients.specs.Polite.{texts_of, IsAlone, IsPolite, none_refused, none_fails}
 use Rattle.polite_clients.specs.Worlds.{IsKnownPolite, polite_kept, StandsPolite, worlds_are_polite, client_polite}
@@ -134,7 +135,9 @@ module _ (app : App) (h : List Entry) (c : Conn) (l : IsLinked app h c) (kept : 
       inl (quiescent p (settles room able (unfailed app h c l p)) good whole.0)
 
   full : (p : IsPolite c) → list_any is_bad c.items ≡ false → (b : Bool) → is_full c ≡ b → IsAtRest h c
-  full p good true e = inr (inr (inr (inr (leb-true journal_limit (length c.items) e))))
+  full p good true e =
+      let much : journal_limit ≤ length c.items = leb-true journal_limit (length c.items) e in
+      inr (inr (inr (inr (record { full = much; many = omega (arith, much, (session_is_true app h c l).short) }))))
   full p good false e = by_break p good e p.taking.taken p.taking.alone
 
   bad : (p : IsPolite c) → (b : Bool) → list_any is_bad c.items ≡ b → IsAtRest h c

@@ -10,21 +10,21 @@ use Rattle.program_steps.specs.Runs.{End}
 use Rattle.app_model.specs.App.{App, method}
 use Rattle.client_model.specs.Client.{Call}
 use Rattle.client_model.specs.Taking.{number_of}
-use Rattle.journal_model.specs.declared.fault.SubFault.TheVariants as fault
-use Rattle.journal_model.specs.Publication.{Making, making}
-use Rattle.journal_model.specs.Items.{Item, id_of, handled_by, handled}
-use Rattle.journal_model.specs.Items as item
-use Rattle.journal_model.specs.Subscriptions.{Live, sub_named, is_crowded, past, is_open}
-use Rattle.journal_model.specs.Methods.{Phase, running, refused, finished, told, Method, turned, fired, fire}
-use Rattle.journal_model.specs.State.{State, started, own_after, after, state_from, state_of}
-use Rattle.journal_model.specs.Moments.{Moment, moment_at, run_of, end_at}
-use Rattle.journal_model.specs.Fits.{seed_or, opened_by, closed_by, item_for, CanFollow, FitsFrom, Fits}
-use Rattle.journal_model.specs.Counting.{one_if, method_by, methods_handled, is_running, is_armed, number_in}
-use Rattle.journal_laws.specs.Fences.{IsShut, AreShut, after_shut}
-use Rattle.core_model.specs.Headline.{AreAtEnd, have_ended, are_updated}
-use Rattle.taking_laws.specs.Known.{method_in, methods_in}
-use Rattle.taking_laws.specs.Asked.{methods-append}
-use Rattle.taking_laws.specs.Calls.{has_update, name_self}
+use Rattle.polite_clients.specs.journal_model.declared.fault.SubFault.TheVariants as fault
+use Rattle.polite_clients.specs.journal_model.Publication.{Making, making}
+use Rattle.polite_clients.specs.journal_model.Items.{Item, id_of, handled_by, handled}
+use Rattle.polite_clients.specs.journal_model.Items as item
+use Rattle.polite_clients.specs.journal_model.Subscriptions.{Live, sub_named, is_crowded, past, is_open}
+use Rattle.polite_clients.specs.journal_model.Methods.{Phase, running, refused, finished, told, Method, turned, fired, fire}
+use Rattle.polite_clients.specs.journal_model.State.{State, started, own_after, after, state_from, state_of}
+use Rattle.polite_clients.specs.journal_model.Moments.{Moment, moment_at, run_of, end_at}
+use Rattle.polite_clients.specs.journal_model.Fits.{seed_or, opened_by, closed_by, item_for, CanFollow, FitsFrom, Fits}
+use Rattle.polite_clients.specs.journal_model.Counting.{one_if, method_by, methods_handled, is_running, is_armed, number_in}
+use Rattle.polite_clients.specs.journal_laws_for_proofs.Fences.{IsShut, AreShut, after_shut}
+use Rattle.polite_clients.specs.core_model.Headline.{AreAtEnd, have_ended, are_updated}
+use Rattle.polite_clients.specs.taking_laws.Known.{method_in, methods_in}
+use Rattle.polite_clients.specs.taking_laws_for_proofs.Asked.{methods-append}
+use Rattle.polite_clients.specs.taking_laws.Calls.{has_update, name_self}
 
 -- ---- what was handled
 

@@ -3,18 +3,18 @@ use Rattle.std.specs.Prelude.{◌≡◌, ℕ, List}
 use Rattle.app_model.specs.App.{App}
 use Rattle.settling.specs.Tower.{Leads}
 use Rattle.settling.specs.RoundLaws.{round_leads}
-use Rattle.core_model.specs.declared.events.Act.{Act}
-use Rattle.core_model.specs.declared.events.Event.{Event}
-use Rattle.core_model.specs.Store.{programs}
-use Rattle.core_model.specs.World.{World, start, done, can_in}
-use Rattle.core_model.specs.Settle.{phases, round, is_stuck, measures, settled}
-use Rattle.core_model.specs.Events.{run, AreEvents}
-use Rattle.stored_values.specs.Values.{HasValues}
-use Rattle.link_laws.specs.Lift.{done_holds}
-use Rattle.link_laws.specs.Links.{IsLinked}
-use Rattle.headline.specs.Worlds.{IsSound, sound_kept, worlds_hold}
-use Rattle.settle_laws.specs.Lowering.{acts_lower}
-use Rattle.settle_laws.specs.Settled as settling
+use Rattle.polite_clients.specs.core_model.declared.events.Act.{Act}
+use Rattle.polite_clients.specs.core_model.declared.events.Event.{Event}
+use Rattle.polite_clients.specs.core_model.Store.{programs}
+use Rattle.polite_clients.specs.core_model.World.{World, start, done, can_in}
+use Rattle.polite_clients.specs.core_model.Settle.{phases, round, is_stuck, measures, settled}
+use Rattle.polite_clients.specs.core_model.Events.{run, AreEvents}
+use Rattle.polite_clients.specs.stored_values.Values.{HasValues}
+use Rattle.polite_clients.specs.link_laws.Lift.{done_holds}
+use Rattle.polite_clients.specs.link_laws.Links.{IsLinked}
+use Rattle.polite_clients.specs.headline_for_proofs.Worlds.{IsSound, sound_kept, worlds_hold}
+use Rattle.settled_worlds.specs.settle_laws.Lowering.{acts_lower}
+use Rattle.settled_worlds.specs.settle_laws_for_proofs.Settled as settling
 use Rattle.settled_worlds.specs.Tidy.{Stands, stands_tidy}
 use Rattle.settled_worlds.specs.Settling.{stuck, stands}
 

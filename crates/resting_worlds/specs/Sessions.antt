@@ -4,13 +4,13 @@ use Rattle.std.proofs.Common.{ap, ◌∙◌}
 use Rattle.ddp_messages.specs.ServerMessage.{ServerMessage}
 use Rattle.ddp_messages.specs.ServerMessage as server
 use Rattle.client_model.specs.Taking.{session_in}
-use Rattle.journal_model.specs.Items.{Item}
-use Rattle.journal_model.specs.Items as item
-use Rattle.journal_model.specs.State.{State, started, after, state_from, state_of}
-use Rattle.journal_model.specs.Moments.{Moment}
-use Rattle.journal_model.specs.Shown.{Calls, call_of, merge_of, difference}
-use Rattle.journal_model.specs.Out.{session_name, about, updated, told_after, messages_of, out_from, out}
-use Rattle.taking_laws.specs.Fitting.{session_after}
+use Rattle.polite_clients.specs.journal_model.Items.{Item}
+use Rattle.polite_clients.specs.journal_model.Items as item
+use Rattle.polite_clients.specs.journal_model.State.{State, started, after, state_from, state_of}
+use Rattle.polite_clients.specs.journal_model.Moments.{Moment}
+use Rattle.polite_clients.specs.journal_model.Shown.{Calls, call_of, merge_of, difference}
+use Rattle.polite_clients.specs.journal_model.Out.{session_name, about, updated, told_after, messages_of, out_from, out}
+use Rattle.polite_clients.specs.taking_laws.Fitting.{session_after}
 
 after_more : (s : Option (List ℕ)) (xs ys : List ServerMessage) → session_after s (xs ++ ys) ≡ session_after (session_after s xs) ys
 after_more s [] ys = refl

@@ -1,0 +1,18 @@
+-- What crates above name of `journal_model`.
+pub use Rattle.journal_model.specs.Answering
+pub use Rattle.journal_model.specs.Counting
+pub use Rattle.journal_model.specs.Data
+pub use Rattle.journal_model.specs.Fits
+pub use Rattle.journal_model.specs.Items
+pub use Rattle.journal_model.specs.Kept
+pub use Rattle.journal_model.specs.LooksBack
+pub use Rattle.journal_model.specs.Methods
+pub use Rattle.journal_model.specs.Moments
+pub use Rattle.journal_model.specs.Out
+pub use Rattle.journal_model.specs.Publication
+pub use Rattle.journal_model.specs.Shown
+pub use Rattle.journal_model.specs.State
+pub use Rattle.journal_model.specs.Subscriptions
+pub use Rattle.journal_model.specs.Taking
+pub use Rattle.journal_model.specs.Texts
+pub use Rattle.journal_model.specs.declared

@@ -1,0 +1,2 @@
+-- What crates above name of `history_log`.
+pub use Rattle.core_model.specs.history_log.Lines
