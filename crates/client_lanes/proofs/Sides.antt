@@ -4,8 +4,8 @@ use Rattle.std.proofs.Common.{sym, subst, ◌∙◌, inl}
 use Rattle.map_model.specs.Maps.{at, union, IsSorted}
 use Rattle.map_model.specs.MapLaws.{sorted-nil}
 use Rattle.value_model.specs.Order.{text_cmp}
-use Rattle.store_machine.specs.State.{MachineState}
-use Rattle.connection_laws.specs.Connection.{AConnection}
+use Rattle.client_rounds.specs.store_machine.State.{MachineState}
+use Rattle.client_rounds.specs.connection_laws.Connection.{AConnection}
 use Rattle.lane_laws.specs.Lanes.{Named, AreApart}
 use Rattle.lane_laws.specs.Unions.{AreLanes, some_left, of_right, not_left, is_in_right}
 use Rattle.client_lanes.specs.Visits.{AreReady}

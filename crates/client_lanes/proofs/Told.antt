@@ -8,12 +8,12 @@ use Rattle.map_model.specs.Maps.{at}
 use Rattle.map_model.specs.MapLaws.{at-put}
 use Rattle.value_model.specs.Order.{text_cmp}
 use Rattle.ejson_value.specs.Key.{name_order}
-use Rattle.store_machine.specs.State.{MachineState}
-use Rattle.core_model.specs.Settle.{Phase, order}
-use Rattle.connection_laws.specs.Connection.{AConnection}
-use Rattle.connection.specs.Asks.{asks_nothing}
-use Rattle.shared_news.specs.Telling.{ANews, nothing_told}
-use Rattle.source_laws.specs.News.{AreNews, nothing_is_news}
+use Rattle.client_rounds.specs.store_machine.State.{MachineState}
+use Rattle.client_rounds.specs.core_model.Settle.{Phase, order}
+use Rattle.client_rounds.specs.connection_laws.Connection.{AConnection}
+use Rattle.client_rounds.specs.connection.Asks.{asks_nothing}
+use Rattle.client_rounds.specs.shared_news.Telling.{ANews, nothing_told}
+use Rattle.client_rounds.specs.News.{AreNews, nothing_is_news}
 use Rattle.client_rounds.specs.Visit.{visit, IsReady, Passes}
 use Rattle.lane_laws.specs.Lanes.{Named, VisitBy, EachTold, IsAmong, AreLed, AreTold, Hears}
 use Rattle.lane_laws.specs.Telling.{next_take, told_more, visit_ok, told_left}

@@ -1,14 +1,14 @@
 -- What becomes of the client of a name.
 use Rattle.ejson_value.specs.declared.memory.Mem.{Mem}
 use Rattle.std.specs.Prelude.{ℕ, List, Bool, false, Option, None, Result, Ok}
-use Rattle.store_machine.specs.State.{MachineState}
-use Rattle.core_model.specs.declared.events.Act.{Act}
-use Rattle.core_model.specs.declared.events.Answer.{Answer}
-use Rattle.core_model.specs.declared.events.Answer.TheVariants as answer
-use Rattle.core_model.specs.declared.events.Event.{Event}
-use Rattle.link_laws.specs.Session.{IsServed}
-use Rattle.connection_laws.specs.Connection.{AConnection, as_conn, IsConnection}
-use Rattle.client_events.specs.Acting.{TellsOver, AsksFor}
+use Rattle.client_rounds.specs.store_machine.State.{MachineState}
+use Rattle.client_rounds.specs.core_model.declared.events.Act.{Act}
+use Rattle.client_rounds.specs.core_model.declared.events.Answer.{Answer}
+use Rattle.client_rounds.specs.core_model.declared.events.Answer.TheVariants as answer
+use Rattle.client_rounds.specs.core_model.declared.events.Event.{Event}
+use Rattle.client_rounds.specs.link_laws.Session.{IsServed}
+use Rattle.client_rounds.specs.connection_laws.Connection.{AConnection, as_conn, IsConnection}
+use Rattle.client_rounds.specs.connection.Acting.{TellsOver, AsksFor}
 use Rattle.lane_laws.specs.Lanes.{Named, IsVisit}
 
 -- the client can act over the machine's history

@@ -1,2 +1,23 @@
 pub mod Clients
 pub mod Visits
+pub use Rattle.client_rounds.specs.connection.Acting
+pub use Rattle.client_rounds.specs.Visit
+pub use Rattle.client_rounds.specs.connection.Answers
+pub use Rattle.client_rounds.specs.connection.Asks
+pub use Rattle.client_rounds.specs.connection.Storing
+pub use Rattle.client_rounds.specs.News
+-- what lies below, for the crates above
+pub mod client_core
+pub mod client_parts
+pub mod connection_laws
+pub mod core_model
+pub mod core_model_for_proofs
+pub mod history_log
+pub mod history_log_for_proofs
+pub mod history_model
+pub mod link_laws
+pub mod link_laws_for_proofs
+pub mod minimongo
+pub mod round_laws
+pub mod shared_news
+pub mod store_machine

@@ -3,12 +3,12 @@ use Rattle.ejson_value.specs.declared.memory.Mem.{Mem}
 use Rattle.std.specs.Prelude.{◌≡◌, ℕ, List, Bool, true, false, Some, Result, Ok}
 use Rattle.map_model.specs.Maps.{at}
 use Rattle.value_model.specs.Order.{text_cmp}
-use Rattle.store_machine.specs.State.{MachineState}
-use Rattle.core_model.specs.Settle.{order}
-use Rattle.link_laws.specs.Links.{IsLinked}
-use Rattle.connection_laws.specs.Connection.{AConnection, as_conn, IsConnection}
-use Rattle.connection.specs.Asks.{asks_nothing}
-use Rattle.shared_news.specs.Telling.{ANews}
+use Rattle.client_rounds.specs.store_machine.State.{MachineState}
+use Rattle.client_rounds.specs.core_model.Settle.{order}
+use Rattle.client_rounds.specs.link_laws.Links.{IsLinked}
+use Rattle.client_rounds.specs.connection_laws.Connection.{AConnection, as_conn, IsConnection}
+use Rattle.client_rounds.specs.connection.Asks.{asks_nothing}
+use Rattle.client_rounds.specs.shared_news.Telling.{ANews}
 use Rattle.client_rounds.specs.Visit.{visit, IsReady, IsLed, ArePassed, Passes}
 use Rattle.lane_laws.specs.Lanes.{Named, IsVisit, Hears}
 

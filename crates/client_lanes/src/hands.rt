@@ -3,23 +3,23 @@ ghost use Rattle.std.specs.Prelude.{◌≡◌, length, IfOk};
 ghost use Rattle.std.specs.Thread.{IsSync};
 ghost use Rattle.map_model.specs.Maps.{union};
 ghost use Rattle.value_model.specs.Order.{text_cmp};
-ghost use Rattle.history_log.specs.Lines.{store_lines};
-ghost use Rattle.store_machine.specs.State.{held_by};
-ghost use Rattle.source_laws.specs.News.{AreNews};
+ghost use Rattle.client_rounds.specs.history_log.Lines.{store_lines};
+ghost use Rattle.client_rounds.specs.store_machine.State.{held_by};
+ghost use Rattle.client_rounds.specs.News.{AreNews};
 ghost use Rattle.lane_laws.specs.Lanes.{AreTold};
 ghost use Rattle.lane_laws.specs.Unions.{AreLanes};
 ghost use Rattle.client_lanes.specs.Visits.{AreReady, Tells, Leads};
 
 use crate::lanes::{Clients, Lane, Three, Two};
 use crate::telling::{either, told_in_turn};
+use client_rounds::shared_news::SharedNews;
+use client_rounds::store_machine::Machine;
 use ejson_codec::Lines;
 use ejson_value::{Mem, Text};
 use heard_messages::Heard;
-use shared_news::SharedNews;
 use std::alloc::Global;
 use std::marker::Sync;
 use std::thread::{Threads, available_parallelism, join_mut};
-use store_machine::Machine;
 use store_printing::store_lines;
 
 /// How many entries of the history there are to show, to all of them together, so that threads are worth

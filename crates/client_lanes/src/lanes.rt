@@ -4,21 +4,21 @@ ghost use Rattle.std.specs.Option.{option_copied};
 ghost use Rattle.std.specs.BTreeMap.{insert_entry};
 ghost use Rattle.map_model.specs.Maps.{at, IsSorted};
 ghost use Rattle.value_model.specs.Order.{text_cmp};
-ghost use Rattle.connection_laws.specs.Connection.{AConnection};
-ghost use Rattle.source_laws.specs.News.{AreNews};
+ghost use Rattle.client_rounds.specs.connection_laws.Connection.{AConnection};
+ghost use Rattle.client_rounds.specs.News.{AreNews};
 ghost use Rattle.lane_laws.specs.Lanes.{Named};
 ghost use Rattle.client_lanes.specs.Clients.{IsReady, ActsIn, AsksIn};
 ghost use Rattle.client_lanes.specs.Visits.{CanVisit, VisitsIn, AreReady, TellsIn};
 
 use crate::visits::{Conns, acted, asked, put, told, visited};
-use connection::Connection;
-use core_model::{Act, Answer, Event};
+use client_rounds::connection::Connection;
+use client_rounds::core_model::{Act, Answer, Event};
+use client_rounds::shared_news::SharedNews;
+use client_rounds::store_machine::Machine;
 use ejson_value::{Mem, Text};
 use heard_messages::Heard;
-use shared_news::SharedNews;
 use std::alloc::Global;
 use std::marker::Model;
-use store_machine::Machine;
 
 /// Clients with their sessions, by name, in one lane or more.
 pub trait Lanes {
@@ -100,10 +100,10 @@ impl Model for Lane {
     ghost use Rattle.value_model.specs.Coding.{val_code};
     ghost use Rattle.selector_match.specs.Coding.{query_code};
     ghost use Rattle.sort_window.specs.Coding.{window_code};
-    ghost use Rattle.minimongo.specs.State.{documents_code};
+    ghost use Rattle.client_rounds.specs.minimongo.State.{documents_code};
     ghost use Rattle.map_model.specs.Maps.{IsSorted};
     ghost use Rattle.value_model.specs.Order.{text_cmp};
-    ghost use Rattle.connection_laws.specs.Connection.{AConnection};
+    ghost use Rattle.client_rounds.specs.connection_laws.Connection.{AConnection};
     ghost use Rattle.lane_laws.specs.Lanes.{Named};
 
     ghost Value = { Named AConnection };
@@ -187,10 +187,10 @@ impl<A: Lanes, B: Lanes> Model for Both<A, B> {
     ghost use Rattle.value_model.specs.Coding.{val_code};
     ghost use Rattle.selector_match.specs.Coding.{query_code};
     ghost use Rattle.sort_window.specs.Coding.{window_code};
-    ghost use Rattle.minimongo.specs.State.{documents_code};
+    ghost use Rattle.client_rounds.specs.minimongo.State.{documents_code};
     ghost use Rattle.map_model.specs.Maps.{union};
     ghost use Rattle.value_model.specs.Order.{text_cmp};
-    ghost use Rattle.connection_laws.specs.Connection.{AConnection};
+    ghost use Rattle.client_rounds.specs.connection_laws.Connection.{AConnection};
     ghost use Rattle.lane_laws.specs.Lanes.{Named};
     ghost use Rattle.lane_laws.specs.Unions.{AreLanes};
 

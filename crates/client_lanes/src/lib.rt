@@ -6,5 +6,7 @@ mod lanes;
 mod telling;
 mod visits;
 
+pub use client_rounds::connection::{Connection, named};
+pub use client_rounds::{core_model, shared_news, store_machine};
 pub use hands::{Hands, InTurn, OnThreads};
 pub use lanes::{Both, Clients, Lane, Lanes, no_clients};

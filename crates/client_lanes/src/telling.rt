@@ -1,15 +1,15 @@
 //! Clients are told one after another.
 ghost use Rattle.std.specs.Prelude.{◌≡◌};
-ghost use Rattle.source_laws.specs.News.{AreNews};
+ghost use Rattle.client_rounds.specs.News.{AreNews};
 ghost use Rattle.lane_laws.specs.Lanes.{AreTold, either};
 ghost use Rattle.client_lanes.specs.Visits.{AreReady, Tells, Leads};
 
 use crate::lanes::Lanes;
+use client_rounds::shared_news::SharedNews;
+use client_rounds::store_machine::Machine;
 use ejson_value::{Mem, Text};
 use heard_messages::Heard;
-use shared_news::SharedNews;
 use std::alloc::Global;
-use store_machine::Machine;
 
 /// What there is to show goes to those of these names that are among the clients, one after another. Whether
 /// any act was made.

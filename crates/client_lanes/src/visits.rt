@@ -3,20 +3,19 @@ ghost use Rattle.std.specs.Prelude.{◌≡◌, IfSome, OnOk, OnErr};
 ghost use Rattle.std.specs.BTreeMap.{insert_entry};
 ghost use Rattle.map_model.specs.Maps.{at};
 ghost use Rattle.value_model.specs.Order.{text_cmp};
-ghost use Rattle.source_laws.specs.News.{AreNews};
+ghost use Rattle.client_rounds.specs.News.{AreNews};
 ghost use Rattle.client_lanes.specs.Clients.{IsReady, ActsIn, AsksIn};
 ghost use Rattle.client_lanes.specs.Visits.{CanVisit, VisitsIn, AreReady, TellsIn};
 
-use client_events::{act as act_of, ask};
+use client_rounds::connection::{Connection, act as act_of, ask};
+use client_rounds::core_model::{Act, Answer, Event};
+use client_rounds::shared_news::SharedNews;
+use client_rounds::store_machine::Machine;
 use client_rounds::{round, tell};
-use connection::Connection;
-use core_model::{Act, Answer, Event};
 use ejson_value::{Mem, Text};
 use heard_messages::Heard;
-use shared_news::SharedNews;
 use std::alloc::Global;
 use std::collections::BTreeMap;
-use store_machine::Machine;
 
 /// Clients with their sessions, by name.
 pub(crate) type Conns = BTreeMap<Text, Connection>;

@@ -1,10 +1,10 @@
 -- Lists of acts that add no entry to the history.
 use Rattle.std.specs.Prelude.{◌≡◌, ℕ, ◌-◌, nat_lt, List, [], ◌∷◌, ◌++◌, Bool, true, false, cond, Option, None, Some, is_none, All, refl}
 use Rattle.std.proofs.lemmas.List.Elements.{All-nil, All-cons, All-append}
-use Rattle.journal_model.specs.Subscriptions.{Live}
-use Rattle.core_model.specs.declared.events.Act.{Act}
-use Rattle.core_model.specs.declared.events.Act.TheVariants as act
-use Rattle.core_model.specs.Settle.{load_at, loads}
+use Rattle.connection.specs.journal_model.Subscriptions.{Live}
+use Rattle.connection.specs.core_model.declared.events.Act.{Act}
+use Rattle.connection.specs.core_model.declared.events.Act.TheVariants as act
+use Rattle.connection.specs.core_model.Settle.{load_at, loads}
 use Rattle.phase_laws.specs.Listing.{behind_by, behind}
 use Rattle.client_rounds.specs.Acting.{adds_entry, learns_of}
 

@@ -2,23 +2,23 @@
 use Rattle.std.specs.Prelude.{◌≡◌, ℕ, List, [], ◌∷◌, ◌++◌, true, false, cond, Result, Ok, Err, refl}
 use Rattle.std.proofs.Common.{ap, sym, subst, ◌∙◌, append-nil}
 use Rattle.app_model.specs.App.{App}
-use Rattle.history_model.specs.declared.entry.Entry.{Entry}
-use Rattle.store_machine.specs.State.{MachineState}
-use Rattle.core_model.specs.declared.events.Act.{Act}
-use Rattle.core_model.specs.declared.events.Act.TheVariants as act
-use Rattle.core_model.specs.declared.events.Answer.{Answer}
-use Rattle.core_model.specs.declared.events.Answer.TheVariants as answer
-use Rattle.core_model.specs.Conn.{Conn}
-use Rattle.core_model.specs.Acts.{outcome, is_done, can, does, entries}
-use Rattle.link_laws.specs.Links.{IsLinked, links_kept}
-use Rattle.round_laws.specs.Visits.{Side, can_on, act_on}
-use Rattle.connection_laws.specs.Connection.{AConnection, as_conn, IsConnection}
-use Rattle.connection_laws.specs.Standing.{longer_stays}
+use Rattle.connection.specs.history_model.declared.entry.Entry.{Entry}
+use Rattle.connection.specs.store_machine.State.{MachineState}
+use Rattle.connection.specs.core_model.declared.events.Act.{Act}
+use Rattle.connection.specs.core_model.declared.events.Act.TheVariants as act
+use Rattle.connection.specs.core_model.declared.events.Answer.{Answer}
+use Rattle.connection.specs.core_model.declared.events.Answer.TheVariants as answer
+use Rattle.connection.specs.core_model.Conn.{Conn}
+use Rattle.connection.specs.core_model.Acts.{outcome, is_done, can, does, entries}
+use Rattle.connection.specs.link_laws.Links.{IsLinked, links_kept}
+use Rattle.phase_laws.specs.round_laws.Visits.{Side, can_on, act_on}
+use Rattle.connection.specs.connection_laws.Connection.{AConnection, as_conn, IsConnection}
+use Rattle.connection.specs.connection_laws.Standing.{longer_stays}
 use Rattle.connection.specs.Answers.{Acts, AnswersIn, Answers}
 use Rattle.connection.specs.Storing.{Enters, Begins, StepsOn, Learns}
-use Rattle.connection_laws.specs.Acting.{IsDone}
-use Rattle.shared_news.specs.Telling.{ANews}
-use Rattle.shared_news.specs.Longer.{told_longer}
+use Rattle.connection.specs.connection_laws.Acting.{IsDone}
+use Rattle.source_laws.specs.shared_news.Telling.{ANews}
+use Rattle.source_laws.specs.shared_news.Longer.{told_longer}
 use Rattle.source_laws.specs.Sources.{cursors_at_of}
 use Rattle.source_laws.specs.News.{AreNews}
 use Rattle.client_rounds.specs.Visit.{AVisit, visit, side, IsReady, IsSame}

@@ -5,19 +5,19 @@ use Rattle.std.proofs.Common.{ap, ap₂, sym, ◌∙◌}
 use Rattle.std.proofs.lemmas.Bool.{and_parts, eqb-true}
 use Rattle.ddp_messages.specs.ClientMessage.{ClientMessage}
 use Rattle.app_model.specs.App.{App}
-use Rattle.journal_model.specs.Methods.{Blocking}
-use Rattle.journal_model.specs.State.{State}
+use Rattle.connection.specs.journal_model.Methods.{Blocking}
+use Rattle.connection.specs.journal_model.State.{State}
 use Rattle.settling.specs.Rounds.{made, through, none_of, none_in}
-use Rattle.core_model.specs.declared.events.Act.{Act}
-use Rattle.core_model.specs.declared.events.Act.TheVariants as act
-use Rattle.core_model.specs.declared.events.Answer.TheVariants as answer
-use Rattle.core_model.specs.Store.{held_in}
-use Rattle.core_model.specs.Conn.{state_in}
-use Rattle.core_model.specs.Acts.{unbegun, without_run, is_done}
-use Rattle.core_model.specs.Settle.{Phase, ups, recvs, handles, begins, steps, learns, loadings, advancings, sendings, takings, order}
-use Rattle.round_laws.specs.Visits.{Side, can_on, act_on, phase_on, act_none}
-use Rattle.session_work.specs.Work.{running_from}
-use Rattle.connection_laws.specs.Connection.{as_conn, waiting_of}
+use Rattle.connection.specs.core_model.declared.events.Act.{Act}
+use Rattle.connection.specs.core_model.declared.events.Act.TheVariants as act
+use Rattle.connection.specs.core_model.declared.events.Answer.TheVariants as answer
+use Rattle.connection.specs.core_model.Store.{held_in}
+use Rattle.connection.specs.core_model.Conn.{state_in}
+use Rattle.connection.specs.core_model.Acts.{unbegun, without_run, is_done}
+use Rattle.connection.specs.core_model.Settle.{Phase, ups, recvs, handles, begins, steps, learns, loadings, advancings, sendings, takings, order}
+use Rattle.phase_laws.specs.round_laws.Visits.{Side, can_on, act_on, phase_on, act_none}
+use Rattle.connection.specs.session_work.Work.{running_from}
+use Rattle.connection.specs.connection_laws.Connection.{as_conn, waiting_of}
 use Rattle.connection.specs.Asks.{says_nothing, asks_nothing}
 use Rattle.phase_laws.specs.Listing.{no_steps_listed}
 use Rattle.client_rounds.specs.Visit.{AVisit, side, IsReady, ArePassed, Passes}

@@ -3,22 +3,22 @@ use Rattle.std.specs.Prelude.{◌≡◌, ℕ, suc, List, [], ◌∷◌, ◌++◌
 use Rattle.std.proofs.Common.{ap, ap₂, sym, subst, ◌∙◌}
 use Rattle.std.proofs.lemmas.Bool.{and_parts}
 use Rattle.app_model.specs.App.{App}
-use Rattle.history_model.specs.History.{Rise}
-use Rattle.journal_model.specs.Subscriptions.{Live}
-use Rattle.journal_model.specs.Methods.{Phase as CallPhase, running, refused, finished, told, Method}
-use Rattle.journal_model.specs.Counting.{is_running}
-use Rattle.journal_model.specs.State.{State}
+use Rattle.connection.specs.history_model.History.{Rise}
+use Rattle.connection.specs.journal_model.Subscriptions.{Live}
+use Rattle.connection.specs.journal_model.Methods.{Phase as CallPhase, running, refused, finished, told, Method}
+use Rattle.connection.specs.journal_model.Counting.{is_running}
+use Rattle.connection.specs.journal_model.State.{State}
 use Rattle.settling.specs.Rounds.{made, through, none_of, none_in}
-use Rattle.core_model.specs.declared.events.Act.{Act}
-use Rattle.core_model.specs.declared.events.Act.TheVariants as act
-use Rattle.core_model.specs.Store.{held_in}
-use Rattle.core_model.specs.Conn.{state_in}
-use Rattle.core_model.specs.Settle.{Phase, begins, learns, loadings, advancings, loads, running_from}
-use Rattle.round_laws.specs.Visits.{Side, can_on, act_on, phase_on, act_none}
-use Rattle.round_laws.specs.Steps.{Covers}
-use Rattle.session_work.specs.Work.{running_by, running_from as running_in}
-use Rattle.connection_laws.specs.Connection.{as_conn}
-use Rattle.connection_laws.specs.Standing.{state_is}
+use Rattle.connection.specs.core_model.declared.events.Act.{Act}
+use Rattle.connection.specs.core_model.declared.events.Act.TheVariants as act
+use Rattle.connection.specs.core_model.Store.{held_in}
+use Rattle.connection.specs.core_model.Conn.{state_in}
+use Rattle.connection.specs.core_model.Settle.{Phase, begins, learns, loadings, advancings, loads, running_from}
+use Rattle.phase_laws.specs.round_laws.Visits.{Side, can_on, act_on, phase_on, act_none}
+use Rattle.phase_laws.specs.round_laws.Steps.{Covers}
+use Rattle.connection.specs.session_work.Work.{running_by, running_from as running_in}
+use Rattle.connection.specs.connection_laws.Connection.{as_conn}
+use Rattle.connection.specs.connection_laws.Standing.{state_is}
 use Rattle.phase_laws.specs.Covering.{running_rises, running_covers}
 use Rattle.phase_laws.specs.Listing.{behind, advances_left, advances_none}
 use Rattle.client_rounds.specs.Visit.{AVisit, side, IsReady, AreMade, Makes, ArePassed, Passes}

@@ -5,11 +5,11 @@ use Rattle.std.proofs.Common.{ap, sym, subst, ◌∙◌, arith}
 use Rattle.std.proofs.Math.Seq.{take-suc, drop-cons}
 use Rattle.app_model.specs.App.{App}
 use Rattle.settling.specs.Rounds.{made, none_of}
-use Rattle.core_model.specs.declared.events.Act.{Act}
-use Rattle.core_model.specs.declared.events.Act.TheVariants as act
-use Rattle.round_laws.specs.Visits.{Side, can_on, act_on, act_none}
-use Rattle.round_laws.specs.Loops.{ups_lower, recvs_lower, handles_lower, sends_lower, takes_lower, IsLoop, loop_begins, loop_goes_on, loop_ends}
-use Rattle.round_laws.specs.Steps.{step_lowers}
+use Rattle.connection.specs.core_model.declared.events.Act.{Act}
+use Rattle.connection.specs.core_model.declared.events.Act.TheVariants as act
+use Rattle.phase_laws.specs.round_laws.Visits.{Side, can_on, act_on, act_none}
+use Rattle.phase_laws.specs.round_laws.Loops.{ups_lower, recvs_lower, handles_lower, sends_lower, takes_lower, IsLoop, loop_begins, loop_goes_on, loop_ends}
+use Rattle.phase_laws.specs.round_laws.Steps.{step_lowers}
 use Rattle.client_rounds.specs.Visit.{AVisit, side, IsReady, IsLed, IsSame, AreMade}
 use Rattle.client_rounds.specs.Acting.{IsMade, IsLeft, is_repeatable, count_of}
 use Rattle.client_rounds.proofs.Visits.{side_same, same_on, same_itself, led_none, led_left, led_on, none_both, none_one}

@@ -8,15 +8,15 @@ use Rattle.std.proofs.lemmas.List.Folds.{list_any-append}
 use Rattle.map_model.specs.Maps.{at}
 use Rattle.app_model.specs.App.{App}
 use Rattle.program_steps.specs.declared.step.ProgramStep.{ProgramStep}
-use Rattle.history_model.specs.History.{run_cmp, Begun, no_steps, goes_on, Rise}
-use Rattle.history_model.specs.LimitLaws.{left_of}
+use Rattle.connection.specs.history_model.History.{run_cmp, Begun, no_steps, goes_on, Rise}
+use Rattle.connection.specs.history_model.LimitLaws.{left_of}
 use Rattle.settling.specs.Rounds.{made, none_of}
-use Rattle.core_model.specs.declared.events.Act.{Act}
-use Rattle.core_model.specs.declared.events.Act.TheVariants as act
-use Rattle.core_model.specs.Store.{held_in}
-use Rattle.core_model.specs.Settle.{steps}
-use Rattle.round_laws.specs.Visits.{Side, can_on, act_on, phase_on}
-use Rattle.round_laws.specs.Steps.{left_in, all_stepped, Covers, can_step, steps_are}
+use Rattle.connection.specs.core_model.declared.events.Act.{Act}
+use Rattle.connection.specs.core_model.declared.events.Act.TheVariants as act
+use Rattle.connection.specs.core_model.Store.{held_in}
+use Rattle.connection.specs.core_model.Settle.{steps}
+use Rattle.phase_laws.specs.round_laws.Visits.{Side, can_on, act_on, phase_on}
+use Rattle.phase_laws.specs.round_laws.Steps.{left_in, all_stepped, Covers, can_step, steps_are}
 use Rattle.phase_laws.specs.Listing.{no_steps_listed}
 use Rattle.client_rounds.specs.Visit.{AVisit, side, IsReady, IsLed, IsSame, AreMade, ArePassed}
 use Rattle.client_rounds.specs.Acting.{count_of}

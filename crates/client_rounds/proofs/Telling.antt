@@ -5,26 +5,26 @@ use Rattle.std.proofs.Common.{ap, ap₂, sym, subst, ◌∙◌}
 use Rattle.ejson_value.specs.declared.change.Publish.{Publish}
 use Rattle.ejson_value.specs.Changes.{news_of}
 use Rattle.known_texts.specs.Places.{Texts}
-use Rattle.history_log.specs.declared.batch.Batch.{Batch}
-use Rattle.store_machine.specs.State.{MachineState, held_after}
-use Rattle.publication.specs.Published.{published}
-use Rattle.journal_model.specs.Subscriptions.{cursor_of}
-use Rattle.session_laws.specs.Session.{ASession}
-use Rattle.session_laws.specs.Events.{IsFeed}
-use Rattle.session_state.specs.declared.subs.Sub.{Sub}
-use Rattle.session_state.specs.Subs.{as_live, live_of, observers_of, observer_at}
-use Rattle.core_model.specs.declared.events.Act.TheVariants as act
-use Rattle.core_model.specs.declared.events.Answer.{Answer}
-use Rattle.core_model.specs.Store.{moments}
-use Rattle.connection_laws.specs.Connection.{AConnection, IsConnection}
+use Rattle.connection.specs.history_log.declared.batch.Batch.{Batch}
+use Rattle.connection.specs.store_machine.State.{MachineState, held_after}
+use Rattle.connection.specs.publication.Published.{published}
+use Rattle.connection.specs.journal_model.Subscriptions.{cursor_of}
+use Rattle.connection.specs.session_laws.Session.{ASession}
+use Rattle.connection.specs.session_laws.Events.{IsFeed}
+use Rattle.connection.specs.session_state.declared.subs.Sub.{Sub}
+use Rattle.connection.specs.session_state.Subs.{as_live, live_of, observers_of, observer_at}
+use Rattle.connection.specs.core_model.declared.events.Act.TheVariants as act
+use Rattle.connection.specs.core_model.declared.events.Answer.{Answer}
+use Rattle.connection.specs.core_model.Store.{moments}
+use Rattle.connection.specs.connection_laws.Connection.{AConnection, IsConnection}
 use Rattle.connection.specs.Answers.{AnswersIn}
 use Rattle.connection.specs.Storing.{AdvancesBy, FeedsBy}
-use Rattle.shared_news.specs.declared.news.Lent.{Lent}
-use Rattle.shared_news.specs.Leading.{IsLead}
-use Rattle.shared_news.specs.Telling.{ANews, batch_of, IsSource}
-use Rattle.shared_news.specs.Spans.{IsLent}
-use Rattle.shared_news.specs.Lending.{with_texts, known_of, known_with}
-use Rattle.session_parts.specs.Known.{AreRight, AreLearnt}
+use Rattle.source_laws.specs.shared_news.declared.news.Lent.{Lent}
+use Rattle.source_laws.specs.shared_news.Leading.{IsLead}
+use Rattle.source_laws.specs.shared_news.Telling.{ANews, batch_of, IsSource}
+use Rattle.source_laws.specs.shared_news.Spans.{IsLent}
+use Rattle.source_laws.specs.shared_news_for_proofs.Lending.{with_texts, known_of, known_with}
+use Rattle.connection.specs.session_parts.Known.{AreRight, AreLearnt}
 use Rattle.source_laws.specs.Sources.{cursors_at_of, has_limit, IsSub}
 use Rattle.source_laws.specs.Found.{is_source, place_is, told_feeds}
 use Rattle.source_laws.specs.Texts.{known_are_right, learnt_are_known}

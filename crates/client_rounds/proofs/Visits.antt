@@ -3,13 +3,13 @@ use Rattle.std.specs.Prelude.{◌≡◌, List, [], ◌∷◌, ◌++◌, Bool, tr
 use Rattle.std.proofs.Common.{ap, ap₂, sym, subst, ◌∙◌}
 use Rattle.std.proofs.lemmas.Bool.{and_parts}
 use Rattle.app_model.specs.App.{App}
-use Rattle.store_machine.specs.State.{MachineState}
+use Rattle.connection.specs.store_machine.State.{MachineState}
 use Rattle.settling.specs.Rounds.{made, none_of}
-use Rattle.core_model.specs.declared.events.Act.{Act}
-use Rattle.link_laws.specs.Links.{IsLinked}
-use Rattle.round_laws.specs.Repeats.{made-append}
-use Rattle.round_laws.specs.Visits.{Side, act_on}
-use Rattle.connection_laws.specs.Connection.{AConnection, as_conn, IsConnection}
+use Rattle.connection.specs.core_model.declared.events.Act.{Act}
+use Rattle.connection.specs.link_laws.Links.{IsLinked}
+use Rattle.phase_laws.specs.round_laws.Repeats.{made-append}
+use Rattle.phase_laws.specs.round_laws.Visits.{Side, act_on}
+use Rattle.connection.specs.connection_laws.Connection.{AConnection, as_conn, IsConnection}
 use Rattle.source_laws.specs.News.{AreNews}
 use Rattle.client_rounds.specs.Visit.{AVisit, side, IsReady, IsLed, IsSame}
 use Rattle.client_rounds.specs.Acting.{IsMade, IsLeft}

@@ -1,15 +1,15 @@
 -- One act of a client that is visited, and which acts may be made again and again.
 use Rattle.std.specs.Prelude.{◌≡◌, ℕ, List, map, Bool, true, false, Result, Ok, Err}
 use Rattle.app_model.specs.App.{App}
-use Rattle.core_model.specs.declared.events.Act.{Act}
-use Rattle.core_model.specs.declared.events.Act.TheVariants as act
-use Rattle.core_model.specs.declared.events.Answer.{Answer}
-use Rattle.core_model.specs.declared.events.Answer.TheVariants as answer
-use Rattle.core_model.specs.Acts.{outcome}
-use Rattle.round_laws.specs.Visits.{Side, can_on, act_on}
-use Rattle.round_laws.specs.Loops.{waiting_in, upward_in, queue_in, outbox_in, downward_in}
-use Rattle.round_laws.specs.Steps.{left_in}
-use Rattle.connection_laws.specs.Connection.{as_conn}
+use Rattle.connection.specs.core_model.declared.events.Act.{Act}
+use Rattle.connection.specs.core_model.declared.events.Act.TheVariants as act
+use Rattle.connection.specs.core_model.declared.events.Answer.{Answer}
+use Rattle.connection.specs.core_model.declared.events.Answer.TheVariants as answer
+use Rattle.connection.specs.core_model.Acts.{outcome}
+use Rattle.phase_laws.specs.round_laws.Visits.{Side, can_on, act_on}
+use Rattle.phase_laws.specs.round_laws.Loops.{waiting_in, upward_in, queue_in, outbox_in, downward_in}
+use Rattle.phase_laws.specs.round_laws.Steps.{left_in}
+use Rattle.connection.specs.connection_laws.Connection.{as_conn}
 use Rattle.client_rounds.specs.Visit.{AVisit, side, IsReady, IsLed, IsSame}
 
 -- the act was made

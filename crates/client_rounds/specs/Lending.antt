@@ -1,11 +1,11 @@
 -- A span that is lent to a session's subscription.
 use Rattle.std.specs.Prelude.{◌≡◌, ℕ, false, Some}
-use Rattle.session_state.specs.declared.subs.Sub.{Sub}
-use Rattle.store_machine.specs.State.{MachineState}
-use Rattle.connection_laws.specs.Connection.{AConnection}
-use Rattle.shared_news.specs.declared.news.Lent.{Lent}
-use Rattle.shared_news.specs.Telling.{ANews}
-use Rattle.shared_news.specs.Spans.{IsLent}
+use Rattle.connection.specs.session_state.declared.subs.Sub.{Sub}
+use Rattle.connection.specs.store_machine.State.{MachineState}
+use Rattle.connection.specs.connection_laws.Connection.{AConnection}
+use Rattle.source_laws.specs.shared_news.declared.news.Lent.{Lent}
+use Rattle.source_laws.specs.shared_news.Telling.{ANews}
+use Rattle.source_laws.specs.shared_news.Spans.{IsLent}
 use Rattle.source_laws.specs.Sources.{has_limit, IsSub}
 
 -- The subscription with the number, none of whose cursors has a limit, shows the place where the span begins.

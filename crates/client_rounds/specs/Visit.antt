@@ -1,13 +1,13 @@
 -- A client that a round visits, with the store's machine and what publications told of its history; and what acts of the client make of them.
 use Rattle.std.specs.Prelude.{◌≡◌, List, map, Bool, true, false, Result, Ok, Err}
-use Rattle.store_machine.specs.State.{MachineState}
+use Rattle.connection.specs.store_machine.State.{MachineState}
 use Rattle.settling.specs.Rounds.{made, through, none_of, none_in}
-use Rattle.core_model.specs.declared.events.Act.{Act}
-use Rattle.core_model.specs.Settle.{Phase}
-use Rattle.link_laws.specs.Links.{IsLinked}
-use Rattle.round_laws.specs.Visits.{Side, can_on, act_on, phase_on}
-use Rattle.connection_laws.specs.Connection.{AConnection, as_conn, IsConnection}
-use Rattle.shared_news.specs.Telling.{ANews}
+use Rattle.connection.specs.core_model.declared.events.Act.{Act}
+use Rattle.connection.specs.core_model.Settle.{Phase}
+use Rattle.connection.specs.link_laws.Links.{IsLinked}
+use Rattle.phase_laws.specs.round_laws.Visits.{Side, can_on, act_on, phase_on}
+use Rattle.connection.specs.connection_laws.Connection.{AConnection, as_conn, IsConnection}
+use Rattle.source_laws.specs.shared_news.Telling.{ANews}
 use Rattle.source_laws.specs.News.{AreNews}
 
 pub record AVisit : Type 0 where

@@ -1,17 +1,17 @@
 //! One act of a client.
 ghost use Rattle.std.specs.Prelude.{◌≡◌, false};
-ghost use Rattle.core_model.specs.declared.events.Act.TheVariants as act;
+ghost use Rattle.connection.specs.core_model.declared.events.Act.TheVariants as act;
 ghost use Rattle.connection.specs.Answers.{Answers};
 ghost use Rattle.client_rounds.specs.Visit.{visit, IsReady};
 ghost use Rattle.client_rounds.specs.Acting.{AnswersTo, Tries, adds_entry};
 
 use crate::showing::advance;
 use connection::Connection;
-use core_model::{Act, Answer};
+use connection::core_model::{Act, Answer};
+use connection::store_machine::Machine;
 use ejson_value::Mem;
 use heard_messages::Heard;
-use shared_news::SharedNews;
-use store_machine::Machine;
+use source_laws::shared_news::SharedNews;
 
 // The client takes a text, whether or not it breaks at it.
 fn take(connection: &mut Connection, heard: &mut Heard) -> Result<Answer, Mem>

@@ -1,18 +1,18 @@
 //! What there is to show goes to a client.
 ghost use Rattle.std.specs.Prelude.{◌≡◌, [], ◌∷◌, true};
-ghost use Rattle.core_model.specs.Settle.{loadings, advancings, sendings, takings, order};
+ghost use Rattle.connection.specs.core_model.Settle.{loadings, advancings, sendings, takings, order};
 ghost use Rattle.connection.specs.Asks.{asks_nothing};
 ghost use Rattle.client_rounds.specs.Visit.{visit, IsReady, Passes};
 
 use crate::listing::{advances, loads};
 use crate::making::{each, repeat_over};
 use connection::Connection;
-use core_model::Act;
+use connection::core_model::Act;
+use connection::store_machine::Machine;
 use ejson_value::Mem;
 use heard_messages::Heard;
-use shared_news::SharedNews;
+use source_laws::shared_news::SharedNews;
 use std::alloc::Global;
-use store_machine::Machine;
 
 // Subscriptions are loaded.
 fn loadings(

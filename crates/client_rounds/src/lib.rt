@@ -9,5 +9,8 @@ mod making;
 mod rounds;
 mod showing;
 
+pub use connection;
+pub use connection::{core_model, store_machine};
 pub use downward::tell;
 pub use rounds::round;
+pub use source_laws::shared_news;

@@ -1,14 +1,14 @@
 //! The acts that a phase lists.
 ghost use Rattle.std.specs.Prelude.{◌≡◌, ◌++◌, map, IfOk, OnOk};
-ghost use Rattle.core_model.specs.declared.events.Act.TheVariants as act;
-ghost use Rattle.core_model.specs.Settle.{running_from, load_at, loads};
-ghost use Rattle.session_state.specs.Subs.{as_live};
+ghost use Rattle.connection.specs.core_model.declared.events.Act.TheVariants as act;
+ghost use Rattle.connection.specs.core_model.Settle.{running_from, load_at, loads};
+ghost use Rattle.connection.specs.session_state.Subs.{as_live};
 ghost use Rattle.phase_laws.specs.Listing.{behind_by, behind};
 ghost use Rattle.client_rounds.specs.Acting.{learns_of};
 
-use core_model::Act;
+use connection::core_model::Act;
+use connection::session_state::Sub;
 use ejson_value::Mem;
-use session_state::Sub;
 use std::alloc::Global;
 
 /// The calls that run, each to be learnt of at this place of the history.

@@ -1,19 +1,19 @@
 //! Acts that are made one after another.
 ghost use Rattle.std.specs.Prelude.{◌≡◌, [], ◌∷◌, replicate, true, false, All};
-ghost use Rattle.history_model.specs.History.{Rise};
-ghost use Rattle.core_model.specs.Settle.{steps};
-ghost use Rattle.core_model.specs.Store.{held_in};
-ghost use Rattle.round_laws.specs.Steps.{Covers};
+ghost use Rattle.connection.specs.history_model.History.{Rise};
+ghost use Rattle.connection.specs.core_model.Settle.{steps};
+ghost use Rattle.connection.specs.core_model.Store.{held_in};
+ghost use Rattle.phase_laws.specs.round_laws.Steps.{Covers};
 ghost use Rattle.client_rounds.specs.Visit.{visit, side, IsReady, Makes, Passes};
 ghost use Rattle.client_rounds.specs.Acting.{is_repeatable, count_of, adds_entry};
 
 use crate::acting::{tries, tries_over};
 use connection::Connection;
-use core_model::Act;
+use connection::core_model::Act;
+use connection::store_machine::Machine;
 use ejson_value::Mem;
 use heard_messages::Heard;
-use shared_news::SharedNews;
-use store_machine::Machine;
+use source_laws::shared_news::SharedNews;
 
 /// Makes the act until it can't be made any more. Whether it was made at all.
 pub(crate) fn repeat(

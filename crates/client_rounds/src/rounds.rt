@@ -1,6 +1,6 @@
 //! The phases of a client's round.
 ghost use Rattle.std.specs.Prelude.{[], ◌∷◌};
-ghost use Rattle.core_model.specs.Settle.{ups, recvs, handles, begins, steps, learns, loadings, advancings, sendings, takings, order};
+ghost use Rattle.connection.specs.core_model.Settle.{ups, recvs, handles, begins, steps, learns, loadings, advancings, sendings, takings, order};
 ghost use Rattle.client_rounds.specs.Visit.{visit, IsReady, Passes};
 
 use crate::acting::tries;
@@ -8,12 +8,12 @@ use crate::downward::tells;
 use crate::listing::learns;
 use crate::making::{each, repeat, steps};
 use connection::Connection;
-use core_model::Act;
+use connection::core_model::Act;
+use connection::store_machine::Machine;
 use ejson_value::Mem;
 use heard_messages::Heard;
-use shared_news::SharedNews;
+use source_laws::shared_news::SharedNews;
 use std::alloc::Global;
-use store_machine::Machine;
 
 // Texts go up while they can, and are taken.
 fn texts_up(

@@ -1,21 +1,21 @@
 //! A subscription that goes on.
 ghost use Rattle.std.specs.Prelude.{◌≡◌, ◌+◌, ◌≤◌, ◌<◌, length, Some, IfOk, IfSome};
 ghost use Rattle.std.specs.Arc.{arc_value};
-ghost use Rattle.journal_model.specs.Subscriptions.{cursor_of};
-ghost use Rattle.session_laws.specs.Events.{IsFeed};
-ghost use Rattle.core_model.specs.declared.events.Act.TheVariants as act;
-ghost use Rattle.core_model.specs.Store.{moments};
-ghost use Rattle.connection_laws.specs.Connection.{IsConnection};
+ghost use Rattle.connection.specs.journal_model.Subscriptions.{cursor_of};
+ghost use Rattle.connection.specs.session_laws.Events.{IsFeed};
+ghost use Rattle.connection.specs.core_model.declared.events.Act.TheVariants as act;
+ghost use Rattle.connection.specs.core_model.Store.{moments};
+ghost use Rattle.connection.specs.connection_laws.Connection.{IsConnection};
 ghost use Rattle.connection.specs.Answers.{AnswersIn};
 ghost use Rattle.source_laws.specs.News.{AreNews};
 ghost use Rattle.client_rounds.specs.Lending.{IsLentTo};
 
 use connection::Connection;
-use core_model::Answer;
+use connection::core_model::Answer;
+use connection::session_state::sub_of;
+use connection::store_machine::Machine;
 use ejson_value::Mem;
-use session_state::sub_of;
-use shared_news::{Lent, SharedNews};
-use store_machine::Machine;
+use source_laws::shared_news::{Lent, SharedNews};
 
 // What the subscription's publication tells of the entries to all that ask, where none of its cursors
 // has a limit.

@@ -7,32 +7,32 @@ use Rattle.ejson_value.specs.declared.change.Publish.{Publish}
 use Rattle.ejson_value.specs.Rows.{Rows}
 use Rattle.program_steps.specs.declared.outcome.Status.{Status}
 use Rattle.app_model.specs.App.{App, method}
-use Rattle.history_model.specs.declared.entry.Entry.{Entry}
-use Rattle.history_model.specs.History.{held_at, status_in, status_at, is_next, changes_between}
-use Rattle.store_machine.specs.declared.fault.BeginFault.{BeginFault}
-use Rattle.store_machine.specs.declared.fault.BeginFault.TheVariants as begin_fault
-use Rattle.store_machine.specs.State.{MachineState, held_by, begin_answer, is_running, step_state}
-use Rattle.journal_model.specs.Subscriptions.{cursor_of, may_load}
-use Rattle.journal_model.specs.State.{State}
-use Rattle.session_laws.specs.declared.fault.EventFault.{EventFault}
-use Rattle.session_laws.specs.Session.{ASession}
-use Rattle.session_laws.specs.Events.{Learns as LearnsIn, Refuses, Loads, Advances, Feeds, IsFeed}
-use Rattle.session_state.specs.declared.own.Call.{Call}
-use Rattle.session_state.specs.Own.{as_blocking}
-use Rattle.core_model.specs.declared.events.Act.TheVariants as act
-use Rattle.core_model.specs.declared.events.Answer.{Answer}
-use Rattle.core_model.specs.declared.events.Answer.TheVariants as answer
-use Rattle.core_model.specs.Store.{programs, held_in, moments}
-use Rattle.core_model.specs.Conn.{is_at_work}
-use Rattle.core_model.specs.Acts.{is_kept}
-use Rattle.link_laws.specs.Session.{IsServed}
-use Rattle.connection_laws.specs.Connection.{AConnection, as_conn, IsConnection}
-use Rattle.connection_laws.specs.Acting.{with_session, refusal_learnt, IsDone}
-use Rattle.connection_laws.specs.Standing.{state_is, idle_of}
-use Rattle.connection_laws.specs.Links.{gone_idle}
-use Rattle.connection_laws.specs.Beginning.{begin_none, begin_begun, begin_refused, begin_makes, step_makes, may_begin}
-use Rattle.connection_laws.specs.Learning.{learn_makes, learn_past, learn_unbegun, refuse_makes}
-use Rattle.connection_laws.specs.Showing.{load_makes, load_past, advance_makes, advance_unloaded, advance_past, feed_makes}
+use Rattle.session_lines.specs.history_model.declared.entry.Entry.{Entry}
+use Rattle.session_lines.specs.history_model.History.{held_at, status_in, status_at, is_next, changes_between}
+use Rattle.session_lines.specs.store_machine.declared.fault.BeginFault.{BeginFault}
+use Rattle.session_lines.specs.store_machine.declared.fault.BeginFault.TheVariants as begin_fault
+use Rattle.session_lines.specs.store_machine.State.{MachineState, held_by, begin_answer, is_running, step_state}
+use Rattle.session_lines.specs.journal_model.Subscriptions.{cursor_of, may_load}
+use Rattle.session_lines.specs.journal_model.State.{State}
+use Rattle.session_lines.specs.session_laws.declared.fault.EventFault.{EventFault}
+use Rattle.session_lines.specs.session_laws.Session.{ASession}
+use Rattle.session_lines.specs.session_laws.Events.{Learns as LearnsIn, Refuses, Loads, Advances, Feeds, IsFeed}
+use Rattle.session_lines.specs.session_state.declared.own.Call.{Call}
+use Rattle.session_lines.specs.session_state.Own.{as_blocking}
+use Rattle.session_lines.specs.core_model.declared.events.Act.TheVariants as act
+use Rattle.session_lines.specs.core_model.declared.events.Answer.{Answer}
+use Rattle.session_lines.specs.core_model.declared.events.Answer.TheVariants as answer
+use Rattle.session_lines.specs.core_model.Store.{programs, held_in, moments}
+use Rattle.session_lines.specs.core_model.Conn.{is_at_work}
+use Rattle.session_lines.specs.core_model.Acts.{is_kept}
+use Rattle.session_lines.specs.link_laws.Session.{IsServed}
+use Rattle.session_lines.specs.connection_laws.Connection.{AConnection, as_conn, IsConnection}
+use Rattle.session_lines.specs.connection_laws.Acting.{with_session, refusal_learnt, IsDone}
+use Rattle.session_lines.specs.connection_laws.Standing.{state_is, idle_of}
+use Rattle.session_lines.specs.connection_laws.Links.{gone_idle}
+use Rattle.session_lines.specs.connection_laws.Beginning.{begin_none, begin_begun, begin_refused, begin_makes, step_makes, may_begin}
+use Rattle.session_lines.specs.connection_laws_for_proofs.Learning.{learn_makes, learn_past, learn_unbegun, refuse_makes}
+use Rattle.session_lines.specs.connection_laws_for_proofs.Showing.{load_makes, load_past, advance_makes, advance_unloaded, advance_past, feed_makes}
 use Rattle.connection.specs.declared.side.Refusal.{Refusal}
 use Rattle.connection.specs.declared.side.Side.{Side}
 use Rattle.connection.specs.Kept.{as_refusal, seen, IsKept}

@@ -1,18 +1,18 @@
 -- What is answered to an act and to a request, and what it leaves.
 use Rattle.std.specs.Prelude.{◌≡◌, ℕ, List, Bool, true, false, Option, None, Result, Ok, Err, IsErr}
 use Rattle.app_model.specs.App.{App}
-use Rattle.history_model.specs.declared.entry.Entry.{Entry}
-use Rattle.session_laws.specs.declared.fault.EventFault.{EventFault}
-use Rattle.session_laws.specs.declared.fault.EventFault.TheVariants as fault
-use Rattle.core_model.specs.declared.events.Act.{Act}
-use Rattle.core_model.specs.declared.events.Act.TheVariants as act
-use Rattle.core_model.specs.declared.events.Answer.{Answer}
-use Rattle.core_model.specs.declared.events.Answer.TheVariants as answer
-use Rattle.core_model.specs.Acts.{outcome}
-use Rattle.core_model.specs.Asks.{Ask, can_ask}
-use Rattle.connection_laws.specs.Connection.{AConnection, as_conn, IsConnection}
-use Rattle.connection_laws.specs.Acting.{IsDone}
-use Rattle.connection_laws.specs.Asks.{IsAsked}
+use Rattle.session_lines.specs.history_model.declared.entry.Entry.{Entry}
+use Rattle.session_lines.specs.session_laws.declared.fault.EventFault.{EventFault}
+use Rattle.session_lines.specs.session_laws.declared.fault.EventFault.TheVariants as fault
+use Rattle.session_lines.specs.core_model.declared.events.Act.{Act}
+use Rattle.session_lines.specs.core_model.declared.events.Act.TheVariants as act
+use Rattle.session_lines.specs.core_model.declared.events.Answer.{Answer}
+use Rattle.session_lines.specs.core_model.declared.events.Answer.TheVariants as answer
+use Rattle.session_lines.specs.core_model.Acts.{outcome}
+use Rattle.session_lines.specs.core_model.Asks.{Ask, can_ask}
+use Rattle.session_lines.specs.connection_laws.Connection.{AConnection, as_conn, IsConnection}
+use Rattle.session_lines.specs.connection_laws.Acting.{IsDone}
+use Rattle.session_lines.specs.connection_laws.Asks.{IsAsked}
 
 -- ---- acts
 

@@ -5,21 +5,21 @@ use Rattle.ejson_value.specs.declared.change.Publish.{Publish}
 use Rattle.ejson_value.specs.Rows.{Rows}
 use Rattle.program_steps.specs.declared.outcome.Status.{Status}
 use Rattle.app_model.specs.App.{App}
-use Rattle.history_model.specs.declared.entry.Entry.{Entry}
-use Rattle.history_model.specs.History.{held_at, status_at, changes_between}
-use Rattle.store_machine.specs.declared.fault.BeginFault.TheVariants as fault
-use Rattle.store_machine.specs.State.{MachineState, begin_answer}
-use Rattle.journal_model.specs.Subscriptions.{cursor_of}
-use Rattle.session_laws.specs.Events.{IsFeed}
-use Rattle.session_state.specs.declared.own.Call.{Call}
-use Rattle.core_model.specs.declared.events.Act.{Act}
-use Rattle.core_model.specs.declared.events.Act.TheVariants as act
-use Rattle.core_model.specs.declared.events.Answer.{Answer}
-use Rattle.core_model.specs.declared.events.Answer.TheVariants as answer
-use Rattle.core_model.specs.Store.{programs, moments}
-use Rattle.core_model.specs.Acts.{entries}
-use Rattle.link_laws.specs.Session.{IsServed}
-use Rattle.connection_laws.specs.Connection.{AConnection, as_conn, IsConnection}
+use Rattle.session_lines.specs.history_model.declared.entry.Entry.{Entry}
+use Rattle.session_lines.specs.history_model.History.{held_at, status_at, changes_between}
+use Rattle.session_lines.specs.store_machine.declared.fault.BeginFault.TheVariants as fault
+use Rattle.session_lines.specs.store_machine.State.{MachineState, begin_answer}
+use Rattle.session_lines.specs.journal_model.Subscriptions.{cursor_of}
+use Rattle.session_lines.specs.session_laws.Events.{IsFeed}
+use Rattle.session_lines.specs.session_state.declared.own.Call.{Call}
+use Rattle.session_lines.specs.core_model.declared.events.Act.{Act}
+use Rattle.session_lines.specs.core_model.declared.events.Act.TheVariants as act
+use Rattle.session_lines.specs.core_model.declared.events.Answer.{Answer}
+use Rattle.session_lines.specs.core_model.declared.events.Answer.TheVariants as answer
+use Rattle.session_lines.specs.core_model.Store.{programs, moments}
+use Rattle.session_lines.specs.core_model.Acts.{entries}
+use Rattle.session_lines.specs.link_laws.Session.{IsServed}
+use Rattle.session_lines.specs.connection_laws.Connection.{AConnection, as_conn, IsConnection}
 use Rattle.connection.specs.declared.side.Refusal.{Refusal}
 use Rattle.connection.specs.Answers.{Acts}
 

@@ -1,20 +1,20 @@
 //! The client with its session.
 ghost use Rattle.std.specs.Prelude.{◌≡◌, ◌-◌, ℕ, List, map, option_map, IfOk};
 ghost use Rattle.app_model.specs.App.{App as AnApp};
-ghost use Rattle.history_model.specs.declared.entry.Entry.{Entry};
-ghost use Rattle.journal_model.specs.Subscriptions.{sub_named, cursor_of};
-ghost use Rattle.session_state.specs.Subs.{as_live, observers_of};
-ghost use Rattle.session_work.specs.Work.{running_from};
-ghost use Rattle.client_parts.specs.Lines.{line_texts};
-ghost use Rattle.client_core.specs.State.{show_lines};
-ghost use Rattle.core_model.specs.declared.events.Act.TheVariants as act;
-ghost use Rattle.core_model.specs.Asks as ask;
-ghost use Rattle.core_model.specs.Lines.{line_text};
-ghost use Rattle.connection_laws.specs.Connection.{new_connection, as_conn, IsConnection};
-ghost use Rattle.connection_laws.specs.Printing.{kept_journal};
-ghost use Rattle.link_laws.specs.Session.{IsServed};
+ghost use Rattle.session_lines.specs.history_model.declared.entry.Entry.{Entry};
+ghost use Rattle.session_lines.specs.journal_model.Subscriptions.{sub_named, cursor_of};
+ghost use Rattle.session_lines.specs.session_state.Subs.{as_live, observers_of};
+ghost use Rattle.session_lines.specs.session_work.Work.{running_from};
+ghost use Rattle.session_lines.specs.client_parts.Lines.{line_texts};
+ghost use Rattle.session_lines.specs.client_core.State.{show_lines};
+ghost use Rattle.session_lines.specs.core_model.declared.events.Act.TheVariants as act;
+ghost use Rattle.session_lines.specs.core_model.Asks as ask;
+ghost use Rattle.session_lines.specs.core_model.Lines.{line_text};
+ghost use Rattle.session_lines.specs.connection_laws.Connection.{new_connection, as_conn, IsConnection};
+ghost use Rattle.session_lines.specs.connection_laws.Printing.{kept_journal};
+ghost use Rattle.session_lines.specs.link_laws.Session.{IsServed};
 ghost use Rattle.ejson_value.specs.Changes.{news_of};
-ghost use Rattle.session_parts.specs.Known.{AreRight, AreLearnt};
+ghost use Rattle.session_lines.specs.session_parts.Known.{AreRight, AreLearnt};
 ghost use Rattle.connection.specs.Asks.{asks_nothing};
 ghost use Rattle.connection.specs.Answers.{AnswersIn, Answers, Takes, Does, DoesAsked};
 ghost use Rattle.connection.specs.Storing.{Begins, StepsOn, Learns, AdvancesBy, FeedsBy};
@@ -27,18 +27,18 @@ use crate::resting::asks_nothing;
 use crate::side::Side;
 use crate::storing::{advance, advance_over, begin, feed, learn, load, step};
 use app_model::App;
-use client_core::Client;
-use core_model::Answer;
 use ejson_codec::Lines;
 use ejson_value::{Items, Mem, Publishes, Text};
 use heard_messages::Heard;
-use history_log::Batch;
 use known_texts::KnownTexts;
-use session::Session;
-use session_state::{Sub, cursor_of};
+use session_lines::Session;
+use session_lines::client_core::Client;
+use session_lines::core_model::Answer;
+use session_lines::history_log::Batch;
+use session_lines::session_state::{Sub, cursor_of};
+use session_lines::store_machine::Machine;
 use std::alloc::Global;
 use std::marker::Model;
-use store_machine::Machine;
 
 /// A client with its session, and the texts between them. The texts that the session took, and those
 /// that it sent, are kept, so that its journal can be printed.
@@ -53,7 +53,7 @@ impl Model for Connection {
     ghost use Rattle.selector_match.specs.Coding.{query_code};
     ghost use Rattle.sort_window.specs.Coding.{window_code};
     ghost use Rattle.minimongo.specs.State.{documents_code};
-    ghost use Rattle.connection_laws.specs.Connection.{AConnection};
+    ghost use Rattle.session_lines.specs.connection_laws.Connection.{AConnection};
     ghost use Rattle.connection.specs.Kept.{seen, IsKept};
 
     ghost Value = { AConnection };

@@ -1,7 +1,7 @@
 //! What is printed of a session.
 ghost use Rattle.std.specs.Prelude.{◌≡◌, map, IfOk};
-ghost use Rattle.core_model.specs.Lines.{line_text};
-ghost use Rattle.connection_laws.specs.Printing.{kept_journal};
+ghost use Rattle.session_lines.specs.core_model.Lines.{line_text};
+ghost use Rattle.session_lines.specs.connection_laws.Printing.{kept_journal};
 ghost use Rattle.connection.specs.Kept.{seen, IsKept};
 
 use crate::side::Side;

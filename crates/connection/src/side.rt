@@ -1,7 +1,7 @@
 //! What is kept of a client with its session.
 use crate::link::Link;
-use client_core::Client;
-use session::Session;
+use session_lines::Session;
+use session_lines::client_core::Client;
 use std::alloc::Global;
 
 /// A call that the store had no room for: its number, and how many entries the history had then.
@@ -13,7 +13,6 @@ pub(crate) struct Refusal {
 
 /// A client with its session. The texts that the session took, and those that it sent, stay on the
 /// links.
-#[derive(Drop)]
 pub(crate) struct Side {
     pub(crate) alloc: Global,
     pub(crate) client: Client,
@@ -26,4 +25,25 @@ pub(crate) struct Side {
     /// A refusal by the store that the session has still to learn of.
     pub(crate) kept: Option<Refusal>,
     pub(crate) is_dropped: bool,
+}
+
+// A `derive` would have each crate that lets one go prove anew how all that it holds is let go.
+impl Drop for Side {
+    fn drop(self) {
+        let Side {
+            alloc: _,
+            client,
+            made_raw: _,
+            upward,
+            downward,
+            number: _,
+            session,
+            kept: _,
+            is_dropped: _,
+        } = self;
+        drop(client);
+        drop(upward);
+        drop(downward);
+        drop(session);
+    }
 }

@@ -1,33 +1,33 @@
 //! What a session does with its store.
 ghost use Rattle.std.specs.Prelude.{◌≡◌, ◌+◌, ◌≤◌, ℕ, List, length, true, false, is_some, Some, option_map, IfOk};
 ghost use Rattle.app_model.specs.App.{App, method};
-ghost use Rattle.history_model.specs.declared.entry.Entry.{Entry};
-ghost use Rattle.history_model.specs.History.{status_in, is_next};
-ghost use Rattle.store_machine.specs.State.{held_by};
-ghost use Rattle.journal_model.specs.Subscriptions.{cursor_of};
-ghost use Rattle.core_model.specs.declared.events.Act.TheVariants as act;
-ghost use Rattle.core_model.specs.Acts.{is_kept};
-ghost use Rattle.link_laws.specs.Session.{IsServed};
-ghost use Rattle.connection_laws.specs.Connection.{as_conn, IsConnection};
+ghost use Rattle.session_lines.specs.history_model.declared.entry.Entry.{Entry};
+ghost use Rattle.session_lines.specs.history_model.History.{status_in, is_next};
+ghost use Rattle.session_lines.specs.store_machine.State.{held_by};
+ghost use Rattle.session_lines.specs.journal_model.Subscriptions.{cursor_of};
+ghost use Rattle.session_lines.specs.core_model.declared.events.Act.TheVariants as act;
+ghost use Rattle.session_lines.specs.core_model.Acts.{is_kept};
+ghost use Rattle.session_lines.specs.link_laws.Session.{IsServed};
+ghost use Rattle.session_lines.specs.connection_laws.Connection.{as_conn, IsConnection};
 ghost use Rattle.ejson_value.specs.Changes.{news_of};
-ghost use Rattle.session_parts.specs.Known.{AreRight, AreLearnt};
+ghost use Rattle.session_lines.specs.session_parts.Known.{AreRight, AreLearnt};
 ghost use Rattle.connection.specs.Kept.{as_refusal, seen, IsKept};
 ghost use Rattle.connection.specs.Answers.{AnswersIn};
 ghost use Rattle.connection.specs.Storing.{Tries, Begins, StepsOn, Learns, LearnsFrom, LoadsFrom, AdvancesBy, FeedsBy};
 
 use crate::acting::refused;
 use crate::side::{Refusal, Side};
-use core_model::Answer;
 use ejson_value::{Contents, Mem, Publishes};
-use history_log::Batch;
 use known_texts::KnownTexts;
 use program_steps::Status;
 use selector_match::Steps;
-use session::Call;
-use session_state::{cursor_of, may_load};
+use session_lines::Call;
+use session_lines::core_model::Answer;
+use session_lines::history_log::Batch;
+use session_lines::session_state::{cursor_of, may_load};
+use session_lines::store_machine::{BeginFault, Machine};
 use std::marker::Brand;
 use std::sync::ledger::{Blank, Ledger};
-use store_machine::{BeginFault, Machine};
 
 // Whether a refusal of the call is kept.
 fn is_kept(kept: &Option<Refusal>, k: u64) -> bool

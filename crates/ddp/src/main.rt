@@ -1,6 +1,7 @@
 //! The program `ddp`: a reactive data server and its client, with the commands `check` and `replay`.
 #![tactic(auto)]
 
+use commands::{Status, World, run_on};
 use ejson_value::{Mem, Text};
 use io_edge::{Sink, Source, StdSink, StdSource};
 use std::marker::Sync;
@@ -9,7 +10,6 @@ use std::rt::Env;
 use std::thread::Threads;
 use std::{env, io, mem};
 use usage::usage_text;
-use world_commands::{Status, World, run_on};
 
 // The word, if there is memory for it.
 fn text_of(word: String) -> io::Result<Text> {

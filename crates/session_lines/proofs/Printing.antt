@@ -2,11 +2,11 @@
 use Rattle.std.specs.Prelude.{◌≡◌, ℕ, zero, suc, ◌+◌, ◌-◌, ◌≤◌, ◌<◌, List, [], ◌∷◌, ◌++◌, length, map, take, drop, replicate, slice_get, Option, None, Some, Result, OnOk, if◌then◌else◌}
 use Rattle.std.proofs.Common.{true, false, refl, ap, ap₂, sym, subst, ◌∙◌, arith, append-nil}
 use Rattle.std.proofs.lemmas.List.{append_assoc, map-append}
-use Rattle.history_log.specs.Lines.{line_of}
+use Rattle.session.specs.history_log.Lines.{line_of}
 use Rattle.session_journal.specs.declared.journal.Line.{Line}
 use Rattle.session_journal.specs.Journal.{is_run, Run, put_before, runs}
 use Rattle.session_journal.proofs.Running.{same_line}
-use Rattle.session_laws.specs.Session.{ASession}
+use Rattle.session.specs.session_laws.Session.{ASession}
 use Rattle.session.specs.Lines.{lines_of}
 use Rattle.connection_laws.specs.Printing.{kept_value}
 use Rattle.session_lines.specs.declared.lines.Place.{Place}

@@ -1,13 +1,13 @@
 -- What is printed of a session's journal.
 use Rattle.std.specs.Prelude.{◌≡◌, ℕ, List, [], ◌∷◌, ◌++◌, map, take, drop, replicate, codes, slice_get, Option, None, Some}
 use Rattle.value_model.specs.Val.{text}
-use Rattle.history_log.specs.Lines.{worded, line_of}
-use Rattle.journal_model.specs.Out.{session_name}
+use Rattle.session.specs.history_log.Lines.{worded, line_of}
+use Rattle.session.specs.journal_model.Out.{session_name}
 use Rattle.session_journal.specs.declared.journal.Line.{Line}
 use Rattle.session_journal.specs.Journal.{Run, runs}
-use Rattle.session_laws.specs.Session.{ASession}
+use Rattle.session.specs.session_laws.Session.{ASession}
 use Rattle.session.specs.Lines.{lines_of}
-use Rattle.core_model.specs.Lines.{out_line, line_text}
+use Rattle.connection_laws.specs.core_model.Lines.{out_line, line_text}
 use Rattle.connection_laws.specs.Printing.{kept_value}
 use Rattle.session_lines.specs.declared.lines.Place.{Place}
 

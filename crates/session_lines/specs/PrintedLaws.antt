@@ -2,10 +2,10 @@
 use Rattle.std.specs.Prelude.{◌≡◌, ℕ, List, [], ◌∷◌, ◌++◌, map, take, drop, Option, refl}
 use Rattle.std.proofs.Common.{ap, ap₂, sym, ◌∙◌}
 use Rattle.std.proofs.lemmas.List.{map-append}
-use Rattle.history_log.specs.Lines.{line_of}
-use Rattle.session_relation.specs.declared.stored.Stored.{Stored}
+use Rattle.session.specs.history_log.Lines.{line_of}
+use Rattle.session.specs.session_relation.declared.stored.Stored.{Stored}
 use Rattle.session.specs.Lines.{lines_with}
-use Rattle.core_model.specs.Lines.{Line, out_line, line_text}
+use Rattle.connection_laws.specs.core_model.Lines.{Line, out_line, line_text}
 use Rattle.connection_laws.specs.Connection.{AConnection}
 use Rattle.connection_laws.specs.Printing.{kept_value, kept_lines, kept_journal}
 use Rattle.session_lines.specs.Printed.{out_text, texts_in, printed, head_text, session_lines}

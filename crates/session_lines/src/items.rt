@@ -1,7 +1,7 @@
 //! The line of an item.
 ghost use Rattle.std.specs.Prelude.{◌≡◌, ◌++◌, ◌∷◌, [], IfOk, OnOk};
 ghost use Rattle.value_model.specs.Val.{text as text_val, list, vals_of};
-ghost use Rattle.history_log.specs.Lines.{number, line_of};
+ghost use Rattle.session.specs.history_log.Lines.{number, line_of};
 ghost use Rattle.connection_laws.specs.Printing.{id_words, kept_value};
 
 use ejson_codec::text;

@@ -5,4 +5,7 @@ mod items;
 mod lines;
 mod texts;
 
+pub use connection_laws::{client_core, core_model, store_machine};
 pub use lines::journal_lines;
+pub use session::{Call, EventFault, Session, history_log};
+pub use session_state;

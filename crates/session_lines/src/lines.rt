@@ -6,8 +6,8 @@ use crate::items::{item_line, list_text, worded};
 use crate::texts::push_texts;
 use ejson_codec::Lines;
 use ejson_value::{Mem, Text, Value};
+use session::session_texts::session_name;
 use session::{Line, Session};
-use session_texts::session_name;
 use std::alloc::Global;
 
 // How many items and how many texts are printed.

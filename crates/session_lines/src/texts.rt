@@ -6,7 +6,7 @@ ghost use Rattle.session_lines.specs.Printed.{out_text, texts_in};
 use ejson_codec::Lines;
 use ejson_value::{Mem, Text};
 use session::Session;
-use session_texts::Texts;
+use session::session_texts::Texts;
 use std::alloc::Global;
 
 // The line of a text, which is printed as it stands.

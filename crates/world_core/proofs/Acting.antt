@@ -5,22 +5,22 @@ use Rattle.std.specs.BTreeMap.{insert_entry}
 use Rattle.std.proofs.Common.{ap, sym, subst, ◌∙◌}
 use Rattle.map_model.specs.Maps.{at}
 use Rattle.value_model.specs.Order.{text_cmp}
-use Rattle.store_machine.specs.State.{MachineState}
-use Rattle.core_model.specs.declared.events.Act.{Act}
-use Rattle.core_model.specs.declared.events.Act.TheVariants as act
-use Rattle.core_model.specs.declared.events.Answer.{Answer}
-use Rattle.core_model.specs.declared.events.Answer.TheVariants as answer
-use Rattle.core_model.specs.declared.events.Event.{Event}
-use Rattle.core_model.specs.declared.events.Event.TheVariants as event
-use Rattle.core_model.specs.Acts.{outcome, is_done, entries}
-use Rattle.core_model.specs.World.{World, done}
-use Rattle.core_model.specs.Events.{acts, act_by, step}
-use Rattle.core_model.specs.Lines.{idle_unless, answer_values, broken_values, told_values as told_in, act_values, texts_of, lines_of}
-use Rattle.connection_laws.specs.Connection.{AConnection, as_conn}
-use Rattle.connection_laws.specs.Acting.{IsDone}
-use Rattle.connection.specs.Answers.{Acts}
-use Rattle.connection.specs.Storing.{Enters}
-use Rattle.client_events.specs.Acting.{IsTold}
+use Rattle.client_lanes.specs.store_machine.State.{MachineState}
+use Rattle.client_lanes.specs.core_model.declared.events.Act.{Act}
+use Rattle.client_lanes.specs.core_model.declared.events.Act.TheVariants as act
+use Rattle.client_lanes.specs.core_model.declared.events.Answer.{Answer}
+use Rattle.client_lanes.specs.core_model.declared.events.Answer.TheVariants as answer
+use Rattle.client_lanes.specs.core_model.declared.events.Event.{Event}
+use Rattle.client_lanes.specs.core_model.declared.events.Event.TheVariants as event
+use Rattle.client_lanes.specs.core_model.Acts.{outcome, is_done, entries}
+use Rattle.client_lanes.specs.core_model.World.{World, done}
+use Rattle.client_lanes.specs.core_model.Events.{acts, act_by, step}
+use Rattle.client_lanes.specs.core_model.Lines.{idle_unless, answer_values, broken_values, told_values as told_in, act_values, texts_of, lines_of}
+use Rattle.client_lanes.specs.connection_laws.Connection.{AConnection, as_conn}
+use Rattle.client_lanes.specs.connection_laws.Acting.{IsDone}
+use Rattle.client_lanes.specs.Answers.{Acts}
+use Rattle.client_lanes.specs.Storing.{Enters}
+use Rattle.client_lanes.specs.Acting.{IsTold}
 use Rattle.world_lines.specs.Printed.{told_values}
 use Rattle.world_laws.specs.World.{Names, AConnections, AWorld, as_world, connection_of, IsWorld}
 use Rattle.world_laws.specs.Doing.{with_name, touched, is_take, IsActed, IsLeft}

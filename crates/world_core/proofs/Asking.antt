@@ -5,18 +5,18 @@ use Rattle.std.specs.BTreeMap.{insert_entry}
 use Rattle.std.proofs.Common.{ap, sym, subst, ◌∙◌}
 use Rattle.map_model.specs.Maps.{at}
 use Rattle.value_model.specs.Order.{text_cmp}
-use Rattle.core_model.specs.declared.events.Event.{Event}
-use Rattle.core_model.specs.declared.events.Event.TheVariants as event
-use Rattle.core_model.specs.Asks.{Ask, can_ask}
-use Rattle.core_model.specs.Asks as ask
-use Rattle.core_model.specs.World.{World, asked_in}
-use Rattle.core_model.specs.Events.{step, IsEvent}
-use Rattle.core_model.specs.Lines.{idle_unless, ask_values, texts_of, lines_of}
-use Rattle.link_laws.specs.Lift.{IsAsk}
-use Rattle.connection_laws.specs.Connection.{AConnection, as_conn}
-use Rattle.connection_laws.specs.Asks.{IsAsked}
-use Rattle.connection.specs.Answers.{DoesAsked}
-use Rattle.client_events.specs.Acting.{ask_in, AsksBy as AsksOf}
+use Rattle.client_lanes.specs.core_model.declared.events.Event.{Event}
+use Rattle.client_lanes.specs.core_model.declared.events.Event.TheVariants as event
+use Rattle.client_lanes.specs.core_model.Asks.{Ask, can_ask}
+use Rattle.client_lanes.specs.core_model.Asks as ask
+use Rattle.client_lanes.specs.core_model.World.{World, asked_in}
+use Rattle.client_lanes.specs.core_model.Events.{step, IsEvent}
+use Rattle.client_lanes.specs.core_model.Lines.{idle_unless, ask_values, texts_of, lines_of}
+use Rattle.client_lanes.specs.link_laws.Lift.{IsAsk}
+use Rattle.client_lanes.specs.connection_laws.Connection.{AConnection, as_conn}
+use Rattle.client_lanes.specs.connection_laws.Asks.{IsAsked}
+use Rattle.client_lanes.specs.Answers.{DoesAsked}
+use Rattle.client_lanes.specs.Acting.{ask_in, AsksBy as AsksOf}
 use Rattle.world_laws.specs.World.{Names, AConnections, AWorld, as_world, connection_of, IsWorld}
 use Rattle.world_laws.specs.Doing.{with_name, without_name, touched, is_drop, after_ask, after_drop, IsAskedIn, IsStep, IsLeft}
 use Rattle.world_laws.specs.Changing.{client_is}

@@ -7,14 +7,14 @@ use Rattle.map_model.specs.Maps.{at, set, IsSorted}
 use Rattle.map_model.specs.MapLaws.{at-put, set-at, eq_by_cmp-self}
 use Rattle.value_model.specs.Order.{text_cmp}
 use Rattle.ejson_value.specs.Key.{name_order}
-use Rattle.store_machine.specs.State.{MachineState}
-use Rattle.core_model.specs.declared.events.Act.{Act}
-use Rattle.core_model.specs.declared.events.Answer.{Answer}
-use Rattle.core_model.specs.declared.events.Answer.TheVariants as answer
-use Rattle.core_model.specs.declared.events.Event.{Event}
-use Rattle.connection_laws.specs.Connection.{AConnection}
-use Rattle.client_events.specs.Acting.{AsksFor}
-use Rattle.shared_news.specs.Telling.{ANews}
+use Rattle.client_lanes.specs.store_machine.State.{MachineState}
+use Rattle.client_lanes.specs.core_model.declared.events.Act.{Act}
+use Rattle.client_lanes.specs.core_model.declared.events.Answer.{Answer}
+use Rattle.client_lanes.specs.core_model.declared.events.Answer.TheVariants as answer
+use Rattle.client_lanes.specs.core_model.declared.events.Event.{Event}
+use Rattle.client_lanes.specs.connection_laws.Connection.{AConnection}
+use Rattle.client_lanes.specs.Acting.{AsksFor}
+use Rattle.client_lanes.specs.shared_news.Telling.{ANews}
 use Rattle.lane_laws.specs.Lanes.{VisitBy}
 use Rattle.client_lanes.specs.Clients.{Acts}
 use Rattle.client_lanes.specs.Visits.{Visits}

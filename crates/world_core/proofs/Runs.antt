@@ -9,13 +9,13 @@ use Rattle.map_model.specs.Maps.{at}
 use Rattle.map_model.specs.MapLaws.{at-put, key_is}
 use Rattle.value_model.specs.Order.{text_cmp}
 use Rattle.ejson_value.specs.Key.{name_order}
-use Rattle.store_machine.specs.State.{MachineState}
-use Rattle.round_laws.specs.Visits.{Side}
-use Rattle.connection_laws.specs.Connection.{AConnection, IsConnection}
-use Rattle.connection.specs.Asks.{asks_nothing}
-use Rattle.shared_news.specs.Telling.{ANews, nothing_told}
-use Rattle.client_rounds.specs.Visit.{visit}
-use Rattle.client_rounds.specs.Visit as one
+use Rattle.client_lanes.specs.store_machine.State.{MachineState}
+use Rattle.client_lanes.specs.round_laws.Visits.{Side}
+use Rattle.client_lanes.specs.connection_laws.Connection.{AConnection, IsConnection}
+use Rattle.client_lanes.specs.Asks.{asks_nothing}
+use Rattle.client_lanes.specs.shared_news.Telling.{ANews, nothing_told}
+use Rattle.client_lanes.specs.Visit.{visit}
+use Rattle.client_lanes.specs.Visit as one
 use Rattle.lane_laws.specs.Lanes.{VisitBy, IsVisit, EachTold, IsAmong, AreLed}
 use Rattle.client_lanes.specs.Visits.{Tells, Leads, VisitsIn}
 use Rattle.world_laws.specs.World.{AConnections, AWorld, as_world, connection_of}

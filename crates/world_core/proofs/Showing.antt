@@ -4,18 +4,18 @@ use Rattle.std.specs.Prelude.{◌≡◌, ℕ, ◌<◌, ◌≤◌, List, map, len
 use Rattle.std.proofs.Common.{sym, ◌∙◌, arith}
 use Rattle.map_model.specs.Maps.{at}
 use Rattle.value_model.specs.Order.{text_cmp}
-use Rattle.history_model.specs.LimitLaws.{legal_within}
-use Rattle.history_model.specs.HistoryLaws.{held_entries}
-use Rattle.client_parts.specs.Lines.{line_texts}
-use Rattle.client_core.specs.State.{show_lines}
-use Rattle.core_model.specs.declared.events.Act.{Act}
-use Rattle.core_model.specs.declared.events.Event.{Event}
-use Rattle.core_model.specs.declared.events.Event.TheVariants as event
-use Rattle.core_model.specs.Store.{programs}
-use Rattle.core_model.specs.Events.{act_in, act_by}
-use Rattle.core_model.specs.Lines.{idle_unless, texts_of, line_text, lines_of}
-use Rattle.connection_laws.specs.Connection.{AConnection, as_conn, IsConnection}
-use Rattle.connection_laws.specs.Printing.{kept_journal}
+use Rattle.client_lanes.specs.history_model.LimitLaws.{legal_within}
+use Rattle.client_lanes.specs.history_model.HistoryLaws.{held_entries}
+use Rattle.client_lanes.specs.client_parts.Lines.{line_texts}
+use Rattle.client_lanes.specs.client_core.State.{show_lines}
+use Rattle.client_lanes.specs.core_model.declared.events.Act.{Act}
+use Rattle.client_lanes.specs.core_model.declared.events.Event.{Event}
+use Rattle.client_lanes.specs.core_model.declared.events.Event.TheVariants as event
+use Rattle.client_lanes.specs.core_model.Store.{programs}
+use Rattle.client_lanes.specs.core_model.Events.{act_in, act_by}
+use Rattle.client_lanes.specs.core_model.Lines.{idle_unless, texts_of, line_text, lines_of}
+use Rattle.client_lanes.specs.connection_laws.Connection.{AConnection, as_conn, IsConnection}
+use Rattle.client_lanes.specs.connection_laws.Printing.{kept_journal}
 use Rattle.world_laws.specs.World.{AWorld, as_world, connection_of, IsWorld}
 use Rattle.world_laws.specs.Changing.{client_is}
 use Rattle.world_laws.specs.Printing.{shown, nobody_shown, journal_shown, nobody_journal, act_is, nobody_acts_by}

@@ -6,18 +6,18 @@ use Rattle.std.specs.Ordering.{is_le}
 use Rattle.std.proofs.Common.{ap, sym, subst, ◌∙◌}
 use Rattle.map_model.specs.Maps.{at}
 use Rattle.value_model.specs.Order.{text_cmp}
-use Rattle.store_machine.specs.State.{MachineState}
+use Rattle.client_lanes.specs.store_machine.State.{MachineState}
 use Rattle.settling.specs.Rounds.{made}
-use Rattle.core_model.specs.declared.events.Event.TheVariants as event
-use Rattle.core_model.specs.World.{World, conn_of}
-use Rattle.core_model.specs.Conn.{Conn}
-use Rattle.core_model.specs.Settle.{order, round, settled}
-use Rattle.round_laws.specs.Visits.{Side, visits}
-use Rattle.connection_laws.specs.Connection.{AConnection, as_conn, IsConnection}
-use Rattle.shared_news.specs.Telling.{ANews, nothing_told}
-use Rattle.source_laws.specs.News.{AreNews, nothing_is_news}
-use Rattle.client_rounds.specs.Visit.{visit, ArePassed, Passes}
-use Rattle.client_rounds.specs.Visit as one
+use Rattle.client_lanes.specs.core_model.declared.events.Event.TheVariants as event
+use Rattle.client_lanes.specs.core_model.World.{World, conn_of}
+use Rattle.client_lanes.specs.core_model.Conn.{Conn}
+use Rattle.client_lanes.specs.core_model.Settle.{order, round, settled}
+use Rattle.client_lanes.specs.round_laws.Visits.{Side, visits}
+use Rattle.client_lanes.specs.connection_laws.Connection.{AConnection, as_conn, IsConnection}
+use Rattle.client_lanes.specs.shared_news.Telling.{ANews, nothing_told}
+use Rattle.client_lanes.specs.News.{AreNews, nothing_is_news}
+use Rattle.client_lanes.specs.Visit.{visit, ArePassed, Passes}
+use Rattle.client_lanes.specs.Visit as one
 use Rattle.world_laws.specs.World.{Names, AConnections, AWorld, as_world, connection_of, IsIdle, IsWorld}
 use Rattle.world_laws.specs.Doing.{visits_from, IsIdleBefore, IsVisited, after_visit, at_rest, IsStep, ActsLead}
 use Rattle.world_laws.specs.Names.{behind}

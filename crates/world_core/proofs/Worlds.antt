@@ -1,19 +1,20 @@
 -- What a world promises, by what happens in what is kept of it.
 use Rattle.ejson_value.specs.declared.memory.Mem.{Mem}
 use Rattle.std.specs.Prelude.{◌≡◌, ℕ, List, [], Result, Ok, Err, OnOk, OnErr, IfOk}
-use Rattle.std.proofs.Common.{sym, subst}
-use Rattle.core_model.specs.declared.events.Event.{Event}
-use Rattle.core_model.specs.declared.events.Event.TheVariants as event
-use Rattle.core_model.specs.World.{World}
-use Rattle.core_model.specs.Settle.{settled}
-use Rattle.core_model.specs.Events.{step}
-use Rattle.core_model.specs.Lines.{lines_of}
-use Rattle.core_model.specs.Headline.{AreAtRest}
+use Rattle.std.proofs.Common.{ap, sym, subst, ◌∙◌}
+use Rattle.client_lanes.specs.core_model.declared.events.Event.{Event}
+use Rattle.client_lanes.specs.core_model.declared.events.Event.TheVariants as event
+use Rattle.client_lanes.specs.core_model.World.{World}
+use Rattle.client_lanes.specs.core_model.Settle.{round, settled}
+use Rattle.client_lanes.specs.core_model.Events.{step}
+use Rattle.client_lanes.specs.core_model.Lines.{lines_of}
+use Rattle.client_lanes.specs.core_model.Headline.{AreAtRest}
+use Rattle.world_laws.specs.resting_worlds_for_proofs.Rounds.{rounds_stay}
 use Rattle.world_laws.specs.World.{AWorld, as_world, IsWorld}
 use Rattle.world_laws.specs.Doing.{ActsLead, IsLeft as LeavesKept}
 use Rattle.world_laws.specs.Promises.{settled_rests}
 use Rattle.world_core.specs.Happening.{Happens}
-use Rattle.world_core.specs.Promises.{IsLeft}
+use Rattle.world_core.specs.Promises.{IsLeft, IsSettled}
 use Rattle.world_core.specs.Rounds.{Settles}
 
 -- ---- where memory runs out
@@ -37,6 +38,14 @@ left_world (event.Journal n) x y l = l
 left_world event.Store x y l = l
 left_world event.History x y l = l
 
+-- ---- settled worlds
+
+settled_world : (x : AWorld) → IsWorld x → IsSettled (settled (as_world x))
+settled_world x p = record {
+  rests = settled_rests x p;
+  stays = subst (λ (w : World). round (settled w) ≡ settled w) p.reachable.2 (rounds_stay x.app p.reachable.0 p.values p.reachable.1);
+}
+
 -- ---- an event
 
 module _ (x : AWorld) (e : Event) (y : AWorld) where
@@ -47,6 +56,10 @@ module _ (x : AWorld) (e : Event) (y : AWorld) where
   pub steps : (r : Result (List (List ℕ)) Mem) → Happens x e y r → OnOk r (as_world y ≡ step (as_world x) e)
   steps (Ok lines) h = h.0.does
   steps (Err m) h = tt
+
+  pub settles : (named : Event) → e ≡ named → IsWorld x → (r : Result (List (List ℕ)) Mem) → Happens x e y r → OnOk r (named ≡ event.Settle → IsSettled (as_world y))
+  settles named same p (Ok lines) h = λ is. subst IsSettled (sym (h.0.does ∙ ap (step (as_world x)) (same ∙ is))) (settled_world x p)
+  settles named same p (Err m) h = tt
 
   pub prints : (r : Result (List (List ℕ)) Mem) → Happens x e y r → IfOk r (λ lines. lines ≡ lines_of (as_world x) e)
   prints (Ok lines) h = h.1
@@ -70,6 +83,10 @@ module _ (x y : AWorld) where
   pub at_rest : IsWorld x → (r : Result (Unit {0}) Mem) → Settles x y r → OnOk r (AreAtRest (as_world y))
   at_rest p (Ok u) h = subst (λ (w : World). AreAtRest w) (sym h.does) (settled_rests x p)
   at_rest p (Err m) h = tt
+
+  pub round_stays : IsWorld x → (r : Result (Unit {0}) Mem) → Settles x y r → OnOk r (round (as_world y) ≡ as_world y)
+  round_stays p (Ok u) h = (subst IsSettled (sym h.does) (settled_world x p)).stays
+  round_stays p (Err m) h = tt
 
   pub leads : (r : Result (Unit {0}) Mem) → Settles x y r → OnErr r (ActsLead (as_world x) (as_world y))
   leads (Ok u) h = tt

@@ -1,13 +1,13 @@
 -- What happens in what is kept of a world.
 use Rattle.ejson_value.specs.declared.memory.Mem.{Mem}
 use Rattle.std.specs.Prelude.{◌≡◌, ℕ, List, Option, None, Some, Result, Ok, Err}
-use Rattle.core_model.specs.declared.events.Act.{Act}
-use Rattle.core_model.specs.declared.events.Event.{Event}
-use Rattle.core_model.specs.declared.events.Event.TheVariants as event
-use Rattle.core_model.specs.Lines.{act_values, texts_of, lines_of}
+use Rattle.client_lanes.specs.core_model.declared.events.Act.{Act}
+use Rattle.client_lanes.specs.core_model.declared.events.Event.{Event}
+use Rattle.client_lanes.specs.core_model.declared.events.Event.TheVariants as event
+use Rattle.client_lanes.specs.core_model.Lines.{act_values, texts_of, lines_of}
 use Rattle.std.specs.BTreeMap.{insert_entry}
 use Rattle.value_model.specs.Order.{text_cmp}
-use Rattle.connection_laws.specs.Connection.{AConnection, new_connection}
+use Rattle.client_lanes.specs.connection_laws.Connection.{AConnection, new_connection}
 use Rattle.world_laws.specs.World.{AWorld, as_world, IsWorld}
 use Rattle.world_laws.specs.Doing.{with_name, IsActed, IsStep, IsLeft}
 

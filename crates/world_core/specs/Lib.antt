@@ -4,3 +4,16 @@ pub mod Happening
 pub mod Names
 pub mod Rounds
 pub mod Runs
+pub use Rattle.world_laws.specs.AtRest
+pub use Rattle.world_laws.specs.RestingRounds
+-- what lies below, for the crates above
+pub mod core_model
+pub mod core_model_for_proofs
+pub mod headline_for_proofs
+pub mod history_log
+pub mod history_log_for_proofs
+pub mod history_model
+pub mod link_laws
+pub mod link_laws_for_proofs
+pub mod polite_clients_for_proofs
+pub mod stored_values

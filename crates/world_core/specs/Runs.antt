@@ -3,8 +3,8 @@ use Rattle.ejson_value.specs.declared.memory.Mem.{Mem}
 use Rattle.std.specs.Prelude.{◌≡◌, ℕ, List, [], ◌∷◌, Bool, true, Result, Ok, Err, IfSome}
 use Rattle.map_model.specs.Maps.{at}
 use Rattle.value_model.specs.Order.{text_cmp}
-use Rattle.connection_laws.specs.Connection.{AConnection}
-use Rattle.connection.specs.Asks.{asks_nothing}
+use Rattle.client_lanes.specs.connection_laws.Connection.{AConnection}
+use Rattle.client_lanes.specs.Asks.{asks_nothing}
 use Rattle.lane_laws.specs.Lanes.{EachTold, IsAmong, AreLed}
 use Rattle.client_lanes.specs.Visits.{Tells, Leads}
 use Rattle.world_laws.specs.World.{AConnections, AWorld}

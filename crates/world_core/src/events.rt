@@ -1,9 +1,9 @@
 //! What happens.
 ghost use Rattle.std.specs.Prelude.{◌≡◌, Some};
-ghost use Rattle.core_model.specs.declared.events.Event.TheVariants as happening;
-ghost use Rattle.core_model.specs.Events.{act_by, IsEvent};
-ghost use Rattle.history_model.specs.Operations.{operation_in};
-ghost use Rattle.history_log.specs.Entries.{told_operation};
+ghost use Rattle.client_lanes.specs.core_model.declared.events.Event.TheVariants as happening;
+ghost use Rattle.client_lanes.specs.core_model.Events.{act_by, IsEvent};
+ghost use Rattle.client_lanes.specs.history_model.Operations.{operation_in};
+ghost use Rattle.client_lanes.specs.history_log.Entries.{told_operation};
 ghost use Rattle.world_laws.specs.World.{as_world, IsWorld};
 ghost use Rattle.world_core.specs.Kept.{seen};
 ghost use Rattle.world_core.specs.Happening.{Happens, MakesAct, actor, asked_one};
@@ -12,12 +12,11 @@ use crate::inside::Inside;
 use crate::opening::open;
 use crate::printing::{history, journal, show, store};
 use crate::rounds::settle;
-use client_events::named;
-use client_lanes::{Hands, Lanes};
+use client_lanes::core_model::{Act, Event};
+use client_lanes::store_machine::AdminFault;
+use client_lanes::{Hands, Lanes, named};
 use collection_store::Op;
-use core_model::{Act, Event};
 use ejson_value::{Items, Mem, Text};
-use store_machine::AdminFault;
 use world_lines::Printed;
 
 // The act of the client that the event names, if it names one.

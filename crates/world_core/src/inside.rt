@@ -1,9 +1,9 @@
 //! What is kept of a world.
 use client_lanes::Clients;
+use client_lanes::store_machine::Machine;
 use client_names::Names;
 use heard_messages::Heard;
 use std::alloc::Global;
-use store_machine::Machine;
 
 #[derive(Drop)]
 pub(crate) struct Inside {

@@ -8,4 +8,5 @@ mod printing;
 mod rounds;
 mod world;
 
+pub use client_lanes::{Hands, InTurn, OnThreads};
 pub use world::World;

@@ -3,19 +3,18 @@ ghost use Rattle.std.specs.Prelude.{◌≡◌, OnOk, OnErr, None};
 ghost use Rattle.std.specs.BTreeMap.{insert_entry};
 ghost use Rattle.map_model.specs.Maps.{at};
 ghost use Rattle.value_model.specs.Order.{text_cmp};
-ghost use Rattle.core_model.specs.declared.events.Event.TheVariants as event;
-ghost use Rattle.core_model.specs.World.{can_open};
+ghost use Rattle.client_lanes.specs.core_model.declared.events.Event.TheVariants as event;
+ghost use Rattle.client_lanes.specs.core_model.World.{can_open};
 ghost use Rattle.world_laws.specs.World.{as_world, connection_of, IsWorld};
-ghost use Rattle.connection_laws.specs.Connection.{new_connection};
+ghost use Rattle.client_lanes.specs.connection_laws.Connection.{new_connection};
 ghost use Rattle.world_core.specs.Kept.{seen};
 ghost use Rattle.world_core.specs.Happening.{Happens, Begins};
 
 use crate::inside::Inside;
-use client_lanes::{Clients, Lanes};
-use connection::Connection;
+use client_lanes::store_machine::Machine;
+use client_lanes::{Clients, Connection, Lanes};
 use ejson_value::{Mem, Text};
 use std::alloc::Global;
-use store_machine::Machine;
 use world_lines::Printed;
 
 /// How many clients may be there at once.

@@ -1,7 +1,7 @@
 //! What is printed of a world.
 ghost use Rattle.std.specs.Prelude.{◌≡◌, IfOk};
-ghost use Rattle.core_model.specs.declared.events.Event.TheVariants as event;
-ghost use Rattle.core_model.specs.Lines.{lines_of};
+ghost use Rattle.client_lanes.specs.core_model.declared.events.Event.TheVariants as event;
+ghost use Rattle.client_lanes.specs.core_model.Lines.{lines_of};
 ghost use Rattle.world_laws.specs.World.{as_world, IsWorld};
 ghost use Rattle.world_core.specs.Kept.{seen};
 

@@ -1,7 +1,7 @@
 //! Rounds of a world that settles.
 ghost use Rattle.std.specs.Prelude.{◌≡◌, ◌++◌, ◌∷◌, [], ◌||◌, true, IfSome, IfOk, OnOk};
 ghost use Rattle.std.specs.Option.{option_copied};
-ghost use Rattle.source_laws.specs.News.{AreNews};
+ghost use Rattle.client_lanes.specs.News.{AreNews};
 ghost use Rattle.world_laws.specs.World.{as_world, IsWorld};
 ghost use Rattle.world_core.specs.Kept.{seen};
 ghost use Rattle.world_core.specs.Names.{lesser};
@@ -9,10 +9,10 @@ ghost use Rattle.world_core.specs.Rounds.{IsNext, MakesRound, MakesRounds, Settl
 ghost use Rattle.world_core.specs.Runs.{AsksNothing, IsListener, IsRun, behind_all, TellsRun};
 
 use crate::inside::Inside;
+use client_lanes::shared_news::SharedNews;
 use client_lanes::{Hands, Lanes};
 use client_names::behind;
 use ejson_value::{Mem, Text};
-use shared_news::SharedNews;
 use std::cmp::Ordering;
 
 // The lesser of two names.

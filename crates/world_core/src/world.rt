@@ -1,22 +1,24 @@
 //! The world.
 ghost use Rattle.std.specs.Prelude.{◌≡◌, IfOk, OnOk, OnErr};
-ghost use Rattle.stored_values.specs.Values.{HasValues};
-ghost use Rattle.history_model.specs.Operations.{operation_in};
-ghost use Rattle.history_log.specs.Entries.{told_operation};
-ghost use Rattle.core_model.specs.declared.events.Event.TheVariants.{Admin};
-ghost use Rattle.core_model.specs.Store.{programs};
-ghost use Rattle.core_model.specs.World.{start};
-ghost use Rattle.core_model.specs.Settle.{settled};
-ghost use Rattle.core_model.specs.Events.{step, IsEvent, Reachable};
-ghost use Rattle.core_model.specs.Lines.{lines_of};
-ghost use Rattle.core_model.specs.Headline.{IsTrueWorld, HaveLongAlone, AreAtRest};
+ghost use Rattle.world_laws.specs.stored_values.Values.{HasValues};
+ghost use Rattle.client_lanes.specs.history_model.Operations.{operation_in};
+ghost use Rattle.client_lanes.specs.history_log.Entries.{told_operation};
+ghost use Rattle.client_lanes.specs.core_model.declared.events.Event.TheVariants.{Admin};
+ghost use Rattle.client_lanes.specs.core_model.declared.events.Event.TheVariants as happening;
+ghost use Rattle.client_lanes.specs.core_model.Store.{programs};
+ghost use Rattle.client_lanes.specs.core_model.World.{start};
+ghost use Rattle.client_lanes.specs.core_model.Settle.{round, settled};
+ghost use Rattle.client_lanes.specs.core_model.Events.{step, IsEvent, Reachable};
+ghost use Rattle.client_lanes.specs.core_model.Lines.{lines_of};
+ghost use Rattle.client_lanes.specs.core_model.Headline.{IsTrueWorld, HaveLongAlone, AreAtRest};
 ghost use Rattle.world_laws.specs.Doing.{ActsLead};
-ghost use Rattle.world_core.specs.Promises.{IsLeft};
+ghost use Rattle.world_core.specs.Promises.{IsLeft, IsSettled};
 
 use crate::events::{admin_told, happen};
 use crate::inside::Inside;
 use crate::rounds::settle;
 use app_model::App;
+use client_lanes::store_machine::Machine;
 use client_lanes::{Hands, InTurn, no_clients};
 use client_names::Names;
 use collection_store::Op;
@@ -24,15 +26,21 @@ use ejson_value::{Mem, Text};
 use heard_messages::Heard;
 use std::alloc::Global;
 use std::marker::Model;
-use store_machine::Machine;
 use world_events::Event;
 use world_lines::Printed;
 
 /// A world. A contract sees its application, the history of its store, how many clients there were so
 /// far, and the clients by name, each with its session and the texts between them.
-#[derive(Drop)]
 pub struct World {
     inside: Inside,
+}
+
+// A `derive` would have each crate that lets worlds go prove anew how all that they hold is let go.
+impl Drop for World {
+    fn drop(self) {
+        let World { inside } = self;
+        drop(inside);
+    }
 }
 
 impl Model for World {
@@ -40,8 +48,8 @@ impl Model for World {
     ghost use Rattle.value_model.specs.Coding.{val_code};
     ghost use Rattle.selector_match.specs.Coding.{query_code};
     ghost use Rattle.sort_window.specs.Coding.{window_code};
-    ghost use Rattle.minimongo.specs.State.{documents_code};
-    ghost use Rattle.core_model.specs.World.{World as AWorld};
+    ghost use Rattle.client_lanes.specs.minimongo.State.{documents_code};
+    ghost use Rattle.client_lanes.specs.core_model.World.{World as AWorld};
     ghost use Rattle.world_laws.specs.World.{as_world, IsWorld};
     ghost use Rattle.world_core.specs.Kept.{seen};
 
@@ -80,6 +88,7 @@ impl World {
     pub fn event(&mut self, event: &Event) -> Result<Printed, Mem>
         ensures step { OnOk result (self.new ≡ step self.old event.now) }
         ensures lines { IfOk result (λ printed. printed ≡ lines_of self.old event.now) }
+        ensures settles { OnOk result (event.now ≡ happening.Settle → IsSettled self.new) }
         ensures left { OnErr result (IsLeft event.now self.old self.new) }
         ensures true_world { IsTrueWorld self.new }
         ensures long_alone { HaveLongAlone self.new }
@@ -93,6 +102,7 @@ impl World {
         requires { H.ready }
         ensures step { OnOk result (self.new ≡ step self.old event.now) }
         ensures lines { IfOk result (λ printed. printed ≡ lines_of self.old event.now) }
+        ensures settles { OnOk result (event.now ≡ happening.Settle → IsSettled self.new) }
         ensures left { OnErr result (IsLeft event.now self.old self.new) }
         ensures true_world { IsTrueWorld self.new }
         ensures long_alone { HaveLongAlone self.new }
@@ -120,6 +130,7 @@ impl World {
     pub fn settle(&mut self) -> Result<(), Mem>
         ensures settled { OnOk result (self.new ≡ settled self.old) }
         ensures at_rest { OnOk result (AreAtRest self.new) }
+        ensures stays { OnOk result (round self.new ≡ self.new) }
         ensures left { OnErr result (ActsLead self.old self.new) }
         ensures true_world { IsTrueWorld self.new }
         ensures long_alone { HaveLongAlone self.new }
@@ -129,6 +140,7 @@ impl World {
 
     /// Tells a proof what every world is; it does nothing.
     pub fn known(&self)
+        ensures values { HasValues (programs self.now.app) }
         ensures reachable { Reachable self.now }
         ensures true_world { IsTrueWorld self.now }
         ensures long_alone { HaveLongAlone self.now }

@@ -13,16 +13,16 @@ use Rattle.value_model.specs.Order.{text_cmp}
 use Rattle.ejson_value.specs.Key.{name_order}
 use Rattle.ddp_messages.specs.Limits.{AreShallow}
 use Rattle.app_model.specs.App.{App}
-use Rattle.history_model.specs.declared.entry.Entry.{Entry}
-use Rattle.history_model.specs.declared.entry.Entry.TheVariants as entry
-use Rattle.core_model.specs.declared.events.Event.{Event}
-use Rattle.core_model.specs.declared.events.Event.TheVariants as event
-use Rattle.core_model.specs.Conn.{Conn, client_limit}
-use Rattle.core_model.specs.Asks.{Ask, can_ask, asked}
-use Rattle.core_model.specs.Asks as ask
-use Rattle.core_model.specs.World.{World, conn_of, with_conn, present as present_in, can_open, opened_with, opens, asked_by, asked_in, can_ask_by}
-use Rattle.core_model.specs.Events.{refusal_of, entered_by, administers, step, IsEvent, Reachable}
-use Rattle.link_laws.specs.Lift.{IsAsk}
+use Rattle.resting_worlds.specs.history_model.declared.entry.Entry.{Entry}
+use Rattle.resting_worlds.specs.history_model.declared.entry.Entry.TheVariants as entry
+use Rattle.resting_worlds.specs.core_model.declared.events.Event.{Event}
+use Rattle.resting_worlds.specs.core_model.declared.events.Event.TheVariants as event
+use Rattle.resting_worlds.specs.core_model.Conn.{Conn, client_limit}
+use Rattle.resting_worlds.specs.core_model.Asks.{Ask, can_ask, asked}
+use Rattle.resting_worlds.specs.core_model.Asks as ask
+use Rattle.resting_worlds.specs.core_model.World.{World, conn_of, with_conn, present as present_in, can_open, opened_with, opens, asked_by, asked_in, can_ask_by}
+use Rattle.resting_worlds.specs.core_model.Events.{refusal_of, entered_by, administers, step, IsEvent, Reachable}
+use Rattle.resting_worlds.specs.link_laws.Lift.{IsAsk}
 use Rattle.connection_laws.specs.Connection.{AConnection, new_connection, as_conn, IsConnection}
 use Rattle.connection_laws.specs.Asks.{IsAsked}
 use Rattle.connection_laws.specs.Standing.{new_stays}

@@ -10,10 +10,10 @@ use Rattle.map_model.specs.MapLaws.{at-put, sorted-put, same_maps, key_is, eq_by
 use Rattle.value_model.specs.Order.{text_cmp}
 use Rattle.ejson_value.specs.Key.{name_order}
 use Rattle.app_model.specs.App.{App}
-use Rattle.history_model.specs.declared.entry.Entry.{Entry}
-use Rattle.core_model.specs.World.{conn_of}
-use Rattle.core_model.specs.Events.{Reachable}
-use Rattle.link_laws.specs.Lift.{IsNumbered}
+use Rattle.resting_worlds.specs.history_model.declared.entry.Entry.{Entry}
+use Rattle.resting_worlds.specs.core_model.World.{conn_of}
+use Rattle.resting_worlds.specs.core_model.Events.{Reachable}
+use Rattle.resting_worlds.specs.link_laws.Lift.{IsNumbered}
 use Rattle.connection_laws.specs.Connection.{AConnection, as_conn, IsConnection}
 use Rattle.connection_laws.specs.Standing.{longer_stays}
 use Rattle.world_laws.specs.World.{Names, AConnections, AWorld, as_conns, as_world, connection_of, is_among, IsIdle, is_there, IsClient, IsWorld}

@@ -5,17 +5,17 @@ use Rattle.std.specs.Ordering.{is_le}
 use Rattle.std.specs.BTreeMap.{is_at, insert_entry}
 use Rattle.value_model.specs.Val.{Val}
 use Rattle.value_model.specs.Order.{text_cmp}
-use Rattle.history_model.specs.declared.entry.Entry.{Entry}
-use Rattle.history_model.specs.declared.entry.Entry.TheVariants as entry
+use Rattle.resting_worlds.specs.history_model.declared.entry.Entry.{Entry}
+use Rattle.resting_worlds.specs.history_model.declared.entry.Entry.TheVariants as entry
 use Rattle.settling.specs.Rounds.{made}
-use Rattle.core_model.specs.declared.events.Act.{Act}
-use Rattle.core_model.specs.declared.events.Act.TheVariants as act
-use Rattle.core_model.specs.declared.events.Event.{Event}
-use Rattle.core_model.specs.declared.events.Event.TheVariants as event
-use Rattle.core_model.specs.Asks.{Ask}
-use Rattle.core_model.specs.Asks as ask
-use Rattle.core_model.specs.World.{World, conn_of, done, opens, asked_in}
-use Rattle.core_model.specs.Events.{administers, step}
+use Rattle.resting_worlds.specs.core_model.declared.events.Act.{Act}
+use Rattle.resting_worlds.specs.core_model.declared.events.Act.TheVariants as act
+use Rattle.resting_worlds.specs.core_model.declared.events.Event.{Event}
+use Rattle.resting_worlds.specs.core_model.declared.events.Event.TheVariants as event
+use Rattle.resting_worlds.specs.core_model.Asks.{Ask}
+use Rattle.resting_worlds.specs.core_model.Asks as ask
+use Rattle.resting_worlds.specs.core_model.World.{World, conn_of, done, opens, asked_in}
+use Rattle.resting_worlds.specs.core_model.Events.{administers, step}
 use Rattle.round_laws.specs.Visits.{visits}
 use Rattle.connection_laws.specs.Connection.{AConnection, new_connection}
 use Rattle.world_laws.specs.World.{Names, AWorld, as_world, is_among, IsIdle, IsWorld}

@@ -10,25 +10,25 @@ use Rattle.value_model.specs.Val.{Val}
 use Rattle.ejson_value.specs.View.{view}
 use Rattle.program_steps.specs.declared.step.ProgramStep.{ProgramStep}
 use Rattle.app_model.specs.App.{App}
-use Rattle.history_model.specs.declared.entry.Entry.{Entry}
-use Rattle.history_model.specs.declared.entry.Entry.TheVariants as entry
-use Rattle.history_model.specs.History.{Programs, Held, RunKey, Runs, Begun, run_cmp, goes_on, no_steps, with_begin, with_step, later, with_stepped, setting_in, carried, nothing, held_from, steps_of as steps_in}
-use Rattle.history_model.specs.HistoryLaws.{run_order, held_from-append}
-use Rattle.history_model.specs.Operations.{operation_in}
-use Rattle.history_model.specs.RunsLaws as runs
-use Rattle.history_model.specs.Bounds.{IsHeld}
-use Rattle.program_model.specs.Run.{begun}
-use Rattle.program_model.specs.Steps.{stepped}
-use Rattle.core_model.specs.declared.events.Act.{Act}
-use Rattle.core_model.specs.declared.events.Act.TheVariants as act
-use Rattle.core_model.specs.Store.{programs, held_in}
+use Rattle.resting_worlds.specs.history_model.declared.entry.Entry.{Entry}
+use Rattle.resting_worlds.specs.history_model.declared.entry.Entry.TheVariants as entry
+use Rattle.resting_worlds.specs.history_model.History.{Programs, Held, RunKey, Runs, Begun, run_cmp, goes_on, no_steps, with_begin, with_step, later, with_stepped, setting_in, carried, nothing, held_from, steps_of as steps_in}
+use Rattle.resting_worlds.specs.history_model.HistoryLaws.{run_order, held_from-append}
+use Rattle.resting_worlds.specs.history_model.Operations.{operation_in}
+use Rattle.resting_worlds.specs.history_model.RunsLaws as runs
+use Rattle.resting_worlds.specs.history_model.Bounds.{IsHeld}
+use Rattle.resting_worlds.specs.program_model.Run.{begun}
+use Rattle.resting_worlds.specs.program_model.Steps.{stepped}
+use Rattle.resting_worlds.specs.core_model.declared.events.Act.{Act}
+use Rattle.resting_worlds.specs.core_model.declared.events.Act.TheVariants as act
+use Rattle.resting_worlds.specs.core_model.Store.{programs, held_in}
 use Rattle.client_model.specs.Asking.{can_take}
-use Rattle.journal_model.specs.Subscriptions.{Live, cursor_of, may_load}
-use Rattle.core_model.specs.Conn.{Conn, state_in, link_limit, outbox_limit, is_full, is_at_work, has_some}
-use Rattle.core_model.specs.declared.events.Answer.TheVariants as answer
-use Rattle.core_model.specs.Acts.{enabled, unbegun, learnt, may_advance, is_done, is_of_session, is_queue_full, can}
-use Rattle.core_model.specs.Settle.{Phase, ups, recvs, handles, begins, steps, learns, loadings, advancings, sendings, takings, steps_of, running_from, loads, advance_to, advances}
-use Rattle.link_laws.specs.Lift.{is_by}
+use Rattle.resting_worlds.specs.journal_model.Subscriptions.{Live, cursor_of, may_load}
+use Rattle.resting_worlds.specs.core_model.Conn.{Conn, state_in, link_limit, outbox_limit, is_full, is_at_work, has_some}
+use Rattle.resting_worlds.specs.core_model.declared.events.Answer.TheVariants as answer
+use Rattle.resting_worlds.specs.core_model.Acts.{enabled, unbegun, learnt, may_advance, is_done, is_of_session, is_queue_full, can}
+use Rattle.resting_worlds.specs.core_model.Settle.{Phase, ups, recvs, handles, begins, steps, learns, loadings, advancings, sendings, takings, steps_of, running_from, loads, advance_to, advances}
+use Rattle.resting_worlds.specs.link_laws.Lift.{is_by}
 use Rattle.connection_laws.specs.Links.{is_step}
 use Rattle.settling.specs.Rounds.{none_of}
 use Rattle.round_laws.specs.Visits.{can_on, phase_on}

@@ -3,11 +3,11 @@ use Rattle.std.specs.Prelude.{◌≡◌, ℕ, ◌==◌, List, [], ◌∷◌, ◌
 use Rattle.std.proofs.Common.{ap, sym, ◌∙◌, append-nil}
 use Rattle.std.proofs.lemmas.List.{append_assoc}
 use Rattle.app_model.specs.App.{App}
-use Rattle.history_model.specs.declared.entry.Entry.{Entry}
+use Rattle.resting_worlds.specs.history_model.declared.entry.Entry.{Entry}
 use Rattle.settling.specs.Rounds.{made, through}
-use Rattle.core_model.specs.declared.events.Act.{Act}
-use Rattle.core_model.specs.Acts.{can, does, entries}
-use Rattle.core_model.specs.Settle.{order}
+use Rattle.resting_worlds.specs.core_model.declared.events.Act.{Act}
+use Rattle.resting_worlds.specs.core_model.Acts.{can, does, entries}
+use Rattle.resting_worlds.specs.core_model.Settle.{order}
 use Rattle.world_laws.specs.Gone.{AreNotBy}
 use Rattle.world_laws.specs.Making.{same_number, does_there, entries_apart}
 use Rattle.round_laws.specs.Visits.{Side, act_on, phase_on, visited}

@@ -4,7 +4,7 @@ use Rattle.std.proofs.Common.{ap, ◌∙◌}
 use Rattle.std.proofs.lemmas.Bool.{and_parts}
 use Rattle.app_model.specs.App.{App}
 use Rattle.settling.specs.Rounds.{none_of, none_in}
-use Rattle.core_model.specs.Settle.{Phase, ups, recvs, handles, begins, steps, learns, loadings, advancings, sendings, takings, order}
+use Rattle.resting_worlds.specs.core_model.Settle.{Phase, ups, recvs, handles, begins, steps, learns, loadings, advancings, sendings, takings, order}
 use Rattle.round_laws.specs.Visits.{Side, can_on, phase_on, is_idle}
 
 module _ (app : App) (x : Side) where

@@ -8,18 +8,18 @@ use Rattle.map_model.specs.MapLaws.{at-put, sorted-put, key_is, eq_by_cmp-self}
 use Rattle.value_model.specs.Order.{text_cmp}
 use Rattle.ejson_value.specs.Key.{name_order}
 use Rattle.app_model.specs.App.{App}
-use Rattle.history_model.specs.declared.entry.Entry.{Entry}
-use Rattle.journal_model.specs.Items.{Item}
-use Rattle.journal_model.specs.Methods.{Blocking}
-use Rattle.journal_model.specs.Taking.{Taken, at_once, to_queue, taken_text}
-use Rattle.core_model.specs.declared.events.Act.{Act}
-use Rattle.core_model.specs.declared.events.Act.TheVariants as act
-use Rattle.core_model.specs.declared.events.Answer.TheVariants as answer
-use Rattle.core_model.specs.declared.events.Event.{Event}
-use Rattle.core_model.specs.Conn.{Waiting, Conn, state_in}
-use Rattle.core_model.specs.Acts.{goes_up, received_as, receives, handles, is_kept, unbegun, is_refused, begin_entry, begun, learnt, learns_item, sends, takes, outcome, is_done, can, does, entries}
-use Rattle.core_model.specs.World.{World, conn_of, acted, done_by, done, outcome_by}
-use Rattle.core_model.specs.Events.{act_in, act_by, done_if, acts, step, Reachable}
+use Rattle.resting_worlds.specs.history_model.declared.entry.Entry.{Entry}
+use Rattle.resting_worlds.specs.journal_model.Items.{Item}
+use Rattle.resting_worlds.specs.journal_model.Methods.{Blocking}
+use Rattle.resting_worlds.specs.journal_model.Taking.{Taken, at_once, to_queue, taken_text}
+use Rattle.resting_worlds.specs.core_model.declared.events.Act.{Act}
+use Rattle.resting_worlds.specs.core_model.declared.events.Act.TheVariants as act
+use Rattle.resting_worlds.specs.core_model.declared.events.Answer.TheVariants as answer
+use Rattle.resting_worlds.specs.core_model.declared.events.Event.{Event}
+use Rattle.resting_worlds.specs.core_model.Conn.{Waiting, Conn, state_in}
+use Rattle.resting_worlds.specs.core_model.Acts.{goes_up, received_as, receives, handles, is_kept, unbegun, is_refused, begin_entry, begun, learnt, learns_item, sends, takes, outcome, is_done, can, does, entries}
+use Rattle.resting_worlds.specs.core_model.World.{World, conn_of, acted, done_by, done, outcome_by}
+use Rattle.resting_worlds.specs.core_model.Events.{act_in, act_by, done_if, acts, step, Reachable}
 use Rattle.connection_laws.specs.Connection.{AConnection, as_conn}
 use Rattle.connection_laws.specs.Acting.{IsDone}
 use Rattle.connection_laws.specs.Standing.{longer_stays}

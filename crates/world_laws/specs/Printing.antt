@@ -1,20 +1,20 @@
 -- What an event prints of what is kept of a world.
 use Rattle.std.specs.Prelude.{◌≡◌, ℕ, List, [], ◌∷◌, map, false, Option, Some, None, option_map, option_and_then, refl}
 use Rattle.std.proofs.Common.{ap, sym, ◌∙◌}
-use Rattle.client_parts.specs.Lines as parts
-use Rattle.client_core.specs.State.{show_lines}
-use Rattle.core_model.specs.declared.events.Act.{Act}
-use Rattle.core_model.specs.declared.events.Act.TheVariants as act
-use Rattle.core_model.specs.declared.events.Answer.{Answer}
-use Rattle.core_model.specs.declared.events.Answer.TheVariants as answer
-use Rattle.core_model.specs.declared.events.Event.{Event}
-use Rattle.core_model.specs.declared.events.Event.TheVariants as event
-use Rattle.core_model.specs.Acts.{outcome}
-use Rattle.core_model.specs.Asks.{Ask, can_ask}
-use Rattle.core_model.specs.Conn.{Conn}
-use Rattle.core_model.specs.Lines.{line_text, idle, idle_unless, answer_values, broken_values, broken_in, told_values, act_values, ask_values, shown_values, journal_of, texts_of, lines_of}
-use Rattle.core_model.specs.World.{World, conn_of, outcome_by, can_ask_by}
-use Rattle.core_model.specs.Events.{act_in, act_by}
+use Rattle.connection_laws.specs.client_parts.Lines as parts
+use Rattle.connection_laws.specs.client_core.State.{show_lines}
+use Rattle.resting_worlds.specs.core_model.declared.events.Act.{Act}
+use Rattle.resting_worlds.specs.core_model.declared.events.Act.TheVariants as act
+use Rattle.resting_worlds.specs.core_model.declared.events.Answer.{Answer}
+use Rattle.resting_worlds.specs.core_model.declared.events.Answer.TheVariants as answer
+use Rattle.resting_worlds.specs.core_model.declared.events.Event.{Event}
+use Rattle.resting_worlds.specs.core_model.declared.events.Event.TheVariants as event
+use Rattle.resting_worlds.specs.core_model.Acts.{outcome}
+use Rattle.resting_worlds.specs.core_model.Asks.{Ask, can_ask}
+use Rattle.resting_worlds.specs.core_model.Conn.{Conn}
+use Rattle.resting_worlds.specs.core_model.Lines.{line_text, idle, idle_unless, answer_values, broken_values, broken_in, told_values, act_values, ask_values, shown_values, journal_of, texts_of, lines_of}
+use Rattle.resting_worlds.specs.core_model.World.{World, conn_of, outcome_by, can_ask_by}
+use Rattle.resting_worlds.specs.core_model.Events.{act_in, act_by}
 use Rattle.connection_laws.specs.Connection.{AConnection, as_conn}
 use Rattle.connection_laws.specs.Printing.{kept_journal, journal_is, show_is}
 use Rattle.world_laws.specs.World.{AWorld, as_world, connection_of, IsWorld}

@@ -9,16 +9,16 @@ use Rattle.value_model.specs.Order.{text_cmp}
 use Rattle.ejson_value.specs.Key.{name_order}
 use Rattle.app_model.specs.App.{App}
 use Rattle.settling.specs.Rounds.{made, through}
-use Rattle.core_model.specs.declared.events.Act.{Act}
-use Rattle.core_model.specs.declared.events.Event.{Event}
-use Rattle.core_model.specs.declared.events.Event.TheVariants as event
-use Rattle.core_model.specs.Conn.{Conn}
-use Rattle.core_model.specs.Acts.{does, entries}
-use Rattle.core_model.specs.World.{World, start, conn_of, acted, done_by, done}
-use Rattle.core_model.specs.Settle.{order}
-use Rattle.core_model.specs.Events.{done_if, step, run, IsEvent, AreEvents, Reachable}
-use Rattle.headline.specs.Worlds.{worlds_hold}
-use Rattle.settled_worlds.specs.Tidy.{Stands}
+use Rattle.resting_worlds.specs.core_model.declared.events.Act.{Act}
+use Rattle.resting_worlds.specs.core_model.declared.events.Event.{Event}
+use Rattle.resting_worlds.specs.core_model.declared.events.Event.TheVariants as event
+use Rattle.resting_worlds.specs.core_model.Conn.{Conn}
+use Rattle.resting_worlds.specs.core_model.Acts.{does, entries}
+use Rattle.resting_worlds.specs.core_model.World.{World, start, conn_of, acted, done_by, done}
+use Rattle.resting_worlds.specs.core_model.Settle.{order}
+use Rattle.resting_worlds.specs.core_model.Events.{done_if, step, run, IsEvent, AreEvents, Reachable}
+use Rattle.resting_worlds.specs.headline_for_proofs.Worlds.{worlds_hold}
+use Rattle.resting_worlds.specs.settled_worlds_for_proofs.Tidy.{Stands}
 use Rattle.round_laws.specs.Visits.{Side, can_on, act_on, phase_on, with_side, visited_by, visits}
 
 abbrev Comes : App → World → Type 0

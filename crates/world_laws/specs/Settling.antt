@@ -13,26 +13,26 @@ use Rattle.map_model.specs.Maps.{at, IsSorted}
 use Rattle.map_model.specs.MapLaws.{at-put, sorted-nil, sorted-put, key_is, is_some-at}
 use Rattle.value_model.specs.Order.{text_cmp}
 use Rattle.ejson_value.specs.Key.{name_order}
-use Rattle.history_model.specs.declared.entry.Entry.{Entry}
+use Rattle.resting_worlds.specs.history_model.declared.entry.Entry.{Entry}
 use Rattle.settling.specs.Tower.{often}
 use Rattle.settling.specs.TowerLaws.{tower_makes}
 use Rattle.settling.specs.Rounds.{made, through, none_of, none_in}
-use Rattle.stored_values.specs.Values.{HasValues}
+use Rattle.resting_worlds.specs.stored_values.Values.{HasValues}
 use Rattle.round_laws.specs.Repeats.{made-append}
-use Rattle.core_model.specs.declared.events.Act.{Act}
-use Rattle.core_model.specs.declared.events.Event.TheVariants as event
-use Rattle.core_model.specs.Store.{programs}
-use Rattle.core_model.specs.Conn.{Conn}
-use Rattle.core_model.specs.Acts.{can}
-use Rattle.core_model.specs.World.{World, conn_of, done, can_by, can_in}
-use Rattle.core_model.specs.Settle.{Phase, acts_by, phase, order, phases_of, round, is_stuck, measures, settled}
-use Rattle.core_model.specs.Events.{Reachable}
-use Rattle.link_laws.specs.Lift.{round_holds}
-use Rattle.link_laws.specs.Links.{IsLinked}
-use Rattle.headline.specs.Worlds.{IsSound, sound_kept}
-use Rattle.settle_laws.specs.Stuck.{none_of_phase}
-use Rattle.settled_worlds.specs.Tidy.{Stands}
-use Rattle.settled_worlds.specs.Settling as settling
+use Rattle.resting_worlds.specs.core_model.declared.events.Act.{Act}
+use Rattle.resting_worlds.specs.core_model.declared.events.Event.TheVariants as event
+use Rattle.resting_worlds.specs.core_model.Store.{programs}
+use Rattle.resting_worlds.specs.core_model.Conn.{Conn}
+use Rattle.resting_worlds.specs.core_model.Acts.{can}
+use Rattle.resting_worlds.specs.core_model.World.{World, conn_of, done, can_by, can_in}
+use Rattle.resting_worlds.specs.core_model.Settle.{Phase, acts_by, phase, order, phases_of, round, is_stuck, measures, settled}
+use Rattle.resting_worlds.specs.core_model.Events.{Reachable}
+use Rattle.resting_worlds.specs.link_laws.Lift.{round_holds}
+use Rattle.resting_worlds.specs.link_laws.Links.{IsLinked}
+use Rattle.resting_worlds.specs.headline_for_proofs.Worlds.{IsSound, sound_kept}
+use Rattle.resting_worlds.specs.settle_laws_for_proofs.Stuck.{none_of_phase}
+use Rattle.resting_worlds.specs.settled_worlds_for_proofs.Tidy.{Stands}
+use Rattle.resting_worlds.specs.settled_worlds_for_proofs.Settling as settling
 use Rattle.connection_laws.specs.Connection.{AConnection, as_conn, IsConnection}
 use Rattle.world_laws.specs.World.{AWorld, as_world, connection_of, is_among, IsIdle, is_there, IsClient, IsWorld}
 use Rattle.round_laws.specs.Visits.{Side, can_on, act_on, phase_on, with_side, visited as client_visited, visited_by, visits, all_visited, round_is, idle_left}

@@ -3,12 +3,12 @@ use Rattle.std.specs.Prelude.{◌≡◌, ◌⊎◌, ℕ, ◌≤◌, List, [], le
 use Rattle.map_model.specs.Maps.{at, IsSorted}
 use Rattle.value_model.specs.Order.{text_cmp}
 use Rattle.app_model.specs.App.{App}
-use Rattle.history_model.specs.declared.entry.Entry.{Entry}
-use Rattle.stored_values.specs.Values.{HasValues}
-use Rattle.core_model.specs.Store.{programs}
-use Rattle.core_model.specs.Conn.{Conn}
-use Rattle.core_model.specs.World.{World, Conns}
-use Rattle.core_model.specs.Events.{Reachable}
+use Rattle.resting_worlds.specs.history_model.declared.entry.Entry.{Entry}
+use Rattle.resting_worlds.specs.stored_values.Values.{HasValues}
+use Rattle.resting_worlds.specs.core_model.Store.{programs}
+use Rattle.resting_worlds.specs.core_model.Conn.{Conn}
+use Rattle.resting_worlds.specs.core_model.World.{World, Conns}
+use Rattle.resting_worlds.specs.core_model.Events.{Reachable}
 use Rattle.round_laws.specs.Visits.{is_idle}
 use Rattle.connection_laws.specs.Connection.{AConnection, as_conn, IsConnection}
 

@@ -1,13 +1,13 @@
 //! What every world is.
 ghost use Rattle.std.specs.Prelude.{◌≡◌, ℕ, List, Some};
 ghost use Rattle.app_model.specs.App.{App};
-ghost use Rattle.stored_values.specs.Values.{HasValues};
-ghost use Rattle.core_model.specs.Headline.{IsTrueWorld, HaveLongAlone, AreAtRest};
-ghost use Rattle.core_model.specs.Store.{programs};
-ghost use Rattle.core_model.specs.Settle.{settled};
-ghost use Rattle.core_model.specs.World.{start};
-ghost use Rattle.link_laws.specs.Links.{IsLinked};
-ghost use Rattle.link_laws.specs.Session.{IsServed};
+ghost use Rattle.resting_worlds.specs.stored_values.Values.{HasValues};
+ghost use Rattle.resting_worlds.specs.core_model.Headline.{IsTrueWorld, HaveLongAlone, AreAtRest};
+ghost use Rattle.resting_worlds.specs.core_model.Store.{programs};
+ghost use Rattle.resting_worlds.specs.core_model.Settle.{settled};
+ghost use Rattle.resting_worlds.specs.core_model.World.{start};
+ghost use Rattle.resting_worlds.specs.link_laws.Links.{IsLinked};
+ghost use Rattle.resting_worlds.specs.link_laws.Session.{IsServed};
 ghost use Rattle.connection_laws.specs.Connection.{AConnection, as_conn};
 ghost use Rattle.world_laws.specs.World.{AWorld, new_world, as_world, connection_of, IsWorld};
 

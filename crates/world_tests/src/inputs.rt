@@ -1,10 +1,10 @@
 //! Inputs of the commands, and what comes of each: the status, what was written and the reason.
+use commands::{INPUT_LIMIT, LINE_LIMIT, Status, run_plain};
 use ejson_value::{Bytes, Mem, Text};
 use io_edge::{Calls, MemorySink, MemorySource};
 use std::alloc::Global;
 use std::str;
 use std::test::Fail;
-use world_commands::{INPUT_LIMIT, LINE_LIMIT, Status, run_plain};
 
 const APPLICATION: &str =
     r#"{"collections":["tasks"],"methods":{},"publications":{"all":[{"collection":"tasks"}]}}"#;

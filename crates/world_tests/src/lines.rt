@@ -1,9 +1,9 @@
 //! Which lines are events.
+use commands::world_events::{Event, LineFault};
 use ejson_codec::parse;
 use ejson_value::{Doc, Items, Text, Value};
 use std::alloc::Global;
 use std::test::Fail;
-use world_events::{Event, LineFault};
 
 fn value(alloc: Global, text: &str) -> Result<Value, Fail> {
     let text = Text::from_str(alloc, text)?;

@@ -1,7 +1,7 @@
 use Rattle.std.proofs.Common.{sym, subst}
 use Rattle.map_model.specs.Maps.{union}
 use Rattle.value_model.specs.Order.{text_cmp}
-use Rattle.connection_laws.specs.Connection.{AConnection}
+use Rattle.client_rounds.specs.connection_laws.Connection.{AConnection}
 use Rattle.lane_laws.specs.Lanes.{Named, AreTold}
 use Rattle.client_lanes.specs.Visits.{AreReady, Tells, Leads}
 use Rattle.client_lanes.proofs.Sides.{ready_left, ready_right}

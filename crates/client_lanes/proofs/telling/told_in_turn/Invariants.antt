@@ -1,5 +1,5 @@
 use Rattle.std.specs.Prelude.{take}
-use Rattle.source_laws.specs.News.{AreNews}
+use Rattle.client_rounds.specs.News.{AreNews}
 use Rattle.lane_laws.specs.Lanes.{EachTold}
 use Rattle.client_lanes.specs.Visits.{AreReady, Tells}
 use Rattle.client_lanes.proofs.telling.told_in_turn.Given as goal

@@ -1,6 +1,6 @@
 use Rattle.std.proofs.Common.{is_some, ap, sym}
 use Rattle.std.specs.Prelude.{None, Ok}
-use Rattle.core_model.specs.declared.events.Answer.TheVariants as answer
+use Rattle.client_rounds.specs.core_model.declared.events.Answer.TheVariants as answer
 use Rattle.client_lanes.specs.Clients.{Acts}
 use Rattle.client_lanes.proofs.Puts.{visit_is}
 use Rattle.client_lanes.proofs.visits.acted.Goals as goal

@@ -1,6 +1,6 @@
 use Rattle.std.proofs.Common.{is_some, ap, sym}
 use Rattle.std.specs.Prelude.{false, Ok}
-use Rattle.client_events.specs.Acting.{AsksFor}
+use Rattle.client_rounds.specs.connection.Acting.{AsksFor}
 use Rattle.client_lanes.proofs.Puts.{visit_is}
 use Rattle.client_lanes.proofs.visits.asked.Goals as goal
 

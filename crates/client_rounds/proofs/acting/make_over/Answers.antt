@@ -1,6 +1,6 @@
 use Rattle.std.proofs.Common.{refl, ap, sym, ◌∙◌}
 use Rattle.std.proofs.lemmas.Bool.{true≢false}
-use Rattle.core_model.specs.declared.events.Act.TheVariants as act
+use Rattle.connection.specs.core_model.declared.events.Act.TheVariants as act
 use Rattle.client_rounds.specs.Visit.{visit}
 use Rattle.client_rounds.specs.Acting.{adds_entry}
 use Rattle.client_rounds.proofs.Answering.{alone, over, learns}

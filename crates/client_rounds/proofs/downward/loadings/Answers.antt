@@ -1,5 +1,5 @@
 use Rattle.std.proofs.Common.{map, sym, subst, ◌∙◌}
-use Rattle.session_state.specs.Subs.{as_live}
+use Rattle.connection.specs.session_state.Subs.{as_live}
 use Rattle.client_rounds.proofs.Adding.{AddNone, loads_add}
 use Rattle.client_rounds.proofs.downward.loadings.Goals as goal
 

@@ -1,5 +1,5 @@
 use Rattle.std.proofs.Common.{◌≡◌, ◌++◌, map, drop}
-use Rattle.session_state.specs.Subs.{as_live}
+use Rattle.connection.specs.session_state.Subs.{as_live}
 use Rattle.phase_laws.specs.Listing.{behind}
 use Rattle.client_rounds.proofs.listing.advances.Given as goal
 

@@ -1,6 +1,6 @@
 use Rattle.std.proofs.Common.{◌≡◌, ◌++◌, map, drop}
-use Rattle.core_model.specs.Settle.{loads}
-use Rattle.session_state.specs.Subs.{as_live}
+use Rattle.connection.specs.core_model.Settle.{loads}
+use Rattle.connection.specs.session_state.Subs.{as_live}
 use Rattle.client_rounds.proofs.listing.loads.Given as goal
 
 abbrev pub invariant-loop-sub : goal.invariant-loop-sub

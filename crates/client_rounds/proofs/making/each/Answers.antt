@@ -1,5 +1,5 @@
 use Rattle.std.proofs.Common.{◌+◌, get_or, sym, subst}
-use Rattle.core_model.specs.declared.events.Act.TheVariants as act
+use Rattle.connection.specs.core_model.declared.events.Act.TheVariants as act
 use Rattle.client_rounds.specs.Visit.{visit}
 use Rattle.client_rounds.specs.Acting.{Tried}
 use Rattle.client_rounds.proofs.Repeating.{next_drop, next_take, AreMadeTill, each_made, each_left}

@@ -1,6 +1,6 @@
 use Rattle.std.proofs.Common.{◌≡◌, ◌+◌, length, get_or, replicate, sym, subst, arith}
 use Rattle.std.proofs.lemmas.Result.{err_from_is_err_and}
-use Rattle.core_model.specs.declared.events.Act.TheVariants as act
+use Rattle.connection.specs.core_model.declared.events.Act.TheVariants as act
 use Rattle.client_rounds.specs.Visit.{visit, side, AreMade}
 use Rattle.client_rounds.specs.Acting.{count_of}
 use Rattle.client_rounds.proofs.Visits.{led_on}

@@ -1,6 +1,6 @@
 use Rattle.std.proofs.Common.{[], ◌∷◌}
 use Rattle.std.proofs.lemmas.Result.{err_from_is_err_and}
-use Rattle.core_model.specs.Settle.{steps, learns}
+use Rattle.connection.specs.core_model.Settle.{steps, learns}
 use Rattle.client_rounds.specs.Visit.{visit}
 use Rattle.client_rounds.proofs.Visits.{led_on}
 use Rattle.client_rounds.proofs.Passing.{first_made, first_idle}

@@ -1,5 +1,5 @@
 use Rattle.std.proofs.Common.{sym, subst, ◌∙◌}
-use Rattle.core_model.specs.Settle.{learns}
+use Rattle.connection.specs.core_model.Settle.{learns}
 use Rattle.client_rounds.specs.Visit.{visit}
 use Rattle.client_rounds.proofs.Adding.{AddNone, learns_add}
 use Rattle.client_rounds.proofs.Passing.{learns_are, listed}

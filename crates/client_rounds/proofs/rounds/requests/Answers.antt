@@ -1,5 +1,5 @@
 use Rattle.std.proofs.Common.{[], ◌∷◌}
-use Rattle.core_model.specs.Settle.{handles, begins}
+use Rattle.connection.specs.core_model.Settle.{handles, begins}
 use Rattle.client_rounds.specs.Visit.{visit}
 use Rattle.client_rounds.proofs.Passing.{first_made, first_idle, repeated, begun}
 use Rattle.client_rounds.proofs.rounds.requests.Goals as goal

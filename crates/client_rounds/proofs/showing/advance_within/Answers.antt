@@ -1,5 +1,5 @@
 use Rattle.std.proofs.Common.{◌+◌, Option, IfSome, subst}
-use Rattle.shared_news.specs.declared.news.Lent.{Lent}
+use Rattle.source_laws.specs.shared_news.declared.news.Lent.{Lent}
 use Rattle.source_laws.specs.Sources.{cursors_at_of}
 use Rattle.client_rounds.specs.Lending.{IsLentTo}
 use Rattle.client_rounds.proofs.Telling.{lent_source, right, learns}

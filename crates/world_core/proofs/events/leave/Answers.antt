@@ -1,7 +1,7 @@
 use Rattle.std.proofs.Common.{Ok, true, false, sym, subst}
 use Rattle.std.proofs.lemmas.Result.{err_from_is_err_and}
-use Rattle.core_model.specs.declared.events.Event.{Event}
-use Rattle.core_model.specs.declared.events.Event.TheVariants as happening
+use Rattle.client_lanes.specs.core_model.declared.events.Event.{Event}
+use Rattle.client_lanes.specs.core_model.declared.events.Event.TheVariants as happening
 use Rattle.world_laws.specs.World.{Names}
 use Rattle.world_core.specs.Kept.{seen}
 use Rattle.world_core.specs.Happening.{Happens}

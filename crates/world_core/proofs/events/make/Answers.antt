@@ -1,6 +1,6 @@
 use Rattle.std.proofs.Common.{ap, sym, ◌∙◌}
 use Rattle.std.proofs.lemmas.Result.{err_from_is_err_and}
-use Rattle.core_model.specs.Lines.{texts_of}
+use Rattle.client_lanes.specs.core_model.Lines.{texts_of}
 use Rattle.world_core.specs.Kept.{seen}
 use Rattle.world_core.proofs.Showing.{ready}
 use Rattle.world_core.proofs.Acting.{told_acts, err_acts}

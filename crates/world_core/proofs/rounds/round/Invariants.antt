@@ -1,4 +1,4 @@
-use Rattle.source_laws.specs.News.{AreNews}
+use Rattle.client_lanes.specs.News.{AreNews}
 use Rattle.world_core.specs.Kept.{seen}
 use Rattle.world_core.proofs.Visits.{IsOn}
 use Rattle.world_core.proofs.Workers.{left_from}

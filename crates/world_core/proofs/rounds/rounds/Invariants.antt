@@ -1,4 +1,4 @@
-use Rattle.source_laws.specs.News.{AreNews}
+use Rattle.client_lanes.specs.News.{AreNews}
 use Rattle.world_core.specs.Kept.{seen}
 use Rattle.world_core.proofs.Visits.{HaveComeTo}
 use Rattle.world_core.proofs.rounds.rounds.Given as goal

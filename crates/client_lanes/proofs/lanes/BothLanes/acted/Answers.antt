@@ -1,10 +1,10 @@
 use Rattle.std.proofs.Common.{sym, subst, ◌∙◌}
 use Rattle.std.specs.Prelude.{None, Ok, IfSome}
-use Rattle.core_model.specs.declared.events.Answer.TheVariants as answer
+use Rattle.client_rounds.specs.core_model.declared.events.Answer.TheVariants as answer
 use Rattle.client_lanes.specs.Clients.{IsReady, Acts, ActsIn}
 use Rattle.map_model.specs.Maps.{at, union}
 use Rattle.value_model.specs.Order.{text_cmp}
-use Rattle.connection_laws.specs.Connection.{AConnection}
+use Rattle.client_rounds.specs.connection_laws.Connection.{AConnection}
 use Rattle.lane_laws.specs.Lanes.{Named}
 use Rattle.lane_laws.specs.Unions.{visit_left, visit_right}
 use Rattle.client_lanes.proofs.Sides.{if_left, if_right}

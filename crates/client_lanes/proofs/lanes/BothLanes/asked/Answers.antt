@@ -1,10 +1,10 @@
 use Rattle.std.proofs.Common.{sym, subst, ◌∙◌}
 use Rattle.std.specs.Prelude.{false, Ok}
-use Rattle.client_events.specs.Acting.{AsksFor}
+use Rattle.client_rounds.specs.connection.Acting.{AsksFor}
 use Rattle.client_lanes.specs.Clients.{AsksIn}
 use Rattle.map_model.specs.Maps.{union}
 use Rattle.value_model.specs.Order.{text_cmp}
-use Rattle.connection_laws.specs.Connection.{AConnection}
+use Rattle.client_rounds.specs.connection_laws.Connection.{AConnection}
 use Rattle.lane_laws.specs.Lanes.{Named}
 use Rattle.lane_laws.specs.Unions.{visit_left, visit_right}
 use Rattle.client_lanes.proofs.lanes.BothLanes.asked.Goals as goal

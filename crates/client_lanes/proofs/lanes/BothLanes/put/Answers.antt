@@ -3,7 +3,7 @@ use Rattle.std.specs.Prelude.{None, OnOk}
 use Rattle.std.specs.BTreeMap.{insert_entry}
 use Rattle.map_model.specs.Maps.{at, union}
 use Rattle.value_model.specs.Order.{text_cmp}
-use Rattle.connection_laws.specs.Connection.{AConnection}
+use Rattle.client_rounds.specs.connection_laws.Connection.{AConnection}
 use Rattle.lane_laws.specs.Lanes.{Named}
 use Rattle.lane_laws.specs.Unions.{free_in_both, put_in_left, put_in_right}
 use Rattle.client_lanes.proofs.lanes.BothLanes.put.Goals as goal

@@ -3,7 +3,7 @@ use Rattle.std.specs.Prelude.{false, Ok, IfSome}
 use Rattle.client_lanes.specs.Visits.{CanVisit, Visits, VisitsIn}
 use Rattle.map_model.specs.Maps.{at, union}
 use Rattle.value_model.specs.Order.{text_cmp}
-use Rattle.connection_laws.specs.Connection.{AConnection}
+use Rattle.client_rounds.specs.connection_laws.Connection.{AConnection}
 use Rattle.lane_laws.specs.Lanes.{Named}
 use Rattle.lane_laws.specs.Unions.{visit_left, visit_right}
 use Rattle.client_lanes.proofs.Sides.{if_left, if_right}

@@ -1,5 +1,5 @@
 use Rattle.std.specs.Prelude.{None, Ok}
-use Rattle.core_model.specs.declared.events.Answer.TheVariants as answer
+use Rattle.client_rounds.specs.core_model.declared.events.Answer.TheVariants as answer
 use Rattle.client_lanes.specs.Clients.{Acts}
 use Rattle.client_lanes.proofs.Puts.{visit_sorted}
 use Rattle.client_lanes.proofs.lanes.LaneLanes.acted.Goals as goal

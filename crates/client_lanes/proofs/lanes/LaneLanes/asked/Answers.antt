@@ -1,5 +1,5 @@
 use Rattle.std.specs.Prelude.{false, Ok}
-use Rattle.client_events.specs.Acting.{AsksFor}
+use Rattle.client_rounds.specs.connection.Acting.{AsksFor}
 use Rattle.client_lanes.proofs.Puts.{visit_sorted}
 use Rattle.client_lanes.proofs.lanes.LaneLanes.asked.Goals as goal
 

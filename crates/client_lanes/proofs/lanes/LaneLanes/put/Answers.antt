@@ -2,7 +2,7 @@ use Rattle.std.proofs.Common.{◌≡◌, subst}
 use Rattle.std.specs.Prelude.{OnOk}
 use Rattle.std.specs.BTreeMap.{insert_entry}
 use Rattle.value_model.specs.Order.{text_cmp}
-use Rattle.connection_laws.specs.Connection.{AConnection}
+use Rattle.client_rounds.specs.connection_laws.Connection.{AConnection}
 use Rattle.lane_laws.specs.Lanes.{Named}
 use Rattle.client_lanes.proofs.Puts.{put_sorted}
 use Rattle.client_lanes.proofs.lanes.LaneLanes.put.Goals as goal

@@ -1,7 +1,7 @@
 use Rattle.std.specs.Prelude.{false, Ok}
 use Rattle.lane_laws.specs.Lanes.{Hears}
 use Rattle.std.proofs.Common.{sym, subst}
-use Rattle.connection_laws.specs.Connection.{AConnection}
+use Rattle.client_rounds.specs.connection_laws.Connection.{AConnection}
 use Rattle.lane_laws.specs.Lanes.{Named}
 use Rattle.client_lanes.specs.Visits.{AreReady, Tells, Leads}
 use Rattle.client_lanes.proofs.Puts.{visit_sorted}

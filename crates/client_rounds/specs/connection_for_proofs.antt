@@ -1,0 +1,2 @@
+-- What proofs of crates above name of `connection`.
+pub use Rattle.connection.specs.contracts

@@ -1,0 +1,2 @@
+-- What crates above name of `minimongo`.
+pub use Rattle.connection.specs.minimongo.State

@@ -1,0 +1,13 @@
+-- The exit status of each end of a run.
+use Rattle.std.specs.Prelude.{ℕ}
+use Rattle.commands.specs.declared.status.Status.{Status}
+use Rattle.commands.specs.declared.status.Status.TheVariants as status
+
+abbrev pub code_of : Status → ℕ
+code_of status.Ok = 0
+code_of status.Usage = 2
+code_of status.BadInput = 3
+code_of status.ReadFault = 4
+code_of status.WriteFault = 5
+code_of status.TooLong = 6
+code_of status.Memory = 7

@@ -1,0 +1,12 @@
+//! The commands of the program, over any source and sink: which words name which, the status of each end, and why a line is bad.
+#![tactic(auto)]
+
+mod command;
+mod reason;
+mod run;
+mod status;
+
+pub use replay_core::checking::{INPUT_LIMIT, LINE_LIMIT};
+pub use replay_core::{World, world_events};
+pub use run::{run_on, run_plain};
+pub use status::Status;

@@ -1,0 +1,168 @@
+//! What is wrong with a line that isn't of the grammar, in words.
+use crate::command::Command;
+use app_model::{App, AppFault};
+use ejson_codec::{EjsonFault, ParseFault, parse, text};
+use ejson_value::{Mem, Text, Value};
+use replay_core::checking::first_line;
+use std::alloc::Global;
+use std::str;
+
+/// How many characters of a text of the input a reason shows.
+const SHOWN: usize = 100;
+
+// The line of this number, counted from 1; nothing where there are fewer.
+fn line_of(input: &[u8], number: u32) -> &[u8] {
+    let mut rest = input;
+    for _ in 1..number {
+        if !rest.is_empty() {
+            rest = first_line(rest).1;
+        }
+    }
+    if rest.is_empty() {
+        rest
+    } else {
+        first_line(rest).0
+    }
+}
+
+// The first characters of the text, as many as a reason shows.
+fn cut(alloc: Global, shown: &Text) -> Result<Text, Mem> {
+    let short: String = shown.as_str().chars().take(SHOWN).collect(alloc)?;
+    Text::from_string(short)
+}
+
+// The text in quotes on one line. It takes the text, so that no caller has to drop it.
+fn in_quotes(alloc: Global, shown: Text) -> Result<Text, Mem> {
+    let value = Value::Text(shown);
+    let quoted = text(alloc, &value);
+    drop(value);
+    quoted
+}
+
+// The text in quotes on one line, cut off where it is long.
+fn quoted(alloc: Global, shown: &Text) -> Result<Text, Mem> {
+    let short = cut(alloc, shown)?;
+    let is_cut = short.len() < shown.len();
+    let mut quoted = in_quotes(alloc, short)?;
+    if is_cut {
+        quoted.push_str("..")?;
+    }
+    Ok(quoted)
+}
+
+fn wrong_value(alloc: Global, fault: EjsonFault) -> Result<Text, Mem> {
+    let what = format!(in alloc; "it is no EJSON value: {fault}")?;
+    Text::from_string(what)
+}
+
+fn wrong_part(alloc: Global, fault: &AppFault) -> Result<Text, Mem> {
+    let AppFault::Bad { place, .. } = fault else {
+        return Err(Mem);
+    };
+    if place.is_empty() {
+        let what = format!(in alloc; "{fault}, at its top")?;
+        return Text::from_string(what);
+    }
+    let place = quoted(alloc, place)?;
+    let place = place.as_str();
+    let what = format!(in alloc; "{fault}, at {place}")?;
+    Text::from_string(what)
+}
+
+fn wrong_application(alloc: Global, value: &Value) -> Result<Text, Mem> {
+    match App::read(alloc, value) {
+        Ok(app) => {
+            drop(app);
+            Ok(Text::new(alloc))
+        }
+        Err(fault) => {
+            let what = wrong_part(alloc, &fault);
+            drop(fault);
+            what
+        }
+    }
+}
+
+fn wrong_name(alloc: Global, name: &Text) -> Result<Text, Mem> {
+    let name = quoted(alloc, name)?;
+    let name = name.as_str();
+    let what = format!(in alloc; "there is none named {name} with these parts")?;
+    Text::from_string(what)
+}
+
+fn wrong_event(alloc: Global, value: &Value) -> Result<Text, Mem> {
+    let Value::List(items) = value else {
+        return Text::from_str(alloc, "it is not a list");
+    };
+    match items.as_slice().first() {
+        Some(Value::Text(name)) => wrong_name(alloc, name),
+        _ => Text::from_str(alloc, "it does not begin with the name of an event"),
+    }
+}
+
+// What is wrong with the value of the line of this number.
+fn wrong_content(alloc: Global, value: Value, number: u32) -> Result<Text, Mem> {
+    let what = if number == 1 {
+        wrong_application(alloc, &value)
+    } else {
+        wrong_event(alloc, &value)
+    };
+    drop(value);
+    what
+}
+
+fn wrong_text(alloc: Global, line: Text, number: u32) -> Result<Text, Mem> {
+    let parsed = parse(alloc, &line);
+    drop(line);
+    match parsed {
+        Ok(value) => wrong_content(alloc, value, number),
+        Err(ParseFault::NotJson) => Text::from_str(alloc, "it is not JSON"),
+        Err(ParseFault::Ejson(fault)) => wrong_value(alloc, fault),
+        Err(ParseFault::Memory) => Err(Mem),
+    }
+}
+
+// What is wrong with the line of this number.
+fn wrong_line(alloc: Global, line: &[u8], number: u32) -> Result<Text, Mem> {
+    if line.is_empty() {
+        return Text::from_str(alloc, "it is empty");
+    }
+    match str::from_utf8(line) {
+        Ok(line) => wrong_text(alloc, Text::from_str(alloc, line)?, number),
+        Err(_) => Text::from_str(alloc, "it is not UTF-8"),
+    }
+}
+
+fn no_application(alloc: Global, input: &[u8]) -> Result<Text, Mem> {
+    let what = wrong_line(alloc, line_of(input, 1), 1)?;
+    let what = what.as_str();
+    let reason = format!(in alloc; "line 1 is no application: {what}")?;
+    Text::from_string(reason)
+}
+
+fn no_event(alloc: Global, input: &[u8], number: u32) -> Result<Text, Mem> {
+    let what = wrong_line(alloc, line_of(input, number), number)?;
+    let what = what.as_str();
+    let reason = format!(in alloc;
+        "line {number} is no event: {what}; the lines before it were run"
+    )?;
+    Text::from_string(reason)
+}
+
+fn further_line(alloc: Global, number: u32) -> Result<Text, Mem> {
+    let reason = format!(in alloc;
+        "line {number} is one too many: the application stands on line 1 alone"
+    )?;
+    Text::from_string(reason)
+}
+
+/// Why the line of this number of a command's input, which isn't of the grammar, is none: a line of text.
+pub fn reason_for(alloc: Global, command: Command, input: &[u8], number: u32) -> Result<Text, Mem> {
+    if number == 1 {
+        return no_application(alloc, input);
+    }
+    match command {
+        Command::Check => further_line(alloc, number),
+        Command::Replay => no_event(alloc, input, number),
+    }
+}

@@ -1,0 +1,2 @@
+-- What proofs of crates above name of `minimongo`.
+pub use Rattle.minimongo.specs.contracts

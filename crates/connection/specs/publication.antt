@@ -1,0 +1,2 @@
+-- What crates above name of `publication`.
+pub use Rattle.session_lines.specs.publication.Published

@@ -1,0 +1,4 @@
+pub mod Batches
+pub mod Sends
+mod Told
+pub mod Turns

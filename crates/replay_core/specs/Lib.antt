@@ -1,0 +1,9 @@
+pub mod Replay
+pub mod Stepping
+pub mod Tasks
+pub mod Truth
+pub mod ValuesRead
+pub mod EventsRead
+pub mod TruthLaws
+-- what lies below, for the crates above
+pub mod checking

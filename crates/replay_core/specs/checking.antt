@@ -1,0 +1,3 @@
+-- What crates above name of `checking`.
+pub use Rattle.checking.specs.Check
+pub use Rattle.checking.specs.Input

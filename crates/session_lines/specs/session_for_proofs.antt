@@ -1,0 +1,2 @@
+-- What proofs of crates above name of `session`.
+pub use Rattle.session.specs.contracts

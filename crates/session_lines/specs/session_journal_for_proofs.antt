@@ -1,0 +1,2 @@
+-- What proofs of crates above name of `session_journal`.
+pub use Rattle.session_journal.specs.contracts

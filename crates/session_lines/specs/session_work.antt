@@ -1,0 +1,2 @@
+-- What crates above name of `session_work`.
+pub use Rattle.session.specs.session_work.Work

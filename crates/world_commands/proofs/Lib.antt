@@ -1,5 +1,0 @@
-pub mod Batches
-pub mod Sends
-mod Told
-pub mod Causes
-pub mod Turns

@@ -1,7 +1,0 @@
-pub mod Replay
-pub mod Stepping
-pub mod Tasks
-pub mod Truth
-pub mod TruthLaws
-pub mod Status
-pub mod Cause

@@ -1,0 +1,2 @@
+-- What proofs of crates above name of `resting_worlds`.
+pub use Rattle.resting_worlds.specs.Rounds
