@@ -1,11 +1,12 @@
-//! Runs the examples, and tells of each whether its application is one and its run writes what stands beside it.
+//! Runs the examples, and tells of each script whether its application is one and its run writes what stands beside it,
+//! and of each file of rows whether `check` answers to their applications what stands behind them.
 #![tactic(auto)]
 
+use commands::{Status, run_plain};
 use ejson_value::{Bytes, Mem, Text};
 use io_edge::{Calls, MemorySink, MemorySource};
 use std::alloc::Global;
 use std::{env, fs, io};
-use world_commands::{Status, run_plain};
 
 // How many bytes an output may have.
 const ROOM: u64 = 65536;
@@ -25,30 +26,89 @@ fn run_into(alloc: Global, word: Text, input: &str, sink: &mut MemorySink) -> Re
     Ok(run(alloc, &[word], &mut source, sink))
 }
 
-// Whether the command of this word runs the input to its end and writes this output.
-fn writes(alloc: Global, word: &str, input: &str, output: &str) -> Result<bool, Mem> {
+// Whether the command of this word ends so with the input, and writes this output.
+fn writes(
+    alloc: Global,
+    word: &str,
+    input: &str,
+    wanted: Status,
+    output: &str,
+) -> Result<bool, Mem> {
     let word = Text::from_str(alloc, word)?;
     let mut sink = MemorySink::new(alloc, ROOM, Calls::new(alloc))?;
     let status = run_into(alloc, word, input, &mut sink)?;
-    Ok(status == Status::Ok && sink.written() == output.as_bytes())
+    Ok(status == wanted && sink.written() == output.as_bytes())
+}
+
+// What `check` answers to an application.
+const TAKEN: &str = "[\"ok\"]";
+
+fn is_taken(alloc: Global, application: &str) -> Result<bool, Mem> {
+    let output = format!(in alloc; "{TAKEN}\n")?;
+    writes(alloc, "check", application, Status::Ok, output.as_str())
+}
+
+fn is_refused(alloc: Global, application: &str, fault: &str) -> Result<bool, Mem> {
+    let output = format!(in alloc; "{fault}\n[\"bad\",1]\n")?;
+    writes(
+        alloc,
+        "check",
+        application,
+        Status::BadInput,
+        output.as_str(),
+    )
+}
+
+// Whether `check` answers to the text of a row as the row says: that it is an application, or with its fault.
+fn is_answered(alloc: Global, row: &str) -> Result<bool, Mem> {
+    let (application, answer) = row.split_once(" => ").unwrap_or((row, ""));
+    if answer == TAKEN {
+        is_taken(alloc, application)
+    } else {
+        is_refused(alloc, application, answer)
+    }
+}
+
+fn are_answered(alloc: Global, rows: &str) -> Result<bool, Mem> {
+    for row in rows.lines() {
+        if !is_answered(alloc, row)? {
+            return Ok(false);
+        }
+    }
+    Ok(true)
 }
 
 fn is_right(alloc: Global, script: &str, output: &str) -> Result<bool, Mem> {
-    let app = script.lines().next().unwrap_or("");
-    Ok(writes(alloc, "check", app, "[\"ok\"]\n")? && writes(alloc, "replay", script, output)?)
+    let application = script.lines().next().unwrap_or("");
+    Ok(is_taken(alloc, application)? && writes(alloc, "replay", script, Status::Ok, output)?)
 }
 
-// What becomes of the example of this name.
-fn told(rt: &HostRuntime, name: &str) -> io::Result<&'static str> {
+fn word(right: Result<bool, Mem>) -> &'static str {
+    match right {
+        Ok(true) => "right",
+        Ok(false) => "wrong",
+        Err(Mem) => "out of memory",
+    }
+}
+
+fn told_of_rows(rt: &HostRuntime, name: &str) -> io::Result<&'static str> {
+    let rows = fs::read_to_string(rt, name)?;
+    Ok(word(are_answered(rt.alloc(), rows.as_str())))
+}
+
+fn told_of_script(rt: &HostRuntime, name: &str) -> io::Result<&'static str> {
     let script = fs::read_to_string(rt, format!(in rt.alloc(); "{name}.jsonl")?)?;
     let output = fs::read_to_string(rt, format!(in rt.alloc(); "{name}.out")?)?;
-    Ok(
-        match is_right(rt.alloc(), script.as_str(), output.as_str()) {
-            Ok(true) => "right",
-            Ok(false) => "wrong",
-            Err(Mem) => "out of memory",
-        },
-    )
+    Ok(word(is_right(rt.alloc(), script.as_str(), output.as_str())))
+}
+
+// What becomes of the rows or of the script of this name.
+fn told(rt: &HostRuntime, name: &str) -> io::Result<&'static str> {
+    if name.ends_with(".rows") {
+        told_of_rows(rt, name)
+    } else {
+        told_of_script(rt, name)
+    }
 }
 
 fn main(rt: HostRuntime) -> io::Result<()> {

@@ -1,4 +1,0 @@
-use Rattle.observer_tests.proofs.observers.step.Given as goal
-
-abbrev pub ghosts-stepped : goal.ghosts-stepped
-ghosts-stepped a = record { name = a.blank.name; parts = a.blank.parts }
