@@ -58,6 +58,16 @@ module _ (k : ℕ) (old new : List ℕ) where
             ∙ sym (contains-set_of old j) ∙ is
       ] refl
 
+module _ (old new : List ℕ) where
+  -- the same numbers in another order
+  pub set_of-reordered : ((q : ℕ) → list_any (nat_eq q) new ≡ list_any (nat_eq q) old) → set_of new ≡ set_of old
+  set_of-reordered h = set.same_set nat_cmp_total set.nat_cmp-IsAntisymmetric _ _ (λ q. contains-set_of new q ∙ h q ∙ sym (contains-set_of old q))
+
+  pub runs_on : (blocks : Option ℕ) → ((q : ℕ) → list_any (nat_eq q) new ≡ list_any (nat_eq q) old)
+      → IfSome blocks (λ j. IsTrue (set.contains (set_of old) j)) → IfSome blocks (λ j. IsTrue (set.contains (set_of new) j))
+  runs_on None h is = tt
+  runs_on (Some j) h is = contains-set_of new j ∙ h j ∙ sym (contains-set_of old j) ∙ is
+
 -- a number that does not run does not block
 pub other_than-absent : (k : ℕ) (ks : List ℕ) (blocks : Option ℕ) → list_any (nat_eq k) ks ≡ false
     → IfSome blocks (λ j. IsTrue (set.contains (set_of ks) j)) → other_than blocks k ≡ blocks
@@ -71,6 +81,9 @@ other_than-absent k ks (Some j) absent is =
 pub with_run : (q : Queue) (k : ℕ) {r s : set.FinSet nat_cmp} → r ≡ s
     → record q { running = r; blocks = Some k; has_room = false } ≡ record q { running = s; blocks = Some k; has_room = false }
 with_run q k e = ap (λ r. record q { running = r; blocks = Some k; has_room = false }) e
+
+pub with_room : (q : Queue) {r s : set.FinSet nat_cmp} → r ≡ s → record q { running = r; has_room = true } ≡ record q { running = s; has_room = true }
+with_room q e = ap (λ r. record q { running = r; has_room = true }) e
 
 pub with_end : (q : Queue) {r s : set.FinSet nat_cmp} {a b : Option ℕ} → r ≡ s → a ≡ b → record q { running = r; blocks = a } ≡ record q { running = s; blocks = b }
 with_end q e f = λ i. record q { running = e i; blocks = f i }

@@ -1,7 +1,7 @@
 -- What a `MethodQueue` keeps.
 use Rattle.std.specs.Prelude.{◌≡◌, ◌<◌, map, IsTrue}
 use Rattle.std.specs.FinSet as set
-use Rattle.indexmap.specs.IndexSet.{spare}
+use Rattle.std.specs.HashSet.{spare}
 use Rattle.ddp_messages.specs.ClientMessage.{client_view}
 use Rattle.method_queue.specs.Queue.{Queue, Waiting, waiting_bytes, IsWithin}
 use Rattle.method_queue.specs.declared.queue.Entry.{Entry}

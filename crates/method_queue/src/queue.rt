@@ -9,9 +9,8 @@ ghost use Rattle.method_queue.specs.Faults.{IsCause};
 use crate::fault::PushFault;
 use ddp_messages::FromClient;
 use ejson_value::Mem;
-use indexmap::IndexSet;
 use std::alloc::Global;
-use std::collections::VecDeque;
+use std::collections::{HashSet, VecDeque};
 use std::marker::Model;
 
 /// How many bytes the texts that wait may have together.
@@ -34,7 +33,7 @@ pub struct MethodQueue {
     waiting: VecDeque<Entry>,
     // Those of all that wait.
     bytes: u32,
-    running: IndexSet<u64>,
+    running: HashSet<u64>,
     blocks: Option<u64>,
     // Whether `running` has room for a run that no `start` has used yet.
     has_room: bool,
@@ -78,7 +77,7 @@ impl MethodQueue {
             limit,
             waiting: VecDeque::new(alloc),
             bytes: 0,
-            running: IndexSet::new(alloc),
+            running: HashSet::new(alloc),
             blocks: None,
             has_room: false,
         }
@@ -189,7 +188,7 @@ impl MethodQueue {
         ensures done { OnTrue result (self.new ≡ ended self.old k) }
         ensures unchanged { OnFalse result (self.new ≡ self.old) }
     {
-        let ran = self.running.swap_remove(&k);
+        let ran = self.running.remove(&k);
         let blocks = other_than(self.blocks, k);
         self.blocks = blocks;
         ran

@@ -11,30 +11,30 @@ invariant_of-self c = record {
     bytes = c.self.invariant.within.bytes;
     blocks =
         rw c.other_than-blocks.ensures
-        (still_runs c.args.k c.self.inside.running.keys c.swap_remove-ran.new.self.keys c.self.inside.blocks c.swap_remove-ran.ensures.updates.0 c.self.invariant.within.blocks);
+        (still_runs c.args.k c.self.inside.running.keys c.remove-ran.new.self.keys c.self.inside.blocks c.remove-ran.ensures.updates.0 c.self.invariant.within.blocks);
   };
   sum = c.self.invariant.sum;
-  room = λ has. omega (arith, c.self.invariant.room has, c.swap_remove-ran.ensures.room.0);
+  room = λ has. omega (arith, c.self.invariant.room has, c.remove-ran.ensures.spare);
 }
 
 pub returns-clause-ran : goal.returns-clause-ran
 returns-clause-ran c =
-    let e = c.swap_remove-ran.ensures.found ∙ sym (contains-set_of c.self.inside.running.keys c.args.k) in
+    let e = c.remove-ran.ensures.test ∙ sym (contains-set_of c.self.inside.running.keys c.args.k) in
     rw (← c.self.view_is) (λ h. sym e ∙ h, λ h. e ∙ h)
 
 pub returns-clause-done : goal.returns-clause-done
 returns-clause-done c =
     rw (← c.self.view_is)
-    (OnTrue_from c.swap_remove-ran.result _ (λ _.
+    (OnTrue_from c.remove-ran.result _ (λ _.
     with_end (queue_of c.self.inside)
-    (set_of-removed c.args.k c.self.inside.running.keys c.swap_remove-ran.new.self.keys c.swap_remove-ran.ensures.updates.0)
+    (set_of-removed c.args.k c.self.inside.running.keys c.remove-ran.new.self.keys c.remove-ran.ensures.updates.0)
     c.other_than-blocks.ensures))
 
 pub returns-clause-unchanged : goal.returns-clause-unchanged
 returns-clause-unchanged c =
     rw (← c.self.view_is)
-    (OnFalse_from c.swap_remove-ran.result _ (λ absent.
+    (OnFalse_from c.remove-ran.result _ (λ absent.
     with_end (queue_of c.self.inside)
-    (ap set_of (OnFalse_at absent c.swap_remove-ran.ensures.unchanged))
+    (ap set_of (OnFalse_at absent c.remove-ran.ensures.unchanged))
     (c.other_than-blocks.ensures
-    ∙ other_than-absent c.args.k c.self.inside.running.keys c.self.inside.blocks (sym c.swap_remove-ran.ensures.found ∙ absent) c.self.invariant.within.blocks)))
+    ∙ other_than-absent c.args.k c.self.inside.running.keys c.self.inside.blocks (sym c.remove-ran.ensures.test ∙ absent) c.self.invariant.within.blocks)))
