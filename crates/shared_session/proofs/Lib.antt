@@ -1,0 +1,5 @@
+mod Still
+mod Places
+mod Floors
+mod Texts
+mod Keeping

@@ -1,0 +1,4 @@
+use Rattle.shared_session.proofs.held.advance.Given as goal
+
+abbrev pub ghosts-advance_by : goal.ghosts-advance_by
+ghosts-advance_by a = record { name = a.blank.name; parts = a.blank.parts }

@@ -1,0 +1,4 @@
+pub mod Reached
+pub mod Held
+pub mod Standing
+pub mod Events
