@@ -1,0 +1,4 @@
+pub mod Beats
+pub mod Pulse
+pub mod PulseLaws
+pub mod Clocks
