@@ -1,0 +1,4 @@
+pub mod Revival
+pub mod Saying
+pub mod Giving
+pub mod RevivalLaws
