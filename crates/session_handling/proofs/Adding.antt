@@ -1,7 +1,7 @@
 -- The additions of items.
 use Rattle.std.proofs.Common.{◌≡◌, Option, Some, None, Bor, refl}
 use Rattle.std.specs.Prelude.{Result, Ok, Err, IfOk, is_some, option_copied}
-use Rattle.journal_model.specs.Items.{Item}
+use Rattle.session_laws.specs.journal_model.Items.{Item}
 use Rattle.session_parts.specs.declared.adding.Addition.{Addition}
 use Rattle.session_handling.specs.declared.handling.Asked.{Asked}
 use Rattle.session_handling.specs.Handling.{Adds}

@@ -1,12 +1,12 @@
 -- What a session makes of a message that it handles, before it changes anything.
 use Rattle.std.specs.Prelude.{◌≡◌, ℕ, [], map, None}
 use Rattle.ddp_messages.specs.ClientMessage.{ClientMessage}
-use Rattle.journal_model.specs.Texts.{server_text}
-use Rattle.journal_model.specs.Items.{Item}
-use Rattle.journal_model.specs.Items as item
-use Rattle.journal_model.specs.State.{State, own_after}
-use Rattle.journal_model.specs.Out.{own_messages}
-use Rattle.journal_model.specs.Fits.{item_for}
+use Rattle.session_laws.specs.journal_model.Texts.{server_text}
+use Rattle.session_laws.specs.journal_model.Items.{Item}
+use Rattle.session_laws.specs.journal_model.Items as item
+use Rattle.session_laws.specs.journal_model.State.{State, own_after}
+use Rattle.session_laws.specs.journal_model.Out.{own_messages}
+use Rattle.session_laws.specs.journal_model.Fits.{item_for}
 use Rattle.session_laws.specs.Storing.{kept_as, shown_id}
 use Rattle.session_state.specs.declared.own.Step.{Step}
 use Rattle.session_state.specs.declared.own.Step.TheVariants as step

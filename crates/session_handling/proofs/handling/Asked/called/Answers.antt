@@ -2,12 +2,12 @@ use Rattle.std.proofs.Common.{ℕ, length, ap, sym, subst, ◌∙◌}
 use Rattle.std.specs.Prelude.{option_map}
 use Rattle.ddp_messages.specs.ClientMessage.{method as calls}
 use Rattle.ejson_value.specs.View.{view}
-use Rattle.journal_model.specs.Items.{id_of}
-use Rattle.journal_model.specs.Items as item
+use Rattle.session_laws.specs.journal_model.Items.{id_of}
+use Rattle.session_laws.specs.journal_model.Items as item
 use Rattle.session_handling.specs.Handling.{Adds, state_in}
-use Rattle.journal_model.specs.Methods.{Blocking}
-use Rattle.journal_model.specs.State.{calling}
-use Rattle.journal_model.specs.Fits.{seed_or}
+use Rattle.session_laws.specs.journal_model.Methods.{Blocking}
+use Rattle.session_laws.specs.journal_model.State.{calling}
+use Rattle.session_laws.specs.journal_model.Fits.{seed_or}
 use Rattle.session_handling.proofs.handling.Asked.called.Goals as goal
 
 pub returns : goal.returns

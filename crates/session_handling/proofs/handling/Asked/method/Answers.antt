@@ -2,13 +2,13 @@ use Rattle.std.proofs.Common.{◌≡◌, length, false, refl, ap, sym, subst, �
 use Rattle.std.specs.Prelude.{Bool, cond, is_some, option_map}
 use Rattle.ddp_messages.specs.ClientMessage.{ClientMessage, method as calls}
 use Rattle.ejson_value.specs.View.{view}
-use Rattle.journal_model.specs.Items.{id_of}
-use Rattle.journal_model.specs.Items as item
+use Rattle.session_laws.specs.journal_model.Items.{id_of}
+use Rattle.session_laws.specs.journal_model.Items as item
 use Rattle.session_parts.specs.declared.adding.Addition.{Addition}
 use Rattle.session_handling.specs.Handling.{Adds, state_in, item_in}
 use Rattle.session_handling.proofs.Adding.{if_adds, some_copied}
 use Rattle.app_model.specs.App.{method}
-use Rattle.journal_model.specs.Fits.{seed_or}
+use Rattle.session_laws.specs.journal_model.Fits.{seed_or}
 use Rattle.session_handling.proofs.handling.Asked.method.Goals as goal
 
 pub returns-else-is_some : goal.returns-else-is_some

@@ -1,16 +1,16 @@
 use Rattle.std.proofs.Common.{◌≡◌, List, true, false, Some, refl, ap, sym, subst, ◌∙◌}
 use Rattle.std.specs.Prelude.{Bool, cond, is_some, map}
 use Rattle.ddp_messages.specs.ClientMessage.{ClientMessage, sub as asks}
-use Rattle.journal_model.specs.Items.{id_of}
-use Rattle.journal_model.specs.Items as item
-use Rattle.journal_model.specs.declared.fault.SubFault.TheVariants as fault
+use Rattle.session_laws.specs.journal_model.Items.{id_of}
+use Rattle.session_laws.specs.journal_model.Items as item
+use Rattle.session_laws.specs.journal_model.declared.fault.SubFault.TheVariants as fault
 use Rattle.session_parts.specs.declared.adding.Addition.{Addition}
 use Rattle.session_state.specs.Subs.{as_live}
 use Rattle.session_handling.specs.Handling.{Adds, state_in, item_in}
 use Rattle.session_handling.proofs.Adding.{if_adds}
-use Rattle.journal_model.specs.Publication.{making}
-use Rattle.journal_model.specs.Subscriptions.{sub_named, is_crowded}
-use Rattle.journal_model.specs.Fits.{opened_by}
+use Rattle.session_laws.specs.journal_model.Publication.{making}
+use Rattle.session_laws.specs.journal_model.Subscriptions.{sub_named, is_crowded}
+use Rattle.session_laws.specs.journal_model.Fits.{opened_by}
 use Rattle.session_state.specs.declared.subs.Sub.{Sub}
 use Rattle.session_handling.proofs.handling.Asked.sub.Goals as goal
 

@@ -1,12 +1,12 @@
 use Rattle.std.proofs.Common.{◌≡◌, Some, refl, sym, subst, ◌∙◌}
 use Rattle.ddp_messages.specs.ClientMessage.{ClientMessage, sub as asks}
-use Rattle.journal_model.specs.Items.{id_of}
-use Rattle.journal_model.specs.Items as item
+use Rattle.session_laws.specs.journal_model.Items.{id_of}
+use Rattle.session_laws.specs.journal_model.Items as item
 use Rattle.session_parts.specs.declared.adding.Addition.{Addition}
 use Rattle.session_handling.specs.Handling.{Adds, state_in}
 use Rattle.session_handling.proofs.Adding.{if_adds}
-use Rattle.journal_model.specs.Publication.{Making, making}
-use Rattle.journal_model.specs.Fits.{opened_by}
+use Rattle.session_laws.specs.journal_model.Publication.{Making, making}
+use Rattle.session_laws.specs.journal_model.Fits.{opened_by}
 use Rattle.session_handling.proofs.handling.Asked.sub_made.Goals as goal
 
 pub returns-in-Err : goal.returns-in-Err

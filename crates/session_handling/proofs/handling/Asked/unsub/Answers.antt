@@ -1,14 +1,14 @@
 use Rattle.std.proofs.Common.{◌≡◌, ℕ, List, None, refl, ap, sym, subst, ◌∙◌}
 use Rattle.std.specs.Prelude.{Option, map}
 use Rattle.ddp_messages.specs.ClientMessage.{ClientMessage, unsub as ends}
-use Rattle.journal_model.specs.Items.{id_of}
-use Rattle.journal_model.specs.Items as item
+use Rattle.session_laws.specs.journal_model.Items.{id_of}
+use Rattle.session_laws.specs.journal_model.Items as item
 use Rattle.session_parts.specs.declared.adding.Addition.{Addition}
 use Rattle.session_state.specs.Subs.{as_live}
 use Rattle.session_handling.specs.Handling.{Adds, item_in}
 use Rattle.session_handling.proofs.Adding.{if_adds}
-use Rattle.journal_model.specs.Subscriptions.{sub_named}
-use Rattle.journal_model.specs.Fits.{closed_by}
+use Rattle.session_laws.specs.journal_model.Subscriptions.{sub_named}
+use Rattle.session_laws.specs.journal_model.Fits.{closed_by}
 use Rattle.session_state.specs.declared.subs.Sub.{Sub}
 use Rattle.session_handling.proofs.handling.Asked.unsub.Goals as goal
 

@@ -1,0 +1,3 @@
+-- What proofs of crates above name of `session_laws`.
+pub use Rattle.session_laws.specs.Handled
+pub use Rattle.session_laws.specs.Learning
