@@ -6,7 +6,7 @@ use Rattle.value_model.specs.Val.{Val}
 use Rattle.ejson_value.specs.declared.key.Key.{Key}
 use Rattle.ejson_value.specs.Key.{key_cmp}
 use Rattle.app_model.specs.App.{App}
-use Rattle.history_model.specs.declared.entry.Entry.{Entry}
+use Rattle.link_laws.specs.history_model.declared.entry.Entry.{Entry}
 use Rattle.stub_simulation.specs.Simulating as stub
 use Rattle.client_model.specs.Client.{Client}
 use Rattle.client_model.specs.Asking.{can_sub, subscribed, can_unsub, unsubscribed, can_call, called, can_send, with_text}
@@ -17,9 +17,9 @@ use Rattle.client_core.specs.Asked.{Does, Calls, simulation_of, called_by}
 use Rattle.session_laws.specs.Session.{ASession}
 use Rattle.session_laws.specs.Meaning.{Means}
 use Rattle.session_laws.specs.Events.{Closes}
-use Rattle.core_model.specs.Store.{moments}
-use Rattle.core_model.specs.Asks.{Ask, can_ask, each_once, keys_put, stub_run, calls, asked}
-use Rattle.core_model.specs.Asks as ask
+use Rattle.link_laws.specs.core_model.Store.{moments}
+use Rattle.link_laws.specs.core_model.Asks.{Ask, can_ask, each_once, keys_put, stub_run, calls, asked}
+use Rattle.link_laws.specs.core_model.Asks as ask
 use Rattle.connection_laws.specs.Connection.{AConnection, as_conn, IsConnection}
 use Rattle.connection_laws.specs.Acting.{with_own, with_raw, gone}
 use Rattle.connection_laws.specs.Links.{own_stays}

@@ -13,19 +13,19 @@ use Rattle.ejson_value.specs.declared.value.Value.TheVariants as shape
 use Rattle.ejson_value.specs.View.{view}
 use Rattle.program_steps.specs.declared.outcome.Status.{Status}
 use Rattle.app_model.specs.App.{App, method}
-use Rattle.history_model.specs.declared.entry.Entry.{Entry}
-use Rattle.history_model.specs.declared.entry.Entry.TheVariants as entry
-use Rattle.history_model.specs.History.{run_cmp, Begun, status_of, goes_on, held, status_in, status_at, begins, is_full, is_next}
-use Rattle.history_model.specs.BegunLaws.{run_where_begun}
+use Rattle.link_laws.specs.history_model.declared.entry.Entry.{Entry}
+use Rattle.link_laws.specs.history_model.declared.entry.Entry.TheVariants as entry
+use Rattle.link_laws.specs.history_model.History.{run_cmp, Begun, status_of, goes_on, held, status_in, status_at, begins, is_full, is_next}
+use Rattle.link_laws.specs.history_model.BegunLaws.{run_where_begun}
 use Rattle.store_machine.specs.declared.fault.BeginFault.{BeginFault}
 use Rattle.store_machine.specs.declared.fault.BeginFault.TheVariants as fault
 use Rattle.store_machine.specs.State.{MachineState, held_by, full_with, with_entry, begin_answer, is_running, step_state, BeginGives}
-use Rattle.journal_model.specs.Methods.{Blocking}
-use Rattle.journal_model.specs.State.{State}
-use Rattle.core_model.specs.declared.events.Act.TheVariants as act
-use Rattle.core_model.specs.declared.events.Answer.TheVariants as answer
-use Rattle.core_model.specs.Store.{programs, held_in, value_of}
-use Rattle.core_model.specs.Acts.{is_kept, without_run, unbegun, is_refused, begin_entry, begun, refusal_kept, outcome, entries}
+use Rattle.link_laws.specs.journal_model.Methods.{Blocking}
+use Rattle.link_laws.specs.journal_model.State.{State}
+use Rattle.link_laws.specs.core_model.declared.events.Act.TheVariants as act
+use Rattle.link_laws.specs.core_model.declared.events.Answer.TheVariants as answer
+use Rattle.link_laws.specs.core_model.Store.{programs, held_in, value_of}
+use Rattle.link_laws.specs.core_model.Acts.{is_kept, without_run, unbegun, is_refused, begin_entry, begun, refusal_kept, outcome, entries}
 use Rattle.link_laws.specs.Session.{IsServed}
 use Rattle.link_laws.specs.Legal.{begin_next}
 use Rattle.connection_laws.specs.Connection.{AConnection, as_conn, IsConnection}

@@ -7,25 +7,25 @@ use Rattle.ddp_messages.specs.ServerMessage.{ServerMessage}
 use Rattle.program_steps.specs.declared.outcome.Status.{Status}
 use Rattle.program_steps.specs.Runs.{End}
 use Rattle.app_model.specs.App.{App}
-use Rattle.history_model.specs.declared.entry.Entry.{Entry}
-use Rattle.history_model.specs.History.{status_at}
-use Rattle.journal_model.specs.Items.{Item}
-use Rattle.journal_model.specs.Items as item
-use Rattle.journal_model.specs.Methods.{Phase, running, Blocking, is_blocked_by, phase_at, id_at}
-use Rattle.journal_model.specs.State.{State, own_after}
-use Rattle.journal_model.specs.Moments.{Moment, moment_at, run_at}
-use Rattle.journal_model.specs.Out.{own_messages, result_by}
-use Rattle.journal_model.specs.Fits.{IsRefusedAt}
-use Rattle.session_relation.specs.Resolved.{resolved}
+use Rattle.link_laws.specs.history_model.declared.entry.Entry.{Entry}
+use Rattle.link_laws.specs.history_model.History.{status_at}
+use Rattle.link_laws.specs.journal_model.Items.{Item}
+use Rattle.link_laws.specs.journal_model.Items as item
+use Rattle.link_laws.specs.journal_model.Methods.{Phase, running, Blocking, is_blocked_by, phase_at, id_at}
+use Rattle.link_laws.specs.journal_model.State.{State, own_after}
+use Rattle.link_laws.specs.journal_model.Moments.{Moment, moment_at, run_at}
+use Rattle.link_laws.specs.journal_model.Out.{own_messages, result_by}
+use Rattle.link_laws.specs.journal_model.Fits.{IsRefusedAt}
+use Rattle.session_laws.specs.session_relation.Resolved.{resolved}
 use Rattle.session_laws.specs.Session.{ASession, is_at_work, is_running as runs, has_news, can_learn, can_refuse}
 use Rattle.session_laws.specs.Storing.{kept_as}
 use Rattle.session_laws.specs.Meaning.{Means}
 use Rattle.session_laws.specs.Events.{Outcome, HasLearnt, IsLearnt, IsStatus, Learns, Refuses}
-use Rattle.core_model.specs.declared.events.Act.TheVariants as act
-use Rattle.core_model.specs.declared.events.Answer.TheVariants as answer
-use Rattle.core_model.specs.Store.{programs, moments}
-use Rattle.core_model.specs.Conn.{Refusal, state_in, is_at_work as is_at_work_of}
-use Rattle.core_model.specs.Acts.{with_item, is_kept, is_running, news_of, news_by, learnt, learns_item, enabled, outcome}
+use Rattle.link_laws.specs.core_model.declared.events.Act.TheVariants as act
+use Rattle.link_laws.specs.core_model.declared.events.Answer.TheVariants as answer
+use Rattle.link_laws.specs.core_model.Store.{programs, moments}
+use Rattle.link_laws.specs.core_model.Conn.{Refusal, state_in, is_at_work as is_at_work_of}
+use Rattle.link_laws.specs.core_model.Acts.{with_item, is_kept, is_running, news_of, news_by, learnt, learns_item, enabled, outcome}
 use Rattle.link_laws.specs.Places.{ended_there}
 use Rattle.link_laws.specs.Moments.{run_there}
 use Rattle.link_laws.specs.Session.{IsRefusal, IsServed}

@@ -3,12 +3,12 @@ use Rattle.std.specs.Prelude.{◌≡◌, ◌⊎◌, ℕ, List, [], ◌∷◌, �
 use Rattle.std.proofs.Common.{ap, ap₂, sym, subst, ◌∙◌, inl, inr}
 use Rattle.std.proofs.lemmas.Bool.{and_parts}
 use Rattle.app_model.specs.App.{App}
-use Rattle.history_model.specs.declared.entry.Entry.{Entry}
+use Rattle.link_laws.specs.history_model.declared.entry.Entry.{Entry}
 use Rattle.client_model.specs.Client.{Client}
 use Rattle.client_model.specs.Taking.{told_text, breaks}
 use Rattle.client_model.specs.Asking.{can_take}
 use Rattle.client_model.specs.TakingLaws.{text_breaks}
-use Rattle.journal_model.specs.Subscriptions.{may_load, cursor_of}
+use Rattle.link_laws.specs.journal_model.Subscriptions.{may_load, cursor_of}
 use Rattle.client_core.specs.declared.fault.TakeFault.{TakeFault}
 use Rattle.client_core.specs.declared.fault.TakeFault.TheVariants as take_fault
 use Rattle.client_core.specs.State.{Own}
@@ -17,12 +17,12 @@ use Rattle.client_core.specs.Taken.{Takes}
 use Rattle.session_laws.specs.Session.{ASession}
 use Rattle.session_laws.specs.Meaning.{Means}
 use Rattle.session_laws.specs.Events.{Sends}
-use Rattle.core_model.specs.declared.events.Act.{Act}
-use Rattle.core_model.specs.declared.events.Act.TheVariants as act
-use Rattle.core_model.specs.declared.events.Answer.TheVariants as answer
-use Rattle.core_model.specs.Store.{moments}
-use Rattle.core_model.specs.Conn.{state_in, link_limit, outbox_limit, is_at_work, has_some}
-use Rattle.core_model.specs.Acts.{unbegun, learnt, may_advance, goes_up, sends, takes, enabled, outcome}
+use Rattle.link_laws.specs.core_model.declared.events.Act.{Act}
+use Rattle.link_laws.specs.core_model.declared.events.Act.TheVariants as act
+use Rattle.link_laws.specs.core_model.declared.events.Answer.TheVariants as answer
+use Rattle.link_laws.specs.core_model.Store.{moments}
+use Rattle.link_laws.specs.core_model.Conn.{state_in, link_limit, outbox_limit, is_at_work, has_some}
+use Rattle.link_laws.specs.core_model.Acts.{unbegun, learnt, may_advance, goes_up, sends, takes, enabled, outcome}
 use Rattle.connection_laws.specs.Connection.{AConnection, as_conn, IsConnection}
 use Rattle.connection_laws.specs.Acting.{gone_up, sent_on, taken_off, IsDone}
 use Rattle.connection_laws.specs.Standing.{idle_of, done_of}

@@ -7,22 +7,22 @@ use Rattle.value_model.specs.Val.{Entries}
 use Rattle.ejson_value.specs.declared.key.Key.{Key}
 use Rattle.ddp_messages.specs.ServerMessage.{ServerMessage}
 use Rattle.app_model.specs.App.{App}
-use Rattle.history_model.specs.declared.entry.Entry.{Entry}
-use Rattle.journal_model.specs.Items.{Item}
-use Rattle.journal_model.specs.State.{State}
-use Rattle.journal_model.specs.Out.{out_texts}
-use Rattle.journal_laws.specs.Appending.{out_texts-append}
-use Rattle.session_relation.specs.declared.stored.Stored.{Stored}
-use Rattle.session_relation.specs.Resolved.{resolved}
-use Rattle.session_relation.specs.Stands.{items_of}
+use Rattle.link_laws.specs.history_model.declared.entry.Entry.{Entry}
+use Rattle.link_laws.specs.journal_model.Items.{Item}
+use Rattle.link_laws.specs.journal_model.State.{State}
+use Rattle.link_laws.specs.journal_model.Out.{out_texts}
+use Rattle.link_laws.specs.journal_laws.Appending.{out_texts-append}
+use Rattle.session_laws.specs.session_relation.declared.stored.Stored.{Stored}
+use Rattle.session_laws.specs.session_relation.Resolved.{resolved}
+use Rattle.session_laws.specs.session_relation.Stands.{items_of}
 use Rattle.session_laws.specs.Session.{ASession}
 use Rattle.session_laws.specs.Adding.{HasAdded}
 use Rattle.session_laws.specs.Storing.{kept_as}
 use Rattle.session_laws.specs.Meaning.{Means}
 use Rattle.session_laws.specs.Keeping.{items_added}
-use Rattle.core_model.specs.Store.{moments}
-use Rattle.core_model.specs.Conn.{Waiting, Refusal}
-use Rattle.core_model.specs.Acts.{item_texts, with_item}
+use Rattle.link_laws.specs.core_model.Store.{moments}
+use Rattle.link_laws.specs.core_model.Conn.{Waiting, Refusal}
+use Rattle.link_laws.specs.core_model.Acts.{item_texts, with_item}
 use Rattle.connection_laws.specs.Connection.{AConnection, waiting_of, as_conn, IsKeptOf, AreKeptOf, IsConnection}
 
 -- ---- the item is kept as it is

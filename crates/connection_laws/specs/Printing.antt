@@ -5,27 +5,27 @@ use Rattle.value_model.specs.Val.{Val, text}
 use Rattle.ddp_messages.specs.ServerMessage.{ServerMessage}
 use Rattle.program_steps.specs.Runs.{Outcome, done, failed}
 use Rattle.app_model.specs.App.{App}
-use Rattle.history_model.specs.declared.entry.Entry.{Entry}
-use Rattle.history_log.specs.Lines.{worded, number, doc_value}
+use Rattle.link_laws.specs.history_model.declared.entry.Entry.{Entry}
+use Rattle.link_laws.specs.history_log.Lines.{worded, number, doc_value}
 use Rattle.client_model.specs.declared.subs.SubState.{SubState}
 use Rattle.client_model.specs.declared.subs.SubState.TheVariants as sub_state
 use Rattle.client_model.specs.Client.{Sub, Call}
 use Rattle.client_model.specs.Asking.{outcome_in}
 use Rattle.client_parts.specs.Lines as parts
 use Rattle.client_core.specs.State.{show_lines}
-use Rattle.journal_model.specs.Texts.{server_text}
-use Rattle.journal_model.specs.Items.{Item}
-use Rattle.journal_model.specs.Items as item
-use Rattle.journal_model.specs.State.{State, started, after}
-use Rattle.journal_model.specs.Moments.{Moment}
-use Rattle.journal_model.specs.Shown.{Calls, call_of}
-use Rattle.journal_model.specs.Out.{session_name, messages_of, out_from, counts_from}
-use Rattle.session_relation.specs.declared.stored.Stored.{Stored}
-use Rattle.session_relation.specs.declared.stored.Stored.TheVariants as stored
-use Rattle.session_relation.specs.Stands.{items_of}
+use Rattle.link_laws.specs.journal_model.Texts.{server_text}
+use Rattle.link_laws.specs.journal_model.Items.{Item}
+use Rattle.link_laws.specs.journal_model.Items as item
+use Rattle.link_laws.specs.journal_model.State.{State, started, after}
+use Rattle.link_laws.specs.journal_model.Moments.{Moment}
+use Rattle.link_laws.specs.journal_model.Shown.{Calls, call_of}
+use Rattle.link_laws.specs.journal_model.Out.{session_name, messages_of, out_from, counts_from}
+use Rattle.session_laws.specs.session_relation.declared.stored.Stored.{Stored}
+use Rattle.session_laws.specs.session_relation.declared.stored.Stored.TheVariants as stored
+use Rattle.session_laws.specs.session_relation.Stands.{items_of}
 use Rattle.session_laws.specs.Storing.{kept_as, shown_id}
-use Rattle.core_model.specs.Store.{moments}
-use Rattle.core_model.specs.Lines.{state_words, outcome_words, sub_value, method_values, show_values, Line, value_line, out_line, item_value, items_lines, journal_lines, texts_of}
+use Rattle.link_laws.specs.core_model.Store.{moments}
+use Rattle.link_laws.specs.core_model.Lines.{state_words, outcome_words, sub_value, method_values, show_values, Line, value_line, out_line, item_value, items_lines, journal_lines, texts_of}
 use Rattle.connection_laws.specs.Connection.{AConnection, as_conn, AreKeptOf, IsConnection}
 
 -- ---- what a session did

@@ -5,15 +5,15 @@ use Rattle.std.proofs.lemmas.List.{length-append}
 use Rattle.ddp_messages.specs.ClientMessage.{ClientMessage}
 use Rattle.merge_model.specs.Publishing.{apply}
 use Rattle.app_model.specs.App.{App}
-use Rattle.history_model.specs.declared.entry.Entry.{Entry}
-use Rattle.journal_model.specs.Items.{Item}
-use Rattle.journal_model.specs.State.{State, own_after}
-use Rattle.journal_model.specs.Out.{own_messages}
-use Rattle.journal_model.specs.Fits.{item_for}
-use Rattle.journal_model.specs.Taking.{Taken, at_once, to_queue, taken_text, is_connected_by}
-use Rattle.session_relation.specs.Resolved.{resolved}
-use Rattle.session_relation.specs.ResolvedLaws.{items-more}
-use Rattle.session_relation.specs.Stands.{items_of}
+use Rattle.link_laws.specs.history_model.declared.entry.Entry.{Entry}
+use Rattle.link_laws.specs.journal_model.Items.{Item}
+use Rattle.link_laws.specs.journal_model.State.{State, own_after}
+use Rattle.link_laws.specs.journal_model.Out.{own_messages}
+use Rattle.link_laws.specs.journal_model.Fits.{item_for}
+use Rattle.link_laws.specs.journal_model.Taking.{Taken, at_once, to_queue, taken_text, is_connected_by}
+use Rattle.session_laws.specs.session_relation.Resolved.{resolved}
+use Rattle.session_laws.specs.session_relation.ResolvedLaws.{items-more}
+use Rattle.session_laws.specs.session_relation.Stands.{items_of}
 use Rattle.session_laws.specs.declared.fault.EventFault.TheVariants as fault
 use Rattle.session_laws.specs.Session.{ASession, is_at_work, can_handle}
 use Rattle.session_laws.specs.Storing.{kept_as, shown_id}
@@ -21,11 +21,11 @@ use Rattle.session_laws.specs.Meaning.{AreFrom, Means}
 use Rattle.session_laws.specs.Events.{Outcome, IsTakenAs, IsAnswered, IsCrowdedOut, KeepsTaking, Takes, plain_call, Keeps, HasHandled, Handles}
 use Rattle.session_laws.specs.Taking.{answered_once, once_resolved}
 use Rattle.session_laws.specs.Handled.{read_back}
-use Rattle.core_model.specs.declared.events.Act.TheVariants as act
-use Rattle.core_model.specs.declared.events.Answer.TheVariants as answer
-use Rattle.core_model.specs.Store.{moments}
-use Rattle.core_model.specs.Conn.{is_at_work as is_at_work_of, has_some}
-use Rattle.core_model.specs.Acts.{with_item, received_as, receives, handles, is_crowded_out, is_crowded_by, enabled, is_queue_full, outcome}
+use Rattle.link_laws.specs.core_model.declared.events.Act.TheVariants as act
+use Rattle.link_laws.specs.core_model.declared.events.Answer.TheVariants as answer
+use Rattle.link_laws.specs.core_model.Store.{moments}
+use Rattle.link_laws.specs.core_model.Conn.{is_at_work as is_at_work_of, has_some}
+use Rattle.link_laws.specs.core_model.Acts.{with_item, received_as, receives, handles, is_crowded_out, is_crowded_by, enabled, is_queue_full, outcome}
 use Rattle.connection_laws.specs.Connection.{AConnection, waiting_of, as_conn, AreKeptOf, IsConnection}
 use Rattle.connection_laws.specs.Acting.{with_session, taken_in, Makes}
 use Rattle.connection_laws.specs.Standing.{queue_more, and_assoc, state_is, at_work_is, full_is, crowded_is, waits_is, idle_of, full_of, crowded_of, done_of, IsMade, made}

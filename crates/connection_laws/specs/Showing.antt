@@ -12,32 +12,32 @@ use Rattle.ejson_value.specs.declared.change.Change.{Change}
 use Rattle.ejson_value.specs.Rows.{Rows}
 use Rattle.ejson_value.specs.Changes.{changes_of, news_of}
 use Rattle.app_model.specs.App.{App}
-use Rattle.history_model.specs.declared.entry.Entry.{Entry}
-use Rattle.history_model.specs.History.{held_at, changes_between}
-use Rattle.history_model.specs.HistoryLaws.{sorted_held, between_leads}
-use Rattle.journal_model.specs.Publication.{queried}
-use Rattle.journal_model.specs.Items.{Item}
-use Rattle.journal_model.specs.Items as item
-use Rattle.journal_model.specs.Subscriptions.{Live, cursor_of, may_load}
-use Rattle.journal_model.specs.State.{State, started, own_after}
-use Rattle.journal_model.specs.Moments.{Moment, rows_of, rows_at}
-use Rattle.journal_model.specs.Out.{own_messages}
+use Rattle.link_laws.specs.history_model.declared.entry.Entry.{Entry}
+use Rattle.link_laws.specs.history_model.History.{held_at, changes_between}
+use Rattle.link_laws.specs.history_model.HistoryLaws.{sorted_held, between_leads}
+use Rattle.link_laws.specs.journal_model.Publication.{queried}
+use Rattle.link_laws.specs.journal_model.Items.{Item}
+use Rattle.link_laws.specs.journal_model.Items as item
+use Rattle.link_laws.specs.journal_model.Subscriptions.{Live, cursor_of, may_load}
+use Rattle.link_laws.specs.journal_model.State.{State, started, own_after}
+use Rattle.link_laws.specs.journal_model.Moments.{Moment, rows_of, rows_at}
+use Rattle.link_laws.specs.journal_model.Out.{own_messages}
 use Rattle.session_laws.specs.Session.{ASession, is_at_work, place_on, can_load, can_advance}
-use Rattle.session_relation.specs.Resolved.{resolved}
+use Rattle.session_laws.specs.session_relation.Resolved.{resolved}
 use Rattle.session_laws.specs.Storing.{kept_as, shown_id}
 use Rattle.session_laws.specs.Meaning.{Means}
 use Rattle.session_laws.specs.Events.{Outcome, HasDone, Waits, IsSnapshot, Loads, IsBatch, Advances, IsFeed, Feeds, cursors_at}
-use Rattle.core_model.specs.declared.events.Act.{Act}
-use Rattle.core_model.specs.declared.events.Act.TheVariants as act
-use Rattle.core_model.specs.declared.events.Answer.TheVariants as answer
-use Rattle.core_model.specs.Store.{programs, moments}
-use Rattle.core_model.specs.Conn.{state_in, is_at_work as is_at_work_of}
-use Rattle.core_model.specs.Acts.{with_item, may_advance, enabled, outcome, does as does_of}
+use Rattle.link_laws.specs.core_model.declared.events.Act.{Act}
+use Rattle.link_laws.specs.core_model.declared.events.Act.TheVariants as act
+use Rattle.link_laws.specs.core_model.declared.events.Answer.TheVariants as answer
+use Rattle.link_laws.specs.core_model.Store.{programs, moments}
+use Rattle.link_laws.specs.core_model.Conn.{state_in, is_at_work as is_at_work_of}
+use Rattle.link_laws.specs.core_model.Acts.{with_item, may_advance, enabled, outcome, does as does_of}
 use Rattle.link_laws.specs.Moments.{moments_length, moment_there}
-use Rattle.publication.specs.Published.{published}
-use Rattle.live_observer.specs.Observing.{IsDifference, HaveNoLimit}
-use Rattle.journal_laws.specs.Longer.{IsPlace, AreWithin, within_from}
-use Rattle.session_relation.specs.Stands.{items_of}
+use Rattle.link_laws.specs.publication.Published.{published}
+use Rattle.session_laws.specs.live_observer.Observing.{IsDifference, HaveNoLimit}
+use Rattle.link_laws.specs.journal_laws.Longer.{IsPlace, AreWithin, within_from}
+use Rattle.session_laws.specs.session_relation.Stands.{items_of}
 use Rattle.session_laws.specs.Differences.{difference_leads}
 use Rattle.connection_laws.specs.Connection.{AConnection, waiting_of, as_conn, IsConnection}
 use Rattle.connection_laws.specs.Acting.{with_session, Makes}

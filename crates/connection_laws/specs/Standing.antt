@@ -6,22 +6,22 @@ use Rattle.std.proofs.lemmas.List.Sums.{sum_by-cons}
 use Rattle.std.proofs.lemmas.Bool.{ne_eqb}
 use Rattle.ddp_messages.specs.ClientMessage.{ClientMessage}
 use Rattle.app_model.specs.App.{App}
-use Rattle.history_model.specs.declared.entry.Entry.{Entry}
-use Rattle.journal_model.specs.State.{State}
-use Rattle.journal_model.specs.Moments.{Moment}
-use Rattle.journal_laws.specs.Shows.{AreInOrder}
-use Rattle.session_relation.specs.Resolved.{resolved}
+use Rattle.link_laws.specs.history_model.declared.entry.Entry.{Entry}
+use Rattle.link_laws.specs.journal_model.State.{State}
+use Rattle.link_laws.specs.journal_model.Moments.{Moment}
+use Rattle.link_laws.specs.journal_laws.Shows.{AreInOrder}
+use Rattle.session_laws.specs.session_relation.Resolved.{resolved}
 use Rattle.session_laws.specs.declared.fault.EventFault.TheVariants as fault
 use Rattle.session_laws.specs.Session.{is_full, is_crowded, is_at_work, max_outbox, max_waiting, max_bytes, max_items, IsCause, HadRoom}
 use Rattle.session_laws.specs.Meaning.{Means}
 use Rattle.session_laws.specs.Events.{Outcome}
 use Rattle.session_laws.specs.Longer.{new_means, longer_means}
-use Rattle.core_model.specs.declared.events.Act.{Act}
-use Rattle.core_model.specs.declared.events.Answer.TheVariants as answer
-use Rattle.core_model.specs.Store.{held_in, moments}
-use Rattle.core_model.specs.StoreLaws.{later_moments, moments-append}
-use Rattle.core_model.specs.Conn.{Waiting, Conn, new_conn, state_in, is_full as is_full_of, is_crowded as is_crowded_of, is_at_work as is_at_work_of, has_some}
-use Rattle.core_model.specs.Acts.{enabled, is_of_session, is_queue_full, outcome, does as does_of}
+use Rattle.link_laws.specs.core_model.declared.events.Act.{Act}
+use Rattle.link_laws.specs.core_model.declared.events.Answer.TheVariants as answer
+use Rattle.link_laws.specs.core_model.Store.{held_in, moments}
+use Rattle.link_laws.specs.core_model.StoreLaws.{later_moments, moments-append}
+use Rattle.link_laws.specs.core_model.Conn.{Waiting, Conn, new_conn, state_in, is_full as is_full_of, is_crowded as is_crowded_of, is_at_work as is_at_work_of, has_some}
+use Rattle.link_laws.specs.core_model.Acts.{enabled, is_of_session, is_queue_full, outcome, does as does_of}
 use Rattle.link_laws.specs.Moments.{moments_in_order}
 use Rattle.connection_laws.specs.Connection.{AConnection, new_connection, waiting_of, as_conn, IsConnection}
 use Rattle.connection_laws.specs.Acting.{Makes}

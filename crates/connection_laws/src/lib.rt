@@ -17,7 +17,10 @@ pub use asks::{
     calls_are_made, clients_are_dropped, gone_clients_do_nothing, subscriptions_are_asked_for,
     subscriptions_are_ended, texts_are_queued,
 };
+pub use client_core;
 pub use laws::{
     clients_are_printed, journals_are_printed, later_entries_keep_it, new_clients_are_kept,
     sessions_are_seen_as_they_are, values_are_made_again,
 };
+pub use link_laws::core_model;
+pub use store_machine;

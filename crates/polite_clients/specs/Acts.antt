@@ -5,22 +5,22 @@ use Rattle.std.proofs.lemmas.List.{append_assoc}
 use Rattle.std.proofs.lemmas.Bool.{and_parts, ltb-true}
 use Rattle.ddp_messages.specs.ClientMessage as client
 use Rattle.app_model.specs.App.{App}
-use Rattle.history_model.specs.declared.entry.Entry.{Entry}
+use Rattle.headline.specs.history_model.declared.entry.Entry.{Entry}
 use Rattle.client_model.specs.Client.{Call, client_text}
 use Rattle.client_model.specs.Taking.{call_at}
 use Rattle.client_model.specs.Asking.{call_limit, is_connected, can_call, seed_of, can_take}
-use Rattle.journal_model.specs.Items.{Item}
-use Rattle.journal_model.specs.Kept.{AreKept}
-use Rattle.journal_model.specs.Taking.{Taken, at_once, to_queue, taken_text}
-use Rattle.core_model.specs.declared.events.Act.{Act}
-use Rattle.core_model.specs.declared.events.Act.TheVariants as act
-use Rattle.core_model.specs.Store.{moments}
-use Rattle.core_model.specs.Conn.{Waiting, Conn, new_conn, state_in, has_some}
-use Rattle.core_model.specs.Acts.{goes_up, received_as, receives, handles, is_kept, learnt, learns_item, sends, takes, enabled, does}
-use Rattle.core_model.specs.Asks.{Ask, can_ask, calls, asked}
-use Rattle.core_model.specs.Asks as ask
-use Rattle.link_laws.specs.Lift.{IsAsk}
-use Rattle.link_laws.specs.Links.{IsLinked}
+use Rattle.headline.specs.journal_model.Items.{Item}
+use Rattle.headline.specs.journal_model.Kept.{AreKept}
+use Rattle.headline.specs.journal_model.Taking.{Taken, at_once, to_queue, taken_text}
+use Rattle.headline.specs.core_model.declared.events.Act.{Act}
+use Rattle.headline.specs.core_model.declared.events.Act.TheVariants as act
+use Rattle.headline.specs.core_model.Store.{moments}
+use Rattle.headline.specs.core_model.Conn.{Waiting, Conn, new_conn, state_in, has_some}
+use Rattle.headline.specs.core_model.Acts.{goes_up, received_as, receives, handles, is_kept, learnt, learns_item, sends, takes, enabled, does}
+use Rattle.headline.specs.core_model.Asks.{Ask, can_ask, calls, asked}
+use Rattle.headline.specs.core_model.Asks as ask
+use Rattle.headline.specs.link_laws.Lift.{IsAsk}
+use Rattle.headline.specs.link_laws.Links.{IsLinked}
 use Rattle.taking_laws.specs.Calls.{has_outcome, has_update}
 use Rattle.polite_clients.specs.Texts.{connect_opens, IsAsking, first_asked, sub_other, unsub_other, other_asked, call_asked}
 use Rattle.polite_clients.specs.Polite.{texts_of, IsPolite, is_none_is, text_goes, call_counted}

@@ -12,26 +12,26 @@ use Rattle.ddp_messages.specs.ServerMessage.{ServerMessage}
 use Rattle.ddp_messages.specs.ServerMessage as server
 use Rattle.program_steps.specs.Runs.{Outcome, done, failed, End}
 use Rattle.app_model.specs.App.{App}
-use Rattle.history_model.specs.declared.entry.Entry.{Entry}
+use Rattle.headline.specs.history_model.declared.entry.Entry.{Entry}
 use Rattle.client_model.specs.Client.{Call, Client}
 use Rattle.client_model.specs.Taking.{numbers_of, outcome_by, with_outcome, with_update, call_at, call_changed, number_changed, all_changed, failed_in, answers_in, calls_in, breaks, told_message, told_answer, told_text}
-use Rattle.journal_model.specs.Texts.{message_in, messages_in}
-use Rattle.journal_model.specs.Items.{Item, id_of}
-use Rattle.journal_model.specs.Items as item
-use Rattle.journal_model.specs.Subscriptions.{ids_of}
-use Rattle.journal_model.specs.Methods.{id_at}
-use Rattle.journal_model.specs.State.{State, started, after}
-use Rattle.journal_model.specs.Moments.{Moment, end_at}
-use Rattle.journal_model.specs.Shown.{Calls, call_of, merge_of, difference}
-use Rattle.journal_model.specs.Out.{about, ready, updated, result_by, results_by, history_full, refused_with, all_refused_with, own_messages, told_after, words_of, messages_of, out_from, out, out_texts}
-use Rattle.journal_model.specs.Kept.{AreKept}
-use Rattle.journal_model.specs.Taking.{answered_from}
-use Rattle.journal_model.specs.Answering.{is_at_once, at_once_in, Answers}
-use Rattle.journal_laws.specs.Readable.{out_reads}
-use Rattle.core_model.specs.Store.{moments}
-use Rattle.core_model.specs.Conn.{Conn}
-use Rattle.core_model.specs.Headline.{is_bad, is_long}
-use Rattle.link_laws.specs.Links.{IsLinked}
+use Rattle.headline.specs.journal_model.Texts.{message_in, messages_in}
+use Rattle.headline.specs.journal_model.Items.{Item, id_of}
+use Rattle.headline.specs.journal_model.Items as item
+use Rattle.headline.specs.journal_model.Subscriptions.{ids_of}
+use Rattle.headline.specs.journal_model.Methods.{id_at}
+use Rattle.headline.specs.journal_model.State.{State, started, after}
+use Rattle.headline.specs.journal_model.Moments.{Moment, end_at}
+use Rattle.headline.specs.journal_model.Shown.{Calls, call_of, merge_of, difference}
+use Rattle.headline.specs.journal_model.Out.{about, ready, updated, result_by, results_by, history_full, refused_with, all_refused_with, own_messages, told_after, words_of, messages_of, out_from, out, out_texts}
+use Rattle.headline.specs.journal_model.Kept.{AreKept}
+use Rattle.headline.specs.journal_model.Taking.{answered_from}
+use Rattle.headline.specs.journal_model.Answering.{is_at_once, at_once_in, Answers}
+use Rattle.headline.specs.journal_laws_for_proofs.Readable.{out_reads}
+use Rattle.headline.specs.core_model.Store.{moments}
+use Rattle.headline.specs.core_model.Conn.{Conn}
+use Rattle.headline.specs.core_model.Headline.{is_bad, is_long}
+use Rattle.headline.specs.link_laws.Links.{IsLinked}
 use Rattle.taking_laws.specs.Fitting.{IsPlain}
 use Rattle.taking_laws.specs.Calls.{AreCounted, has_outcome, has_update, many}
 use Rattle.taking_laws.specs.Known.{IsKnown, AreAsked}

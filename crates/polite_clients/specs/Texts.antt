@@ -31,11 +31,11 @@ use Rattle.text_model.specs.MessageLaws.{client_text_back}
 use Rattle.client_model.specs.Client.{client_text}
 use Rattle.client_model.specs.Taking.{number_of}
 use Rattle.client_model.specs.Asking.{call_limit}
-use Rattle.journal_model.specs.Items.{Item}
-use Rattle.journal_model.specs.Items as item
-use Rattle.journal_model.specs.Taking.{max_text, Taken, at_once, to_queue, connected_by, taken_as, taken_named, taken_tree, taken_text, connects, item_of, message_of, answered_from, queued_from, is_connected_by}
-use Rattle.journal_model.specs.Counting.{one_if}
-use Rattle.core_model.specs.Headline.{is_bad}
+use Rattle.headline.specs.journal_model.Items.{Item}
+use Rattle.headline.specs.journal_model.Items as item
+use Rattle.headline.specs.journal_model.Taking.{max_text, Taken, at_once, to_queue, connected_by, taken_as, taken_named, taken_tree, taken_text, connects, item_of, message_of, answered_from, queued_from, is_connected_by}
+use Rattle.headline.specs.journal_model.Counting.{one_if}
+use Rattle.headline.specs.core_model.Headline.{is_bad}
 use Rattle.taking_laws.specs.Known.{methods_in, HasAsks}
 use Rattle.taking_laws.specs.Calls.{many, number_is}
 use Rattle.taking_laws.specs.Asked.{methods-append, answer_in}

@@ -3,24 +3,24 @@ use Rattle.std.specs.Prelude.{◌≡◌, ℕ, suc, ◌+◌, ◌-◌, List, [], �
 use Rattle.std.proofs.Common.{ap, sym, subst, ◌∙◌, arith, length-append}
 use Rattle.std.proofs.Math.Seq.{take-append_seam}
 use Rattle.app_model.specs.App.{App}
-use Rattle.history_model.specs.declared.entry.Entry.{Entry}
-use Rattle.journal_model.specs.Items.{Item}
-use Rattle.journal_model.specs.Taking.{Taken, at_once, to_queue, taken_text}
-use Rattle.stored_values.specs.Values.{HasValues, AreEntries}
-use Rattle.stored_values.specs.MomentValues.{moments_are_kept}
-use Rattle.core_model.specs.declared.events.Act.{Act}
-use Rattle.core_model.specs.declared.events.Act.TheVariants as act
-use Rattle.core_model.specs.declared.events.Event.{Event}
-use Rattle.core_model.specs.Store.{programs}
-use Rattle.core_model.specs.Conn.{Waiting, Conn, state_in}
-use Rattle.core_model.specs.Acts.{goes_up, received_as, receives, handles, is_kept, learnt, learns_item, sends, takes, does, entries}
-use Rattle.core_model.specs.Asks.{Ask, asked}
-use Rattle.core_model.specs.Asks as ask
-use Rattle.core_model.specs.World.{World, start, conn_of}
-use Rattle.core_model.specs.Events.{run, AreEvents}
-use Rattle.core_model.specs.Headline.{IsLongAlone, HaveLongAlone}
-use Rattle.link_laws.specs.Lift.{IsKept, Holds, every_world}
-use Rattle.link_laws.specs.Links.{IsLinked, can_enabled, links_kept}
+use Rattle.headline.specs.history_model.declared.entry.Entry.{Entry}
+use Rattle.headline.specs.journal_model.Items.{Item}
+use Rattle.headline.specs.journal_model.Taking.{Taken, at_once, to_queue, taken_text}
+use Rattle.headline.specs.stored_values.Values.{HasValues, AreEntries}
+use Rattle.headline.specs.stored_values_for_proofs.MomentValues.{moments_are_kept}
+use Rattle.headline.specs.core_model.declared.events.Act.{Act}
+use Rattle.headline.specs.core_model.declared.events.Act.TheVariants as act
+use Rattle.headline.specs.core_model.declared.events.Event.{Event}
+use Rattle.headline.specs.core_model.Store.{programs}
+use Rattle.headline.specs.core_model.Conn.{Waiting, Conn, state_in}
+use Rattle.headline.specs.core_model.Acts.{goes_up, received_as, receives, handles, is_kept, learnt, learns_item, sends, takes, does, entries}
+use Rattle.headline.specs.core_model.Asks.{Ask, asked}
+use Rattle.headline.specs.core_model.Asks as ask
+use Rattle.headline.specs.core_model.World.{World, start, conn_of}
+use Rattle.headline.specs.core_model.Events.{run, AreEvents}
+use Rattle.headline.specs.core_model.Headline.{IsLongAlone, HaveLongAlone}
+use Rattle.headline.specs.link_laws.Lift.{IsKept, Holds, every_world}
+use Rattle.headline.specs.link_laws.Links.{IsLinked, can_enabled, links_kept}
 use Rattle.headline.specs.Worlds.{IsSound, sound_kept}
 use Rattle.polite_clients.specs.Polite.{IsAlone, IsPolite}
 use Rattle.polite_clients.specs.Acts.{new_polite, act_polite, asked_polite}

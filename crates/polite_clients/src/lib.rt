@@ -4,12 +4,12 @@
 
 ghost use Rattle.std.specs.Prelude.{List};
 ghost use Rattle.app_model.specs.App.{App};
-ghost use Rattle.stored_values.specs.Values.{HasValues};
-ghost use Rattle.core_model.specs.declared.events.Event.{Event as AnEvent};
-ghost use Rattle.core_model.specs.Store.{programs};
-ghost use Rattle.core_model.specs.World.{start};
-ghost use Rattle.core_model.specs.Events.{run, AreEvents};
-ghost use Rattle.core_model.specs.Headline.{HaveLongAlone};
+ghost use Rattle.headline.specs.stored_values.Values.{HasValues};
+ghost use Rattle.headline.specs.core_model.declared.events.Event.{Event as AnEvent};
+ghost use Rattle.headline.specs.core_model.Store.{programs};
+ghost use Rattle.headline.specs.core_model.World.{start};
+ghost use Rattle.headline.specs.core_model.Events.{run, AreEvents};
+ghost use Rattle.headline.specs.core_model.Headline.{HaveLongAlone};
 
 /// Over every list of events, a client that sent no text but those that it is asked for refused a text as one that is too
 /// long, where it took one, and else none.

@@ -25,7 +25,7 @@ use Rattle.program_reading.specs.Names.{has_only_keys}
 use Rattle.program_reading.specs.Programs.{program_reading}
 use Rattle.app_model.specs.App.{App}
 use Rattle.app_model.specs.Reading.{max_methods, collections_reading, methods_put, methods_reading, with_method, with_made, stored_reading, told_reading, members_reading, app_reading}
-use Rattle.core_model.specs.Store.{programs}
+use Rattle.stored_values.specs.core_model.Store.{programs}
 use Rattle.stored_values.specs.Values.{HasValues}
 use Rattle.read_applications.specs.StepsRead.{follows, follows_from, either, field_is, IsMade, program_is}
 

@@ -7,7 +7,7 @@ ghost use Rattle.value_model.specs.Valid.{IsValue};
 ghost use Rattle.ejson_value.specs.View.{view};
 ghost use Rattle.program_reading.specs.Faults.{Gives};
 ghost use Rattle.app_model.specs.Reading.{app_reading};
-ghost use Rattle.core_model.specs.Store.{programs};
+ghost use Rattle.stored_values.specs.core_model.Store.{programs};
 ghost use Rattle.stored_values.specs.Values.{HasValues};
 
 use app_model::{App, AppFault};

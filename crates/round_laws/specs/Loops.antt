@@ -3,9 +3,9 @@ use Rattle.std.specs.Prelude.{◌≡◌, ℕ, ◌<◌, nat_lt, List, [], ◌∷�
 use Rattle.std.proofs.Common.{sym, subst, arith}
 use Rattle.std.proofs.lemmas.Bool.{and_parts}
 use Rattle.app_model.specs.App.{App}
-use Rattle.history_model.specs.declared.entry.Entry.{Entry}
+use Rattle.core_model.specs.history_model.declared.entry.Entry.{Entry}
 use Rattle.client_model.specs.Asking.{can_take}
-use Rattle.journal_model.specs.Taking.{Taken, at_once, to_queue, taken_text}
+use Rattle.core_model.specs.journal_model.Taking.{Taken, at_once, to_queue, taken_text}
 use Rattle.settling.specs.Rounds.{made}
 use Rattle.core_model.specs.declared.events.Act.{Act}
 use Rattle.core_model.specs.declared.events.Act.TheVariants as act

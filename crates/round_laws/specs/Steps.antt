@@ -12,15 +12,15 @@ use Rattle.map_model.specs.Maps.{at, set, IsSorted}
 use Rattle.map_model.specs.MapLaws.{key_is, eq_by_cmp-self, at-set, at-tail}
 use Rattle.app_model.specs.App.{App}
 use Rattle.program_steps.specs.declared.step.ProgramStep.{ProgramStep}
-use Rattle.program_model.specs.Kept.{is_over}
-use Rattle.program_model.specs.RunLaws.{stepped_less}
-use Rattle.program_model.specs.Steps.{stepped}
-use Rattle.history_model.specs.declared.entry.Entry.TheVariants as entry
-use Rattle.history_model.specs.History.{Programs, RunKey, run_cmp, Begun, Runs, Held, later, setting_in, no_steps, goes_on, with_step, with_stepped, AllAbove, Rise}
-use Rattle.history_model.specs.Bounds.{IsHeld, IsBegun}
-use Rattle.history_model.specs.LimitLaws.{left_of}
-use Rattle.history_model.specs.HistoryLaws.{run_order, held-append}
-use Rattle.history_model.specs.RunsLaws as held
+use Rattle.core_model.specs.program_model.Kept.{is_over}
+use Rattle.core_model.specs.program_model.RunLaws.{stepped_less}
+use Rattle.core_model.specs.program_model.Steps.{stepped}
+use Rattle.core_model.specs.history_model.declared.entry.Entry.TheVariants as entry
+use Rattle.core_model.specs.history_model.History.{Programs, RunKey, run_cmp, Begun, Runs, Held, later, setting_in, no_steps, goes_on, with_step, with_stepped, AllAbove, Rise}
+use Rattle.core_model.specs.history_model.Bounds.{IsHeld, IsBegun}
+use Rattle.core_model.specs.history_model.LimitLaws.{left_of}
+use Rattle.core_model.specs.history_model.HistoryLaws.{run_order, held-append}
+use Rattle.core_model.specs.history_model.RunsLaws as held
 use Rattle.settling.specs.Rounds.{made}
 use Rattle.core_model.specs.declared.events.Act.{Act}
 use Rattle.core_model.specs.declared.events.Act.TheVariants as act

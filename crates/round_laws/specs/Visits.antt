@@ -10,7 +10,7 @@ use Rattle.map_model.specs.MapLaws.{same_maps, eq_by_cmp-self, at-put, sorted-pu
 use Rattle.value_model.specs.Order.{text_cmp}
 use Rattle.ejson_value.specs.Key.{name_order}
 use Rattle.app_model.specs.App.{App}
-use Rattle.history_model.specs.declared.entry.Entry.{Entry}
+use Rattle.core_model.specs.history_model.declared.entry.Entry.{Entry}
 use Rattle.settling.specs.Rounds.{made, through, none_of, none_in}
 use Rattle.core_model.specs.declared.events.Act.{Act}
 use Rattle.core_model.specs.Conn.{Conn}

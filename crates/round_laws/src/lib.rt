@@ -8,7 +8,7 @@ ghost use Rattle.std.specs.Map.{keys_of};
 ghost use Rattle.map_model.specs.Maps.{IsSorted};
 ghost use Rattle.value_model.specs.Order.{text_cmp};
 ghost use Rattle.app_model.specs.App.{App};
-ghost use Rattle.history_model.specs.History.{Rise};
+ghost use Rattle.core_model.specs.history_model.History.{Rise};
 ghost use Rattle.settling.specs.Rounds.{made};
 ghost use Rattle.core_model.specs.declared.events.Act.{Act as AnAct};
 ghost use Rattle.core_model.specs.declared.events.Act.TheVariants as act;

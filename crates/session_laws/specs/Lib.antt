@@ -13,3 +13,12 @@ pub mod Longer
 pub mod Differences
 pub mod Loading
 pub mod Showing
+-- what lies below, for the crates above
+pub mod journal_laws
+pub mod journal_model
+pub mod live_observer
+pub mod live_observer_for_proofs
+pub mod publication
+pub mod publication_for_proofs
+pub mod session_relation
+pub mod session_relation_for_proofs

@@ -14,17 +14,17 @@ use Rattle.program_steps.specs.Runs.{Outcome, done, failed, End}
 use Rattle.app_model.specs.App.{App}
 use Rattle.client_model.specs.Client.{Client}
 use Rattle.client_model.specs.Taking.{max_server_text, breaks, message_refusal, told_message, told_unless, told_answer}
-use Rattle.journal_model.specs.Texts.{message_in, messages_in, or_unknown}
-use Rattle.journal_model.specs.Items.{Item}
-use Rattle.journal_model.specs.Items as item
-use Rattle.journal_model.specs.Subscriptions.{ids_of}
-use Rattle.journal_model.specs.Methods.{id_at}
-use Rattle.journal_model.specs.State.{State, started, after}
-use Rattle.journal_model.specs.Moments.{Moment, end_at}
-use Rattle.journal_model.specs.Shown.{Calls, call_of, merge_of, difference}
-use Rattle.journal_model.specs.Out.{about, ready, updated, result_by, results_by, all_refused_with, history_full, own_messages, told_after, out_from, out_texts}
-use Rattle.journal_model.specs.Fits.{Fits}
-use Rattle.journal_model.specs.Kept.{AreKept}
+use Rattle.core_model.specs.journal_model.Texts.{message_in, messages_in, or_unknown}
+use Rattle.core_model.specs.journal_model.Items.{Item}
+use Rattle.core_model.specs.journal_model.Items as item
+use Rattle.core_model.specs.journal_model.Subscriptions.{ids_of}
+use Rattle.core_model.specs.journal_model.Methods.{id_at}
+use Rattle.core_model.specs.journal_model.State.{State, started, after}
+use Rattle.core_model.specs.journal_model.Moments.{Moment, end_at}
+use Rattle.core_model.specs.journal_model.Shown.{Calls, call_of, merge_of, difference}
+use Rattle.core_model.specs.journal_model.Out.{about, ready, updated, result_by, results_by, all_refused_with, history_full, own_messages, told_after, out_from, out_texts}
+use Rattle.core_model.specs.journal_model.Fits.{Fits}
+use Rattle.core_model.specs.journal_model.Kept.{AreKept}
 use Rattle.journal_laws.specs.Readable.{out_reads}
 use Rattle.settle_laws.specs.Clients.{IsCalm, AreCalm}
 

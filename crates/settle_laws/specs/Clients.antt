@@ -7,14 +7,14 @@ use Rattle.std.proofs.lemmas.List.Sums.{sum_by-cons}
 use Rattle.app_model.specs.App.{App}
 use Rattle.client_model.specs.Taking.{told_text}
 use Rattle.client_model.specs.Asking.{can_take}
-use Rattle.history_model.specs.declared.entry.Entry.{Entry}
-use Rattle.journal_model.specs.Items.{Item}
-use Rattle.journal_model.specs.Items as item
-use Rattle.journal_model.specs.Subscriptions.{Live, cursor_of, may_load, loaded, moved, advanced, is_open}
-use Rattle.journal_model.specs.Methods.{Phase, running, refused, finished, told, Method, Blocking, is_blocked_by, freed, phase_at, turned, fired, fire}
-use Rattle.journal_model.specs.Counting.{is_running as runs_on, one_if}
-use Rattle.journal_model.specs.State.{State, after, started}
-use Rattle.journal_model.specs.Taking.{Taken, at_once, to_queue, taken_text}
+use Rattle.core_model.specs.history_model.declared.entry.Entry.{Entry}
+use Rattle.core_model.specs.journal_model.Items.{Item}
+use Rattle.core_model.specs.journal_model.Items as item
+use Rattle.core_model.specs.journal_model.Subscriptions.{Live, cursor_of, may_load, loaded, moved, advanced, is_open}
+use Rattle.core_model.specs.journal_model.Methods.{Phase, running, refused, finished, told, Method, Blocking, is_blocked_by, freed, phase_at, turned, fired, fire}
+use Rattle.core_model.specs.journal_model.Counting.{is_running as runs_on, one_if}
+use Rattle.core_model.specs.journal_model.State.{State, after, started}
+use Rattle.core_model.specs.journal_model.Taking.{Taken, at_once, to_queue, taken_text}
 use Rattle.journal_laws.specs.Appending.{state-append}
 use Rattle.core_model.specs.Conn.{Waiting, Refusal, Conn, state_in, has_some}
 use Rattle.core_model.specs.Acts.{with_item, goes_up, received_as, receives, handles, is_kept, is_running, may_advance, sends, takes}

@@ -5,13 +5,13 @@ use Rattle.std.proofs.lemmas.Bool.{eqb-true, eq-eqb, cases_order}
 use Rattle.program_steps.specs.declared.outcome.Status.{Status}
 use Rattle.program_steps.specs.Runs.{End}
 use Rattle.app_model.specs.App.{App}
-use Rattle.journal_model.specs.Items.{Item, id_of}
-use Rattle.journal_model.specs.Items as item
-use Rattle.journal_model.specs.Subscriptions.{Live, cursor_of, loaded, moved, advanced, closed, is_open}
-use Rattle.journal_model.specs.Methods.{Phase, running, refused, finished, told, Method, Blocking, is_blocked_by, freed, phase_at, turned, fired}
-use Rattle.journal_model.specs.State.{State, started, or_zero, opening, calling, own_after, after, state_from, state_of}
-use Rattle.journal_model.specs.Moments.{Moment, moment_at, run_of, end_at}
-use Rattle.journal_model.specs.Fits.{HasUnblocked, MayAdvance, CanFollow, FitsFrom, Fits}
+use Rattle.core_model.specs.journal_model.Items.{Item, id_of}
+use Rattle.core_model.specs.journal_model.Items as item
+use Rattle.core_model.specs.journal_model.Subscriptions.{Live, cursor_of, loaded, moved, advanced, closed, is_open}
+use Rattle.core_model.specs.journal_model.Methods.{Phase, running, refused, finished, told, Method, Blocking, is_blocked_by, freed, phase_at, turned, fired}
+use Rattle.core_model.specs.journal_model.State.{State, started, or_zero, opening, calling, own_after, after, state_from, state_of}
+use Rattle.core_model.specs.journal_model.Moments.{Moment, moment_at, run_of, end_at}
+use Rattle.core_model.specs.journal_model.Fits.{HasUnblocked, MayAdvance, CanFollow, FitsFrom, Fits}
 use Rattle.journal_laws.specs.Blocking.{turned_other, phase_fired, call_number}
 
 -- ---- calls that run

@@ -5,13 +5,13 @@ use Rattle.std.proofs.lemmas.Bool.{eqb-true}
 use Rattle.app_model.specs.App.{App}
 use Rattle.program_steps.specs.declared.outcome.Status.{Status}
 use Rattle.program_steps.specs.Runs.{End}
-use Rattle.history_model.specs.declared.entry.Entry.{Entry}
-use Rattle.history_model.specs.History.{status_at}
-use Rattle.journal_model.specs.Items.{Item}
-use Rattle.journal_model.specs.Items as item
-use Rattle.journal_model.specs.Methods.{running, Blocking, is_blocked_by, freed, phase_at}
-use Rattle.journal_model.specs.Counting.{one_if}
-use Rattle.journal_model.specs.State.{State, after}
+use Rattle.core_model.specs.history_model.declared.entry.Entry.{Entry}
+use Rattle.core_model.specs.history_model.History.{status_at}
+use Rattle.core_model.specs.journal_model.Items.{Item}
+use Rattle.core_model.specs.journal_model.Items as item
+use Rattle.core_model.specs.journal_model.Methods.{running, Blocking, is_blocked_by, freed, phase_at}
+use Rattle.core_model.specs.journal_model.Counting.{one_if}
+use Rattle.core_model.specs.journal_model.State.{State, after}
 use Rattle.core_model.specs.Store.{programs, held_in}
 use Rattle.core_model.specs.Conn.{Refusal, Conn, state_in}
 use Rattle.core_model.specs.Acts.{with_item, is_kept, without_run, unbegun, is_running, news_of, news_by, learnt, learns_item, learns}

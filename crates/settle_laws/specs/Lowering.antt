@@ -6,16 +6,16 @@ use Rattle.std.proofs.lemmas.Bool.{not-true, eq-eqb}
 use Rattle.map_model.specs.Maps.{at, IsSorted}
 use Rattle.value_model.specs.Order.{text_cmp}
 use Rattle.app_model.specs.App.{App}
-use Rattle.history_model.specs.declared.entry.Entry.{Entry}
-use Rattle.history_model.specs.declared.entry.Entry.TheVariants as entry
-use Rattle.history_model.specs.History.{run_cmp, goes_on}
+use Rattle.core_model.specs.history_model.declared.entry.Entry.{Entry}
+use Rattle.core_model.specs.history_model.declared.entry.Entry.TheVariants as entry
+use Rattle.core_model.specs.history_model.History.{run_cmp, goes_on}
 use Rattle.client_model.specs.Asking.{can_take}
-use Rattle.journal_model.specs.Items.{Item}
-use Rattle.journal_model.specs.Items as item
-use Rattle.journal_model.specs.Subscriptions.{cursor_of, may_load, loaded, advanced}
-use Rattle.journal_model.specs.Counting.{one_if}
-use Rattle.journal_model.specs.Methods.{Blocking}
-use Rattle.journal_model.specs.Taking.{Taken, at_once, to_queue, taken_text}
+use Rattle.core_model.specs.journal_model.Items.{Item}
+use Rattle.core_model.specs.journal_model.Items as item
+use Rattle.core_model.specs.journal_model.Subscriptions.{cursor_of, may_load, loaded, advanced}
+use Rattle.core_model.specs.journal_model.Counting.{one_if}
+use Rattle.core_model.specs.journal_model.Methods.{Blocking}
+use Rattle.core_model.specs.journal_model.Taking.{Taken, at_once, to_queue, taken_text}
 use Rattle.settling.specs.Tower.{Below}
 use Rattle.core_model.specs.declared.events.Act.{Act}
 use Rattle.core_model.specs.declared.events.Act.TheVariants as act

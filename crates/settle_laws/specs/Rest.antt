@@ -11,22 +11,22 @@ use Rattle.app_model.specs.App.{App}
 use Rattle.program_steps.specs.declared.outcome.Status.{Status}
 use Rattle.program_steps.specs.declared.step.ProgramStep.{ProgramStep}
 use Rattle.program_steps.specs.Runs.{Outcome, End}
-use Rattle.program_model.specs.Kept.{is_over}
+use Rattle.core_model.specs.program_model.Kept.{is_over}
 use Rattle.client_model.specs.Asking.{can_take}
-use Rattle.history_model.specs.declared.entry.Entry.{Entry}
-use Rattle.history_model.specs.History.{RunKey, run_cmp, Begun, Runs, no_steps, goes_on, status_of, status_in, status_at, held}
-use Rattle.history_model.specs.HistoryLaws.{run_order}
-use Rattle.history_model.specs.RunsLaws as runs
-use Rattle.history_model.specs.Bounds.{IsBegun}
-use Rattle.journal_model.specs.Items.{Item}
-use Rattle.journal_model.specs.Items as item
-use Rattle.journal_model.specs.Subscriptions.{Live, is_live, cursor_of, may_load}
-use Rattle.journal_model.specs.Methods.{Phase as CallPhase, running, Method, Blocking, is_blocked_by, phase_at}
-use Rattle.journal_model.specs.Counting.{is_running as runs_on}
-use Rattle.journal_model.specs.State.{started}
-use Rattle.journal_model.specs.Moments.{run_of}
-use Rattle.journal_model.specs.Fits.{HasUnblocked, Fits}
-use Rattle.journal_model.specs.Taking.{max_text, Taken, at_once, to_queue, taken_text, taken_tree}
+use Rattle.core_model.specs.history_model.declared.entry.Entry.{Entry}
+use Rattle.core_model.specs.history_model.History.{RunKey, run_cmp, Begun, Runs, no_steps, goes_on, status_of, status_in, status_at, held}
+use Rattle.core_model.specs.history_model.HistoryLaws.{run_order}
+use Rattle.core_model.specs.history_model.RunsLaws as runs
+use Rattle.core_model.specs.history_model.Bounds.{IsBegun}
+use Rattle.core_model.specs.journal_model.Items.{Item}
+use Rattle.core_model.specs.journal_model.Items as item
+use Rattle.core_model.specs.journal_model.Subscriptions.{Live, is_live, cursor_of, may_load}
+use Rattle.core_model.specs.journal_model.Methods.{Phase as CallPhase, running, Method, Blocking, is_blocked_by, phase_at}
+use Rattle.core_model.specs.journal_model.Counting.{is_running as runs_on}
+use Rattle.core_model.specs.journal_model.State.{started}
+use Rattle.core_model.specs.journal_model.Moments.{run_of}
+use Rattle.core_model.specs.journal_model.Fits.{HasUnblocked, Fits}
+use Rattle.core_model.specs.journal_model.Taking.{max_text, Taken, at_once, to_queue, taken_text, taken_tree}
 use Rattle.journal_laws.specs.Blocking.{last_from}
 use Rattle.journal_laws.specs.Counts.{none_blocks}
 use Rattle.journal_laws.specs.Tracking.{AreDistinct, tracks}

@@ -8,18 +8,18 @@ use Rattle.map_model.specs.Maps.{at}
 use Rattle.map_model.specs.MapLaws.{eq_by_cmp-self}
 use Rattle.program_steps.specs.declared.step.ProgramStep.{ProgramStep}
 use Rattle.program_steps.specs.declared.outcome.Status.{Status}
-use Rattle.program_model.specs.Kept.{is_over, IsRun}
-use Rattle.program_model.specs.RunLaws.{stepped_less}
-use Rattle.program_model.specs.Steps.{stepped}
+use Rattle.core_model.specs.program_model.Kept.{is_over, IsRun}
+use Rattle.core_model.specs.program_model.RunLaws.{stepped_less}
+use Rattle.core_model.specs.program_model.Steps.{stepped}
 use Rattle.app_model.specs.App.{App}
-use Rattle.journal_model.specs.Methods.{Blocking}
-use Rattle.history_model.specs.declared.entry.Entry.{Entry}
-use Rattle.history_model.specs.declared.entry.Entry.TheVariants as entry
-use Rattle.history_model.specs.HistoryLaws.{run_order, held-append}
-use Rattle.history_model.specs.RunsLaws as runs
-use Rattle.history_model.specs.Bounds.{IsHeld, IsBegun}
-use Rattle.history_model.specs.BegunLaws.{run_where_begun}
-use Rattle.history_model.specs.History.{Programs, RunKey, run_cmp, Begun, Held, later, setting_in, no_steps, goes_on, with_step, with_stepped, reserved, status_in, status_at, begins}
+use Rattle.core_model.specs.journal_model.Methods.{Blocking}
+use Rattle.core_model.specs.history_model.declared.entry.Entry.{Entry}
+use Rattle.core_model.specs.history_model.declared.entry.Entry.TheVariants as entry
+use Rattle.core_model.specs.history_model.HistoryLaws.{run_order, held-append}
+use Rattle.core_model.specs.history_model.RunsLaws as runs
+use Rattle.core_model.specs.history_model.Bounds.{IsHeld, IsBegun}
+use Rattle.core_model.specs.history_model.BegunLaws.{run_where_begun}
+use Rattle.core_model.specs.history_model.History.{Programs, RunKey, run_cmp, Begun, Held, later, setting_in, no_steps, goes_on, with_step, with_stepped, reserved, status_in, status_at, begins}
 use Rattle.core_model.specs.Store.{programs, held_in}
 use Rattle.core_model.specs.Acts.{begin_entry}
 use Rattle.settle_laws.specs.Sums.{sum-put}

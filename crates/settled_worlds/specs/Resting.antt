@@ -1,8 +1,8 @@
 -- What holds of a client and its session in a settled world.
 use Rattle.std.specs.Prelude.{◌≡◌, true, false}
 use Rattle.client_model.specs.Asking.{can_take}
-use Rattle.core_model.specs.Conn.{Conn, state_in, is_full}
-use Rattle.core_model.specs.World.{World}
+use Rattle.headline.specs.core_model.Conn.{Conn, state_in, is_full}
+use Rattle.headline.specs.core_model.World.{World}
 use Rattle.settle_laws.specs.Rest.{IsResting}
 
 -- It is at rest, where the client is there and takes texts, its session refused no version, and its journal has room.

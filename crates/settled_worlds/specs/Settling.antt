@@ -2,15 +2,15 @@
 use Rattle.std.specs.Prelude.{◌≡◌, ℕ, List, true, Option, Some, None, IfSome, refl}
 use Rattle.app_model.specs.App.{App}
 use Rattle.settling.specs.Tower.{often}
-use Rattle.core_model.specs.declared.events.Event.{Event}
-use Rattle.core_model.specs.Store.{programs}
-use Rattle.core_model.specs.Conn.{Conn}
-use Rattle.core_model.specs.World.{World, start, conn_of}
-use Rattle.core_model.specs.Settle.{round, is_stuck, settled}
-use Rattle.core_model.specs.Events.{run, AreEvents}
-use Rattle.stored_values.specs.Values.{HasValues}
-use Rattle.link_laws.specs.Lift.{done_holds}
-use Rattle.link_laws.specs.Links.{IsLinked}
+use Rattle.headline.specs.core_model.declared.events.Event.{Event}
+use Rattle.headline.specs.core_model.Store.{programs}
+use Rattle.headline.specs.core_model.Conn.{Conn}
+use Rattle.headline.specs.core_model.World.{World, start, conn_of}
+use Rattle.headline.specs.core_model.Settle.{round, is_stuck, settled}
+use Rattle.headline.specs.core_model.Events.{run, AreEvents}
+use Rattle.headline.specs.stored_values.Values.{HasValues}
+use Rattle.headline.specs.link_laws.Lift.{done_holds}
+use Rattle.headline.specs.link_laws.Links.{IsLinked}
 use Rattle.headline.specs.Worlds.{IsSound, sound_kept, worlds_hold}
 use Rattle.settle_laws.specs.Settled as settling
 use Rattle.settle_laws.specs.Stuck.{none_of_phase}

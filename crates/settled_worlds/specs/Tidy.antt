@@ -3,22 +3,22 @@ use Rattle.std.specs.Prelude.{◌≡◌, ℕ, List, true, not, Option, Some, Non
 use Rattle.std.proofs.Common.{ap, sym, subst, ◌∙◌}
 use Rattle.std.proofs.lemmas.Bool.{and_parts, eq-eqb}
 use Rattle.app_model.specs.App.{App}
-use Rattle.history_model.specs.declared.entry.Entry.{Entry}
-use Rattle.journal_model.specs.Methods.{running, Blocking, is_blocked_by, phase_at}
-use Rattle.journal_model.specs.State.{State, started}
-use Rattle.journal_model.specs.Moments.{Moment, moment_at}
-use Rattle.journal_model.specs.Kept.{AreKept}
-use Rattle.journal_laws.specs.Blocking.{BlocksLast, refused_blocks, last_from}
-use Rattle.journal_laws.specs.Counts.{none_blocks}
-use Rattle.core_model.specs.Store.{programs, moments}
-use Rattle.core_model.specs.Conn.{Refusal, Conn, state_in}
-use Rattle.core_model.specs.World.{World, conn_of}
-use Rattle.stored_values.specs.Values.{HasValues}
-use Rattle.stored_values.specs.MomentValues.{moments_are_kept}
-use Rattle.link_laws.specs.Lift.{Holds}
-use Rattle.link_laws.specs.Session.{IsRefusal}
-use Rattle.link_laws.specs.Begun.{Runs}
-use Rattle.link_laws.specs.Links.{IsLinked}
+use Rattle.headline.specs.history_model.declared.entry.Entry.{Entry}
+use Rattle.headline.specs.journal_model.Methods.{running, Blocking, is_blocked_by, phase_at}
+use Rattle.headline.specs.journal_model.State.{State, started}
+use Rattle.headline.specs.journal_model.Moments.{Moment, moment_at}
+use Rattle.headline.specs.journal_model.Kept.{AreKept}
+use Rattle.headline.specs.journal_laws.Blocking.{BlocksLast, refused_blocks, last_from}
+use Rattle.headline.specs.journal_laws.Counts.{none_blocks}
+use Rattle.headline.specs.core_model.Store.{programs, moments}
+use Rattle.headline.specs.core_model.Conn.{Refusal, Conn, state_in}
+use Rattle.headline.specs.core_model.World.{World, conn_of}
+use Rattle.headline.specs.stored_values.Values.{HasValues}
+use Rattle.headline.specs.stored_values_for_proofs.MomentValues.{moments_are_kept}
+use Rattle.headline.specs.link_laws.Lift.{Holds}
+use Rattle.headline.specs.link_laws.Session.{IsRefusal}
+use Rattle.headline.specs.link_laws.Begun.{Runs}
+use Rattle.headline.specs.link_laws.Links.{IsLinked}
 use Rattle.headline.specs.Worlds.{IsSound, sound_kept}
 use Rattle.settle_laws.specs.Clients.{AreCalm, IsTidy}
 use Rattle.settle_laws.specs.Calm.{calm_first, calm_last, journal_calm}

@@ -5,12 +5,12 @@
 ghost use Rattle.std.specs.Prelude.{◌≡◌, ℕ, List, true, IfSome};
 ghost use Rattle.app_model.specs.App.{App};
 ghost use Rattle.settling.specs.Tower.{often};
-ghost use Rattle.core_model.specs.declared.events.Event.{Event as AnEvent};
-ghost use Rattle.core_model.specs.Store.{programs};
-ghost use Rattle.core_model.specs.World.{start, conn_of};
-ghost use Rattle.core_model.specs.Settle.{round, is_stuck, settled};
-ghost use Rattle.core_model.specs.Events.{run, AreEvents};
-ghost use Rattle.stored_values.specs.Values.{HasValues};
+ghost use Rattle.headline.specs.core_model.declared.events.Event.{Event as AnEvent};
+ghost use Rattle.headline.specs.core_model.Store.{programs};
+ghost use Rattle.headline.specs.core_model.World.{start, conn_of};
+ghost use Rattle.headline.specs.core_model.Settle.{round, is_stuck, settled};
+ghost use Rattle.headline.specs.core_model.Events.{run, AreEvents};
+ghost use Rattle.headline.specs.stored_values.Values.{HasValues};
 ghost use Rattle.settled_worlds.specs.Resting.{RestsUnless};
 
 /// A settled world that events lead to is stuck: no act of a round is made any more.

@@ -12,26 +12,26 @@ use Rattle.ejson_value.specs.Rows.{Rows}
 use Rattle.ejson_value.specs.declared.change.Publish.{Publish}
 use Rattle.ejson_value.specs.Changes.{news_of}
 use Rattle.app_model.specs.App.{App}
-use Rattle.history_model.specs.declared.entry.Entry.{Entry}
-use Rattle.history_model.specs.History.{held_at}
-use Rattle.history_model.specs.HistoryLaws.{sorted_held}
-use Rattle.publication.specs.Cursors.{ACursors}
-use Rattle.publication.specs.Published.{published}
-use Rattle.live_observer.specs.Observing.{AnObserver, cursors_of, HaveNoLimit}
-use Rattle.store_machine.specs.State.{MachineState, programs, held_after}
-use Rattle.journal_model.specs.Publication.{queried}
-use Rattle.journal_model.specs.Subscriptions.{Live, of_sub, cursor_of}
-use Rattle.journal_model.specs.State.{State}
-use Rattle.journal_model.specs.Moments.{Moment}
-use Rattle.journal_laws.specs.PublicationLaws.{sorted_queried, at_queried}
-use Rattle.session_relation.specs.Resolved.{cursors_in}
-use Rattle.session_relation.specs.Stands.{items_of}
+use Rattle.connection_laws.specs.history_model.declared.entry.Entry.{Entry}
+use Rattle.connection_laws.specs.history_model.History.{held_at}
+use Rattle.connection_laws.specs.history_model.HistoryLaws.{sorted_held}
+use Rattle.connection_laws.specs.publication.Cursors.{ACursors}
+use Rattle.connection_laws.specs.publication.Published.{published}
+use Rattle.connection_laws.specs.live_observer.Observing.{AnObserver, cursors_of, HaveNoLimit}
+use Rattle.connection_laws.specs.store_machine.State.{MachineState, programs, held_after}
+use Rattle.connection_laws.specs.journal_model.Publication.{queried}
+use Rattle.connection_laws.specs.journal_model.Subscriptions.{Live, of_sub, cursor_of}
+use Rattle.connection_laws.specs.journal_model.State.{State}
+use Rattle.connection_laws.specs.journal_model.Moments.{Moment}
+use Rattle.connection_laws.specs.journal_laws.PublicationLaws.{sorted_queried, at_queried}
+use Rattle.connection_laws.specs.session_relation.Resolved.{cursors_in}
+use Rattle.connection_laws.specs.session_relation.Stands.{items_of}
 use Rattle.session_state.specs.declared.subs.Sub.{Sub}
 use Rattle.session_state.specs.Subs.{as_live, live_of, observers_of, observer_at}
-use Rattle.session_laws.specs.Meaning.{IsWatched, AreWatched}
-use Rattle.session_laws.specs.Differences.{sorted_renewed, renewed_at}
-use Rattle.session_laws.specs.Events.{IsFeed, cursors_at}
-use Rattle.core_model.specs.Store.{moments}
+use Rattle.connection_laws.specs.session_laws.Meaning.{IsWatched, AreWatched}
+use Rattle.connection_laws.specs.session_laws.Differences.{sorted_renewed, renewed_at}
+use Rattle.connection_laws.specs.session_laws.Events.{IsFeed, cursors_at}
+use Rattle.connection_laws.specs.core_model.Store.{moments}
 use Rattle.connection_laws.specs.Showing.{leading_feeds}
 use Rattle.connection_laws.specs.Connection.{AConnection, IsConnection}
 use Rattle.shared_news.specs.Leading.{News, IsLead}

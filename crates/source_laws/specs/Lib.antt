@@ -4,3 +4,6 @@ pub mod Found
 pub mod News
 pub mod Alone
 pub mod Texts
+-- what lies below, for the crates above
+pub mod shared_news
+pub mod shared_news_for_proofs

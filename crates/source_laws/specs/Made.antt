@@ -2,17 +2,17 @@
 use Rattle.std.specs.Prelude.{◌≡◌, ℕ, ◌==◌, List, [], ◌∷◌, ◌++◌, length, Bool, true, false, cond, not, Option, None, Some, is_some, Ok, Err}
 use Rattle.std.proofs.Common.{ap}
 use Rattle.app_model.specs.App.{App, method}
-use Rattle.publication.specs.Cursors.{ACursors}
+use Rattle.connection_laws.specs.publication.Cursors.{ACursors}
 use Rattle.ddp_messages.specs.ClientMessage.{ClientMessage}
 use Rattle.ddp_messages.specs.ClientMessage as client
-use Rattle.journal_model.specs.declared.fault.SubFault.TheVariants as fault
-use Rattle.journal_model.specs.Publication.{Making, making}
-use Rattle.journal_model.specs.Items.{Item, name_of, params_of}
-use Rattle.journal_model.specs.Items as item
-use Rattle.journal_model.specs.Subscriptions.{Live, sub_named, is_crowded, loaded, moved, advanced, closed}
-use Rattle.journal_model.specs.State.{State, started, opening, after, state_from, state_of}
-use Rattle.journal_model.specs.Moments.{Moment}
-use Rattle.journal_model.specs.Fits.{seed_or, opened_by, closed_by, item_for, CanFollow, FitsFrom, Fits}
+use Rattle.connection_laws.specs.journal_model.declared.fault.SubFault.TheVariants as fault
+use Rattle.connection_laws.specs.journal_model.Publication.{Making, making}
+use Rattle.connection_laws.specs.journal_model.Items.{Item, name_of, params_of}
+use Rattle.connection_laws.specs.journal_model.Items as item
+use Rattle.connection_laws.specs.journal_model.Subscriptions.{Live, sub_named, is_crowded, loaded, moved, advanced, closed}
+use Rattle.connection_laws.specs.journal_model.State.{State, started, opening, after, state_from, state_of}
+use Rattle.connection_laws.specs.journal_model.Moments.{Moment}
+use Rattle.connection_laws.specs.journal_model.Fits.{seed_or, opened_by, closed_by, item_for, CanFollow, FitsFrom, Fits}
 use Rattle.source_laws.specs.Sources.{IsMadeBy, AreMadeBy}
 
 -- ---- a subscription that is opened

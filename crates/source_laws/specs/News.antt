@@ -7,14 +7,14 @@ use Rattle.ejson_value.specs.declared.value.Value.{Value}
 use Rattle.collection_store.specs.declared.operation.Op.{Op}
 use Rattle.collection_store.specs.Outcome.{Outcome}
 use Rattle.collection_store.specs.Applied.{Applied, applied}
-use Rattle.history_model.specs.declared.entry.Entry.{Entry}
-use Rattle.history_model.specs.declared.entry.Entry.TheVariants as entry
-use Rattle.history_model.specs.Operations.{operation_in}
-use Rattle.history_model.specs.History.{status_in, room_in, is_full, is_full_for_operation}
-use Rattle.store_machine.specs.declared.fault.BeginFault.{BeginFault}
-use Rattle.store_machine.specs.declared.fault.AdminFault.{AdminFault}
-use Rattle.store_machine.specs.declared.fault.AdminFault.TheVariants as admin
-use Rattle.store_machine.specs.State.{MachineState, programs, held_by, with_entry, full_with, begin_answer, is_running, step_state, by_answer, by_operation, admin_answer, BeginGives, AdminGives}
+use Rattle.connection_laws.specs.history_model.declared.entry.Entry.{Entry}
+use Rattle.connection_laws.specs.history_model.declared.entry.Entry.TheVariants as entry
+use Rattle.connection_laws.specs.history_model.Operations.{operation_in}
+use Rattle.connection_laws.specs.history_model.History.{status_in, room_in, is_full, is_full_for_operation}
+use Rattle.connection_laws.specs.store_machine.declared.fault.BeginFault.{BeginFault}
+use Rattle.connection_laws.specs.store_machine.declared.fault.AdminFault.{AdminFault}
+use Rattle.connection_laws.specs.store_machine.declared.fault.AdminFault.TheVariants as admin
+use Rattle.connection_laws.specs.store_machine.State.{MachineState, programs, held_by, with_entry, full_with, begin_answer, is_running, step_state, by_answer, by_operation, admin_answer, BeginGives, AdminGives}
 use Rattle.shared_news.specs.Telling.{ANews, nothing_told, AreTold}
 use Rattle.shared_news.specs.Longer.{told_longer, nothing_told_yet}
 use Rattle.source_laws.specs.Sources.{cursors_at_of}

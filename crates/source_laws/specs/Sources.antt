@@ -2,14 +2,14 @@
 use Rattle.std.specs.Prelude.{◌≡◌, ℕ, List, map, Bool, false, Some, is_some, Ok}
 use Rattle.std.specs.List.{list_any, AllByRecursion}
 use Rattle.app_model.specs.App.{App}
-use Rattle.publication.specs.declared.cursor.Cursor.{Cursor}
-use Rattle.publication.specs.Cursors.{ACursors}
-use Rattle.journal_model.specs.Publication.{making}
-use Rattle.journal_model.specs.Subscriptions.{Live}
-use Rattle.session_relation.specs.Resolved.{cursors_in}
+use Rattle.connection_laws.specs.publication.declared.cursor.Cursor.{Cursor}
+use Rattle.connection_laws.specs.publication.Cursors.{ACursors}
+use Rattle.connection_laws.specs.journal_model.Publication.{making}
+use Rattle.connection_laws.specs.journal_model.Subscriptions.{Live}
+use Rattle.connection_laws.specs.session_relation.Resolved.{cursors_in}
 use Rattle.session_state.specs.declared.subs.Sub.{Sub}
 use Rattle.session_state.specs.Subs.{as_live, live_of, observers_of, observer_at}
-use Rattle.session_laws.specs.Session.{ASession}
+use Rattle.connection_laws.specs.session_laws.Session.{ASession}
 use Rattle.shared_news.specs.Telling.{CursorsAt, IsSource}
 
 -- the cursors that the application's publication of this name makes with the parameters; none where it makes none

@@ -16,24 +16,24 @@ use Rattle.known_texts.specs.Places.{Texts}
 use Rattle.kept_document.specs.Held.{same_value, IsAlone}
 use Rattle.merge_box.specs.State.{KeptDocs}
 use Rattle.merge_box.specs.Words.{NewsList, seen_in}
-use Rattle.publication.specs.Cursors.{ACursors}
-use Rattle.publication.specs.Published.{published}
-use Rattle.store_machine.specs.State.{MachineState, held_after}
-use Rattle.journal_model.specs.Subscriptions.{cursor_of}
-use Rattle.journal_model.specs.State.{State}
-use Rattle.journal_model.specs.Moments.{Moment, rows_of, rows_at}
-use Rattle.journal_model.specs.Shown.{shown_in, calls_of}
-use Rattle.journal_laws.specs.Shows.{calls_show}
-use Rattle.journal_laws.specs.PublicationLaws.{at_queried}
-use Rattle.session_relation.specs.Stands.{items_of}
+use Rattle.connection_laws.specs.publication.Cursors.{ACursors}
+use Rattle.connection_laws.specs.publication.Published.{published}
+use Rattle.connection_laws.specs.store_machine.State.{MachineState, held_after}
+use Rattle.connection_laws.specs.journal_model.Subscriptions.{cursor_of}
+use Rattle.connection_laws.specs.journal_model.State.{State}
+use Rattle.connection_laws.specs.journal_model.Moments.{Moment, rows_of, rows_at}
+use Rattle.connection_laws.specs.journal_model.Shown.{shown_in, calls_of}
+use Rattle.connection_laws.specs.journal_laws.Shows.{calls_show}
+use Rattle.connection_laws.specs.journal_laws.PublicationLaws.{at_queried}
+use Rattle.connection_laws.specs.session_relation.Stands.{items_of}
 use Rattle.session_state.specs.declared.subs.Sub.{Sub}
-use Rattle.session_laws.specs.Session.{ASession}
-use Rattle.session_laws.specs.Meaning.{Means}
-use Rattle.session_laws.specs.Events.{cursors_at}
-use Rattle.session_laws.specs.Loading.{shown_from}
+use Rattle.connection_laws.specs.session_laws.Session.{ASession}
+use Rattle.connection_laws.specs.session_laws.Meaning.{Means}
+use Rattle.connection_laws.specs.session_laws.Events.{cursors_at}
+use Rattle.connection_laws.specs.session_laws.Loading.{shown_from}
 use Rattle.session_parts.specs.Known.{text_about, text_told, IsRight, AreRight, IsLearnt, AreLearnt}
-use Rattle.core_model.specs.Store.{moments}
-use Rattle.link_laws.specs.Moments.{moment_there}
+use Rattle.connection_laws.specs.core_model.Store.{moments}
+use Rattle.connection_laws.specs.link_laws.Moments.{moment_there}
 use Rattle.connection_laws.specs.Showing.{cursor_within}
 use Rattle.connection_laws.specs.Connection.{AConnection, IsConnection}
 use Rattle.shared_news.specs.Known.{IsSeenAs, text_of, IsKnown, AreKnown}

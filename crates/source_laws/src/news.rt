@@ -3,10 +3,10 @@ ghost use Rattle.std.specs.Prelude.{◌≡◌, ℕ, List, ◌++◌, Result, OnEr
 ghost use Rattle.value_model.specs.Val.{Val};
 ghost use Rattle.ejson_value.specs.declared.value.Value.{Value as AValue};
 ghost use Rattle.program_steps.specs.declared.outcome.Status.{Status};
-ghost use Rattle.history_model.specs.declared.entry.Entry.{Entry};
-ghost use Rattle.store_machine.specs.declared.fault.BeginFault.{BeginFault};
-ghost use Rattle.store_machine.specs.declared.fault.AdminFault.{AdminFault};
-ghost use Rattle.store_machine.specs.State.{MachineState, begin_answer, step_state, admin_answer, BeginGives, AdminGives};
+ghost use Rattle.connection_laws.specs.history_model.declared.entry.Entry.{Entry};
+ghost use Rattle.connection_laws.specs.store_machine.declared.fault.BeginFault.{BeginFault};
+ghost use Rattle.connection_laws.specs.store_machine.declared.fault.AdminFault.{AdminFault};
+ghost use Rattle.connection_laws.specs.store_machine.State.{MachineState, begin_answer, step_state, admin_answer, BeginGives, AdminGives};
 ghost use Rattle.shared_news.specs.Telling.{ANews, nothing_told};
 ghost use Rattle.source_laws.specs.News.{AreNews, GoesOn};
 

@@ -18,13 +18,13 @@ use Rattle.collection_store.specs.Outcome.{Outcome}
 use Rattle.collection_store.specs.Applied.{Applied, applied}
 use Rattle.program_steps.specs.declared.step.ProgramStep.{ProgramStep}
 use Rattle.program_steps.specs.declared.step.Program.{Program}
-use Rattle.program_model.specs.Run.{Run, if_over, begun, seed_text, New, new_of, if_ok}
-use Rattle.program_model.specs.Steps.{stepped}
-use Rattle.history_model.specs.declared.entry.Entry.{Entry}
-use Rattle.history_model.specs.declared.entry.Entry.TheVariants as entry
-use Rattle.history_model.specs.Operations.{insert_of, update_by, remove_of, update_in, operation_named, operation_in}
-use Rattle.history_model.specs.HistoryLaws.{run_order}
-use Rattle.history_model.specs.History.{Programs, RunKey, run_cmp, Begun, Runs, Held, nothing, later, room_in, setting_in, steps_of, with_begin, with_stepped, no_steps, with_step, with_answer, with_operation, carried, held_from, held}
+use Rattle.core_model.specs.program_model.Run.{Run, if_over, begun, seed_text, New, new_of, if_ok}
+use Rattle.core_model.specs.program_model.Steps.{stepped}
+use Rattle.core_model.specs.history_model.declared.entry.Entry.{Entry}
+use Rattle.core_model.specs.history_model.declared.entry.Entry.TheVariants as entry
+use Rattle.core_model.specs.history_model.Operations.{insert_of, update_by, remove_of, update_in, operation_named, operation_in}
+use Rattle.core_model.specs.history_model.HistoryLaws.{run_order}
+use Rattle.core_model.specs.history_model.History.{Programs, RunKey, run_cmp, Begun, Runs, Held, nothing, later, room_in, setting_in, steps_of, with_begin, with_stepped, no_steps, with_step, with_answer, with_operation, carried, held_from, held}
 use Rattle.stored_values.specs.ModifierValues.{IsModification}
 use Rattle.stored_values.specs.Values.{AreSteps, HasValues, IsEntry, AreEntries, IsSound, IsBegun, IsHeld}
 use Rattle.stored_values.specs.OperationValues.{IsOperation, applied_is}

@@ -7,3 +7,5 @@ pub mod HistoryValues
 pub mod MomentValues
 pub mod ReadValues
 pub mod TakenValues
+-- what lies below, for the crates above
+pub mod core_model

@@ -17,15 +17,15 @@ use Rattle.collection_store.specs.Limits.{document, max_document_size, max_docum
 use Rattle.program_steps.specs.declared.outcome.Status.{Status}
 use Rattle.program_steps.specs.Runs.{Outcome, End}
 use Rattle.app_model.specs.App.{App}
-use Rattle.history_model.specs.declared.entry.Entry.{Entry}
-use Rattle.history_model.specs.History.{run_cmp, Begun, status_of, held_at}
-use Rattle.history_model.specs.Bounds.{AreStored}
-use Rattle.history_model.specs.Bounds as bounds
-use Rattle.history_model.specs.RunsLaws as runs
-use Rattle.history_model.specs.StoredLaws.{stored_held}
-use Rattle.journal_model.specs.Moments.{Moment, moment_at}
-use Rattle.journal_model.specs.Kept.{HasResult, IsKept, AreKept}
-use Rattle.journal_model.specs.Kept as kept
+use Rattle.core_model.specs.history_model.declared.entry.Entry.{Entry}
+use Rattle.core_model.specs.history_model.History.{run_cmp, Begun, status_of, held_at}
+use Rattle.core_model.specs.history_model.Bounds.{AreStored}
+use Rattle.core_model.specs.history_model.Bounds as bounds
+use Rattle.core_model.specs.history_model.RunsLaws as runs
+use Rattle.core_model.specs.history_model_for_proofs.StoredLaws.{stored_held}
+use Rattle.core_model.specs.journal_model.Moments.{Moment, moment_at}
+use Rattle.core_model.specs.journal_model.Kept.{HasResult, IsKept, AreKept}
+use Rattle.core_model.specs.journal_model.Kept as kept
 use Rattle.core_model.specs.Store.{programs, moments}
 use Rattle.core_model.specs.StoreLaws.{moments_at, moments_past}
 use Rattle.stored_values.specs.Values.{HasValues, AreEntries, AreDocuments, IsBegun}

@@ -27,7 +27,7 @@ use Rattle.collection_store.specs.declared.operation.Op.TheVariants as operation
 use Rattle.collection_store.specs.Outcome.{Outcome}
 use Rattle.collection_store.specs.Limits.{document, is_too_large, is_full, max_documents, max_bytes, bytes_of, new_bytes}
 use Rattle.collection_store.specs.Applied.{Row, Plan, Applied, is_listed, after, done, matching, chosen, insertion, insert_plan, update_plan, or_refused, change_if_differs, change_to, updated, with_change, all_updated, remove_plan, removal, plan_for, if_room, applied, number_of}
-use Rattle.journal_model.specs.Kept.{IsResult}
+use Rattle.core_model.specs.journal_model.Kept.{IsResult}
 use Rattle.stored_values.specs.ModifierValues.{IsModification, modified_document}
 use Rattle.stored_values.specs.Values.{AreDocuments, AreSound}
 

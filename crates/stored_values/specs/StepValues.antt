@@ -30,12 +30,12 @@ use Rattle.program_steps.specs.declared.rules.Action.TheVariants as action
 use Rattle.program_steps.specs.declared.step.ProgramStep.{ProgramStep}
 use Rattle.program_steps.specs.declared.step.ProgramStep.TheVariants as step
 use Rattle.program_steps.specs.Runs.{done as ended_with}
-use Rattle.program_model.specs.declared.verdict.Verdict.{Verdict}
-use Rattle.program_model.specs.declared.verdict.Verdict.TheVariants as verdict
-use Rattle.program_model.specs.Guarded.{removes, judged, or_none, id_of}
-use Rattle.program_model.specs.Run.{Run, if_over, gone_on, ended, New, new_by, new_of, next_id, is_id, inserted, if_ok, filled_in, selector_in, modifier_in, new_in}
-use Rattle.program_model.specs.Steps.{Setting, Stepped, by_answer, if_made, if_found, Writing, insert_writing, writing, writing_in, update_of, operation_of, by_verdict, done_step, stepped_by, stepped}
-use Rattle.journal_model.specs.Kept.{IsResult}
+use Rattle.core_model.specs.program_model.declared.verdict.Verdict.{Verdict}
+use Rattle.core_model.specs.program_model.declared.verdict.Verdict.TheVariants as verdict
+use Rattle.core_model.specs.program_model.Guarded.{removes, judged, or_none, id_of}
+use Rattle.core_model.specs.program_model.Run.{Run, if_over, gone_on, ended, New, new_by, new_of, next_id, is_id, inserted, if_ok, filled_in, selector_in, modifier_in, new_in}
+use Rattle.core_model.specs.program_model.Steps.{Setting, Stepped, by_answer, if_made, if_found, Writing, insert_writing, writing, writing_in, update_of, operation_of, by_verdict, done_step, stepped_by, stepped}
+use Rattle.core_model.specs.journal_model.Kept.{IsResult}
 use Rattle.stored_values.specs.ModifierValues.{IsModification, read_modification}
 use Rattle.stored_values.specs.TemplateValues.{filled_value}
 use Rattle.stored_values.specs.Values.{IsStep, AreSteps, AreSound, IsSound}

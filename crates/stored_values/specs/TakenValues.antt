@@ -11,10 +11,10 @@ use Rattle.ddp_messages.specs.Forms.{value_of}
 use Rattle.ddp_messages.specs.ClientMessage.{ClientMessage, client_reading}
 use Rattle.ddp_messages.specs.ClientMessage as client
 use Rattle.text_model.specs.ReadTreeLaws.{read_rises}
-use Rattle.journal_model.specs.Items.{Item}
-use Rattle.journal_model.specs.Items as item
-use Rattle.journal_model.specs.Answering.{is_at_once}
-use Rattle.journal_model.specs.Taking.{max_text, Taken, at_once, to_queue, offending_of, refused_for, connected_by, taken_as, taken_named, taken_tree, taken_text}
+use Rattle.core_model.specs.journal_model.Items.{Item}
+use Rattle.core_model.specs.journal_model.Items as item
+use Rattle.core_model.specs.journal_model.Answering.{is_at_once}
+use Rattle.core_model.specs.journal_model.Taking.{max_text, Taken, at_once, to_queue, offending_of, refused_for, connected_by, taken_as, taken_named, taken_tree, taken_text}
 use Rattle.stored_values.specs.ReadValues.{IsRead, value_is, IsFine, message_is}
 
 -- it waits until it is handled

@@ -8,11 +8,11 @@ use Rattle.collection_store.specs.Limits.{max_documents}
 use Rattle.program_steps.specs.declared.step.ProgramStep.{ProgramStep}
 use Rattle.program_steps.specs.declared.step.ProgramStep.TheVariants as step
 use Rattle.program_steps.specs.declared.step.Program.{Program}
-use Rattle.program_model.specs.Run.{Run}
-use Rattle.history_model.specs.declared.entry.Entry.{Entry}
-use Rattle.history_model.specs.declared.entry.Entry.TheVariants as entry
-use Rattle.history_model.specs.History.{Programs, RunKey, run_cmp, Begun, Held}
-use Rattle.journal_model.specs.Kept.{HasResult}
+use Rattle.core_model.specs.program_model.Run.{Run}
+use Rattle.core_model.specs.history_model.declared.entry.Entry.{Entry}
+use Rattle.core_model.specs.history_model.declared.entry.Entry.TheVariants as entry
+use Rattle.core_model.specs.history_model.History.{Programs, RunKey, run_cmp, Begun, Held}
+use Rattle.core_model.specs.journal_model.Kept.{HasResult}
 
 -- ---- what is given
 

@@ -26,17 +26,17 @@ use Rattle.text_model.specs.MessageLaws.{client_text_back}
 use Rattle.client_model.specs.Client.{client_text}
 use Rattle.app_model.specs.App.{App, method}
 use Rattle.client_model.specs.Taking.{number_of}
-use Rattle.journal_model.specs.declared.fault.SubFault.TheVariants as fault
-use Rattle.journal_model.specs.Publication.{Making, making}
-use Rattle.journal_model.specs.Items.{Item, id_of, handled_by, handled}
-use Rattle.journal_model.specs.Items as item
-use Rattle.journal_model.specs.Subscriptions.{sub_named, is_crowded}
-use Rattle.journal_model.specs.State.{State, started, after}
-use Rattle.journal_model.specs.Moments.{Moment}
-use Rattle.journal_model.specs.Taking.{max_text, Taken, at_once, to_queue, taken_as, taken_named, taken_tree, taken_text, connects, message_of, is_connected_by, queued_from}
-use Rattle.journal_model.specs.Answering.{Answers}
-use Rattle.journal_model.specs.Fits.{seed_or, opened_by, closed_by, item_for, CanFollow, FitsFrom, Fits}
-use Rattle.journal_model.specs.Counting.{one_if, method_by, methods_handled}
+use Rattle.link_laws.specs.journal_model.declared.fault.SubFault.TheVariants as fault
+use Rattle.link_laws.specs.journal_model.Publication.{Making, making}
+use Rattle.link_laws.specs.journal_model.Items.{Item, id_of, handled_by, handled}
+use Rattle.link_laws.specs.journal_model.Items as item
+use Rattle.link_laws.specs.journal_model.Subscriptions.{sub_named, is_crowded}
+use Rattle.link_laws.specs.journal_model.State.{State, started, after}
+use Rattle.link_laws.specs.journal_model.Moments.{Moment}
+use Rattle.link_laws.specs.journal_model.Taking.{max_text, Taken, at_once, to_queue, taken_as, taken_named, taken_tree, taken_text, connects, message_of, is_connected_by, queued_from}
+use Rattle.link_laws.specs.journal_model.Answering.{Answers}
+use Rattle.link_laws.specs.journal_model.Fits.{seed_or, opened_by, closed_by, item_for, CanFollow, FitsFrom, Fits}
+use Rattle.link_laws.specs.journal_model.Counting.{one_if, method_by, methods_handled}
 use Rattle.taking_laws.specs.Known.{AreAsked, method_in, methods_in, HasAsks}
 use Rattle.taking_laws.specs.Calls.{many, number_is}
 

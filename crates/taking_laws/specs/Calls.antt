@@ -15,8 +15,8 @@ use Rattle.ddp_messages.specs.ServerMessage as server
 use Rattle.client_model.specs.Client.{Call, Client}
 use Rattle.client_model.specs.Taking.{number_of, call_at, call_of, behind, result_refusal, early_refusal, late_refusal, awaits_update, updated_refusal, call_changed, number_changed, all_changed, outcome_by, with_outcome, with_update, calls_in}
 use Rattle.client_model.specs.CallLaws.{others_stay}
-use Rattle.journal_model.specs.Counting.{one_if, result_in, updated_in, results, updateds}
-use Rattle.journal_laws.specs.Counts.{total-append}
+use Rattle.link_laws.specs.journal_model.Counting.{one_if, result_in, updated_in, results, updateds}
+use Rattle.link_laws.specs.journal_laws.Counts.{total-append}
 use Rattle.taking_laws.specs.Fitting.{IsPlain}
 
 -- ---- numbers

@@ -21,18 +21,18 @@ use Rattle.ddp_messages.specs.ServerMessage as server
 use Rattle.program_steps.specs.Runs.{Outcome, done, failed, End}
 use Rattle.app_model.specs.App.{App}
 use Rattle.client_model.specs.Taking.{early_refusal, session_in}
-use Rattle.journal_model.specs.Items.{Item, id_of}
-use Rattle.journal_model.specs.Items as item
-use Rattle.journal_model.specs.Subscriptions.{ids_of}
-use Rattle.journal_model.specs.Methods.{id_at}
-use Rattle.journal_model.specs.State.{State, after}
-use Rattle.journal_model.specs.Moments.{Moment, moment_at, end_at}
-use Rattle.journal_model.specs.Shown.{Calls, call_of, merge_of, difference}
-use Rattle.journal_model.specs.Data.{data_in, data_of}
-use Rattle.journal_model.specs.Out.{session_name, about, ready, updated, result_by, results_by, history_full, refused_with, all_refused_with, own_messages, told_after, words_of, messages_of, out_from, out}
-use Rattle.journal_model.specs.Fits.{IsRefusedAt, CanFollow, FitsFrom, Fits}
-use Rattle.journal_laws.specs.Shows.{merge_is}
-use Rattle.journal_laws.specs.Taken.{said_of_step, data_of-about, all_taken-append, difference_taken}
+use Rattle.link_laws.specs.journal_model.Items.{Item, id_of}
+use Rattle.link_laws.specs.journal_model.Items as item
+use Rattle.link_laws.specs.journal_model.Subscriptions.{ids_of}
+use Rattle.link_laws.specs.journal_model.Methods.{id_at}
+use Rattle.link_laws.specs.journal_model.State.{State, after}
+use Rattle.link_laws.specs.journal_model.Moments.{Moment, moment_at, end_at}
+use Rattle.link_laws.specs.journal_model.Shown.{Calls, call_of, merge_of, difference}
+use Rattle.link_laws.specs.journal_model.Data.{data_in, data_of}
+use Rattle.link_laws.specs.journal_model.Out.{session_name, about, ready, updated, result_by, results_by, history_full, refused_with, all_refused_with, own_messages, told_after, words_of, messages_of, out_from, out}
+use Rattle.link_laws.specs.journal_model.Fits.{IsRefusedAt, CanFollow, FitsFrom, Fits}
+use Rattle.link_laws.specs.journal_laws.Shows.{merge_is}
+use Rattle.link_laws.specs.journal_laws.Taken.{said_of_step, data_of-about, all_taken-append, difference_taken}
 
 -- ---- messages about documents
 

@@ -8,11 +8,11 @@ use Rattle.ddp_messages.specs.ClientMessage.{ClientMessage}
 use Rattle.ddp_messages.specs.ClientMessage as client
 use Rattle.client_model.specs.Client.{Client}
 use Rattle.client_model.specs.Taking.{number_of}
-use Rattle.journal_model.specs.Texts.{messages_in}
-use Rattle.journal_model.specs.Items.{Item}
-use Rattle.journal_model.specs.Taking.{queued_from}
-use Rattle.journal_model.specs.Data.{data_of}
-use Rattle.journal_model.specs.Counting.{one_if, methods_handled}
+use Rattle.link_laws.specs.journal_model.Texts.{messages_in}
+use Rattle.link_laws.specs.journal_model.Items.{Item}
+use Rattle.link_laws.specs.journal_model.Taking.{queued_from}
+use Rattle.link_laws.specs.journal_model.Data.{data_of}
+use Rattle.link_laws.specs.journal_model.Counting.{one_if, methods_handled}
 use Rattle.taking_laws.specs.Fitting.{session_after}
 use Rattle.taking_laws.specs.Calls.{AreCounted}
 

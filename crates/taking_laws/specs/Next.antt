@@ -14,19 +14,19 @@ use Rattle.ddp_messages.specs.Answers.{server_answer}
 use Rattle.ddp_messages.specs.ServerMessage.{ServerMessage}
 use Rattle.ddp_messages.specs.ServerMessage as server
 use Rattle.app_model.specs.App.{App}
-use Rattle.history_model.specs.declared.entry.Entry.{Entry}
+use Rattle.link_laws.specs.history_model.declared.entry.Entry.{Entry}
 use Rattle.client_model.specs.Client.{Call}
 use Rattle.client_model.specs.Taking.{max_server_text, number_of, call_at, call_of, result_refusal, awaits_update, updated_refusal, early_refusal, late_refusal, message_refusal, session_in, documents_in, calls_in, breaks, told_message, told_unless, told_answer, told_text}
-use Rattle.journal_model.specs.Texts.{message_in, messages_in}
-use Rattle.journal_model.specs.Data.{data_in, data_of}
-use Rattle.journal_model.specs.Out.{out, out_texts}
-use Rattle.journal_model.specs.Kept.{AreKept}
-use Rattle.journal_model.specs.Counting.{one_if, result_in, updated_in, results, updateds}
-use Rattle.journal_laws.specs.Readable.{IsRead, AreRead, out_reads}
-use Rattle.journal_laws.specs.Taken.{data_of-append, all_taken-append}
-use Rattle.journal_laws.specs.Counts.{total-append, methods_are_answered}
-use Rattle.core_model.specs.Store.{moments}
-use Rattle.core_model.specs.Conn.{Conn}
+use Rattle.link_laws.specs.journal_model.Texts.{message_in, messages_in}
+use Rattle.link_laws.specs.journal_model.Data.{data_in, data_of}
+use Rattle.link_laws.specs.journal_model.Out.{out, out_texts}
+use Rattle.link_laws.specs.journal_model.Kept.{AreKept}
+use Rattle.link_laws.specs.journal_model.Counting.{one_if, result_in, updated_in, results, updateds}
+use Rattle.link_laws.specs.journal_laws_for_proofs.Readable.{IsRead, AreRead, out_reads}
+use Rattle.link_laws.specs.journal_laws.Taken.{data_of-append, all_taken-append}
+use Rattle.link_laws.specs.journal_laws.Counts.{total-append, methods_are_answered}
+use Rattle.link_laws.specs.core_model.Store.{moments}
+use Rattle.link_laws.specs.core_model.Conn.{Conn}
 use Rattle.link_laws.specs.Links.{IsLinked}
 use Rattle.taking_laws.specs.Fitting.{late_by, refusal_by, IsPlain, session_after, accepts_next, rows_told, Accepts, out_accepted}
 use Rattle.taking_laws.specs.Known.{IsKnown, AreAsked}

@@ -1,0 +1,2 @@
+-- What proofs of crates above name of `client_core`.
+pub use Rattle.client_core.specs.contracts

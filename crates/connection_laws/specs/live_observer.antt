@@ -1,0 +1,2 @@
+-- What crates above name of `live_observer`.
+pub use Rattle.session_laws.specs.live_observer.Observing

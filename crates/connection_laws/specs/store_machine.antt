@@ -1,0 +1,3 @@
+-- What crates above name of `store_machine`.
+pub use Rattle.store_machine.specs.State
+pub use Rattle.store_machine.specs.declared

@@ -1,0 +1,2 @@
+-- What proofs of crates above name of `headline`.
+pub use Rattle.headline.specs.Worlds

@@ -1,0 +1,2 @@
+-- What crates above name of `journal_laws`.
+pub use Rattle.headline.specs.journal_laws.Counts

@@ -1,0 +1,2 @@
+-- What crates above name of `stored_values`.
+pub use Rattle.headline.specs.stored_values.Values

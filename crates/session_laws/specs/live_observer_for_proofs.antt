@@ -1,0 +1,2 @@
+-- What proofs of crates above name of `live_observer`.
+pub use Rattle.live_observer.specs.contracts

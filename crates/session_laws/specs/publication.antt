@@ -1,0 +1,3 @@
+-- What crates above name of `publication`.
+pub use Rattle.publication.specs.Cursors
+pub use Rattle.publication.specs.Published

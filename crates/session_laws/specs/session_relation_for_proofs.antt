@@ -1,0 +1,2 @@
+-- What proofs of crates above name of `session_relation`.
+pub use Rattle.session_relation.specs.FiredLaws

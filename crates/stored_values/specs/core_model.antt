@@ -1,0 +1,2 @@
+-- What crates above name of `core_model`.
+pub use Rattle.core_model.specs.Store
