@@ -4,6 +4,7 @@ use Rattle.duct.specs.declared.link.Polled.{Polled}
 use Rattle.duct.specs.declared.link.Polled.TheVariants as Answer
 use Rattle.duct.specs.declared.link.SendFault.{SendFault}
 use Rattle.duct.specs.declared.link.SendFault.TheVariants as Refused
+use Rattle.duct.specs.Calls.{Call, heard, said, handed_back}
 use Rattle.tungstenite.specs.Connection.{Connection, write_step}
 use Rattle.tungstenite.specs.Content.{text}
 use Rattle.tungstenite.specs.Heads.{Serves, Connected}
@@ -40,6 +41,7 @@ module _ {S R : Type 0} where
   Settles faults before On.Nothing answer after = (answer ≡ Answer.Quiet) × (after ≡ before)
   Settles faults before On.Memory answer after = (answer ≡ Answer.Memory) × (after ≡ before)
   Settles faults before On.Lost answer after = (answer ≡ Answer.Memory) × (after ≡ Failed)
+  Settles faults before (On.Faulty code) answer after = (answer ≡ fault_answer faults) × (after ≡ Failed)
   Settles faults before On.Broken answer after = (answer ≡ fault_answer faults) × (after ≡ Failed)
   Settles faults before _ answer after = (answer ≡ Answer.Closed) × (after ≡ Closed)
 
@@ -95,3 +97,10 @@ module _ {S R : Type 0} where
   Refuses contents Failed Refused.Failed after = after ≡ Failed
   Refuses contents Failed Refused.Memory after = after ≡ Failed
   Refuses contents _ _ after = ⊥
+
+module _ {S R : Type 0} where
+  -- what one call makes of a link
+  abbrev pub Makes : (S → Option (List ℕ)) → (S → Option (List ℕ)) → ℕ → State S R → Call → State S R → Type 0
+  Makes remaining contents faults before (heard answer) after = Listens remaining faults before answer after
+  Makes remaining contents faults before (said bytes) after = Takes contents before bytes after
+  Makes remaining contents faults before (handed_back bytes fault) after = Refuses contents before fault after

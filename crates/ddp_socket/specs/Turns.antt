@@ -9,7 +9,10 @@ use Rattle.tungstenite.specs.declared.message.Message.{Message}
 use Rattle.tungstenite.specs.declared.error.Error.{Error}
 use Rattle.tungstenite.specs.declared.error.Error.TheVariants as Cause
 use Rattle.ddp_socket.specs.declared.turn.Turn.{Turn}
-use Rattle.ddp_socket.specs.declared.turn.Turn.TheVariants.{Text, Nothing, Binary, Closed, Memory, Lost, Broken}
+use Rattle.ddp_socket.specs.declared.turn.Turn.TheVariants.{Text, Nothing, Binary, Closed, Memory, Lost, Faulty, Broken}
+use Rattle.websocket.specs.declared.error.ProtocolError.{ProtocolError}
+use Rattle.websocket.specs.declared.error.ProtocolError.TheVariants.{ResetWithoutClosingHandshake}
+use Rattle.websocket.specs.declared.protocol.frame.coding.CloseCode.TheVariants as code
 
 -- a text is a message, and is lost only for want of memory; what is neither text, bytes nor a close is nothing to a link
 abbrev pub MessageIs : Content → Turn → Type 0
@@ -23,10 +26,18 @@ abbrev pub stream_turn : ErrorKind → Turn
 stream_turn WouldBlock = Nothing
 stream_turn _ = Broken
 
+-- a peer that is gone isn't told anything
+abbrev pub protocol_turn : ProtocolError → Turn
+protocol_turn ResetWithoutClosingHandshake = Broken
+protocol_turn _ = Faulty code.Protocol
+
 abbrev pub fault_turn : Error → Turn
 fault_turn Cause.ConnectionClosed = Closed
 fault_turn Cause.OutOfMemory = Memory
 fault_turn (Cause.Io cause) = stream_turn (error_kind cause)
+fault_turn (Cause.Protocol cause) = protocol_turn cause
+fault_turn Cause.Utf8 = Faulty code.Invalid
+fault_turn (Cause.Capacity cause) = Faulty code.Size
 fault_turn _ = Broken
 
 abbrev pub TurnIs : Result Message Error → Turn → Type 0

@@ -3,22 +3,27 @@ ghost use Rattle.duct.specs.Told.{CountsFaults};
 ghost use Rattle.duct.specs.Polls.{poll_failed};
 ghost use Rattle.duct.specs.Sends.{send_failed};
 ghost use Rattle.ddp_socket.specs.Turns.{Hears};
-ghost use Rattle.ddp_socket.specs.Links.{fault_answer, fault_refusal, IsConnected, Settles, Greets, Listens, Says, Takes, Refuses};
+ghost use Rattle.ddp_socket.specs.Links.{fault_answer, fault_refusal, IsConnected, Settles, Greets, Listens, Says, Takes, Refuses, Makes};
 ghost use Rattle.ddp_socket.specs.declared.link.State.TheVariants as At;
 
+use crate::answers::NO_PLACE;
 use crate::socket::{Socket, ask, part, serve};
 use crate::turn::{Said, Turn, error_turn, message_turn};
+use crate::waking::{SocketBell, WakingStream};
 use duct::{Link, NetFault, Polled, SendFault};
-use ejson_value::Text;
+use ejson_value::{Mem, Text};
 use std::alloc::Global;
 use std::io::{Read, Write};
 use std::mem;
 use std::random::RandomSource;
 use tungstenite::{CloseCode, Message};
 
+// How many bytes of a request are read that isn't taken.
+const REQUEST: usize = 4096;
+
 // How far a link is.
 #[derive(Drop)]
-pub enum State<S, R> {
+pub enum State<S: Write + Drop, R> {
     // The server's handshake comes with the next poll.
     Fresh(S),
     Open(Socket<S, R>),
@@ -27,11 +32,12 @@ pub enum State<S, R> {
 }
 
 /// A link over a stream that carries WebSocket, one message of DDP a text frame. A link that is let go while it is open
-/// tells its peer so.
+/// tells its peer so, and one that was never polled says that no place is free.
 pub struct SocketLink<S: Read + Write + Drop, R: RandomSource + Drop> {
     alloc: Global,
     state: State<S, R>,
     faults: u64,
+    bell: SocketBell,
 }
 
 /// A server's link. Its first `poll` does the handshake.
@@ -46,7 +52,24 @@ pub fn accept<S: Read + Write + Drop, R: RandomSource + Drop>(
         alloc,
         state: State::Fresh(stream),
         faults: 0,
+        bell: SocketBell::silent(),
     }
+}
+
+// A server's link over a socket, whose bell ends the wait of a poll.
+pub(crate) fn accept_waking<R: RandomSource + Drop>(
+    alloc: Global,
+    stream: WakingStream,
+) -> SocketLink<WakingStream, R>
+    ensures fresh { result.state ≡ At.Fresh stream }
+    ensures faults { result.faults ≡ 0 }
+{
+    let bell = stream.bell();
+    let mut link = accept(alloc, stream);
+    if let Ok(bell) = bell {
+        link.bell = bell;
+    }
+    link
 }
 
 // A link of a connection that can't be used.
@@ -60,6 +83,7 @@ pub(crate) fn broken<S: Read + Write + Drop, R: RandomSource + Drop>(
         alloc,
         state: State::Failed,
         faults: 0,
+        bell: SocketBell::silent(),
     }
 }
 
@@ -77,6 +101,7 @@ pub fn connect<S: Read + Write + Drop, R: RandomSource + Drop>(
             alloc,
             state: State::Open(socket),
             faults: 0,
+            bell: SocketBell::silent(),
         }),
         Err(fault) => Err(fault),
     }
@@ -219,15 +244,23 @@ impl<S: Read + Write + Drop, R: RandomSource + Drop> SocketLink<S, R> {
                 self.state = State::Failed;
                 Polled::Memory
             }
+            Turn::Faulty(code) => {
+                self.close(code);
+                self.fail()
+            }
             Turn::Broken => self.fail(),
         }
     }
 }
 
 impl<S: Read + Write + Drop, R: RandomSource + Drop> Link for SocketLink<S, R> {
+    type Bell = SocketBell;
+
     ghost told = { λ _. None };
 
     ghost faults = { λ l. l.faults };
+
+    ghost steps = { λ a call b. Makes S.remaining S.contents a.faults a.state call b.state };
 
     fn poll(&mut self) -> Polled
         ensures faults { CountsFaults (poll_failed result) self.old.faults self.new.faults }
@@ -256,6 +289,10 @@ impl<S: Read + Write + Drop, R: RandomSource + Drop> Link for SocketLink<S, R> {
             Err(fault) => Err((text, fault)),
         }
     }
+
+    fn bell(&self) -> Result<SocketBell, Mem> {
+        self.bell.copy()
+    }
 }
 
 impl<S: Read + Write + Drop, R: RandomSource + Drop> Drop for SocketLink<S, R> {
@@ -264,9 +301,21 @@ impl<S: Read + Write + Drop, R: RandomSource + Drop> Drop for SocketLink<S, R> {
             alloc: _,
             state,
             faults: _,
+            bell: _,
         } = self;
-        if let State::Open(mut socket) = state {
-            part(&mut socket, CloseCode::Normal);
+        match state {
+            State::Open(mut socket) => part(&mut socket, CloseCode::Normal),
+            State::Fresh(stream) => turn_away(stream),
+            State::Closed | State::Failed => {}
         }
     }
+}
+
+// Tells a peer whose request nobody will take. What it has sent is read first: a connection that ends with bytes unread
+// may take back what was written.
+fn turn_away<S: Read + Write + Drop>(stream: S) {
+    let mut stream = stream;
+    let mut request = [0; REQUEST];
+    let _ = stream.read(&mut request);
+    let _ = stream.write(NO_PLACE);
 }

@@ -2,21 +2,28 @@ ghost use Rattle.std.specs.Prelude.{◌≡◌};
 ghost use Rattle.duct.specs.Told.{CountsFaults};
 ghost use Rattle.duct.specs.Networks.{network_failed};
 
-use crate::link::{SocketLink, accept, broken, connect};
+use crate::link::{SocketLink, accept_waking, broken, connect};
+use crate::waking::WakingStream;
 use duct::{NetFault, Network};
 use std::alloc::Global;
-use std::io;
 use std::net::{Ipv4Addr, Net, TcpListener, TcpStream};
 use std::random::RandomSource;
-use std::time::Duration;
-
-// How many milliseconds a read or a write may wait.
-const WAIT: u64 = 20;
+use std::time::{Clock, Duration};
+use std::{io, thread};
 
 // How often a connection that broke off before it was accepted is passed over in one call.
 const PASSED_OVER: u32 = 1000;
 
-/// The links of 127.0.0.1. `rt` opens the sockets, and gives the masks of clients.
+// How often one call waits for descriptors, buffers or memory of the system, and how many milliseconds each time.
+const PAUSES: u32 = 100;
+
+const PAUSE: u64 = 20;
+
+// What the system says that is short of these, by Linux's numbers: ENOMEM, ENFILE, EMFILE, ENOBUFS.
+const SHORT: [i32; 4] = [12, 23, 24, 105];
+
+/// The links of 127.0.0.1. `rt` opens the sockets, gives the masks of clients, and waits where the system has no descriptor
+/// for a connection.
 #[derive(Drop)]
 pub struct SocketNetwork<R> {
     rt: R,
@@ -26,29 +33,48 @@ pub struct SocketNetwork<R> {
     faults: u64,
 }
 
-// The stream waits at most so long in a call, and sends each text at once.
-fn set_up(stream: &TcpStream) -> io::Result<()> {
-    let wait = Some(Duration::from_millis(WAIT));
-    stream.set_read_timeout(wait)?;
-    stream.set_write_timeout(wait)?;
-    stream.set_nodelay(true)
+// Whether an accept failed for want of what others may give back.
+fn is_short(error: &io::Error) -> bool {
+    match error.raw_os_error() {
+        Some(number) => SHORT.contains(&number),
+        None => false,
+    }
 }
 
-// The next connection.
-fn next(listener: &TcpListener) -> io::Result<TcpStream> {
+// Whether an accept failed with the connection alone.
+fn is_passed_over(error: &io::Error) -> bool {
+    matches!(
+        error.kind(),
+        io::ErrorKind::Interrupted | io::ErrorKind::ConnectionAborted
+    )
+}
+
+// The next connection that hasn't broken off.
+fn next_whole(listener: &TcpListener) -> io::Result<TcpStream> {
     for _ in 0..PASSED_OVER {
         match listener.accept() {
             Ok((stream, _from)) => return Ok(stream),
-            Err(error) => match error.kind() {
-                io::ErrorKind::Interrupted | io::ErrorKind::ConnectionAborted => {}
-                _ => return Err(error),
-            },
+            Err(error) if is_passed_over(&error) => {}
+            Err(error) => return Err(error),
         }
     }
     Err(io::Error::from(io::ErrorKind::ConnectionAborted))
 }
 
-impl<R: Net<Listener = TcpListener, Stream = TcpStream> + RandomSource + Copy> SocketNetwork<R> {
+// The next connection, also where the system is short of something for a while.
+fn next<R: Clock>(rt: &R, listener: &TcpListener) -> io::Result<TcpStream> {
+    for _ in 0..PAUSES {
+        match next_whole(listener) {
+            Err(error) if is_short(&error) => thread::sleep(rt, Duration::from_millis(PAUSE)),
+            done => return done,
+        }
+    }
+    next_whole(listener)
+}
+
+impl<
+    R: Net<Listener = TcpListener, Stream = TcpStream> + RandomSource + Clock + Copy,
+> SocketNetwork<R> {
     /// A network that has given no link yet.
     pub fn new(rt: R, alloc: Global) -> SocketNetwork<R>
         ensures given { result.given ≡ 0 }
@@ -77,16 +103,16 @@ impl<R: Net<Listener = TcpListener, Stream = TcpStream> + RandomSource + Copy> S
         }
     }
 
-    fn reach(&self, port: u16) -> io::Result<TcpStream> {
+    fn reach(&self, port: u16) -> io::Result<WakingStream> {
         let stream = TcpStream::connect(&self.rt, (Ipv4Addr::LOCALHOST, port))?;
-        set_up(&stream)?;
-        Ok(stream)
+        WakingStream::new(&self.rt, self.alloc, stream)
     }
 }
 
-impl<R: Net<Listener = TcpListener, Stream = TcpStream> + RandomSource + Copy + Send> Network
-    for SocketNetwork<R> {
-    type Link = SocketLink<TcpStream, R>;
+impl<
+    R: Net<Listener = TcpListener, Stream = TcpStream> + RandomSource + Clock + Copy + Send,
+> Network for SocketNetwork<R> {
+    type Link = SocketLink<WakingStream, R>;
 
     ghost given = { λ n. n.given };
 
@@ -102,19 +128,19 @@ impl<R: Net<Listener = TcpListener, Stream = TcpStream> + RandomSource + Copy + 
         }
     }
 
-    fn accept(&mut self) -> Result<SocketLink<TcpStream, R>, NetFault> {
+    fn accept(&mut self) -> Result<SocketLink<WakingStream, R>, NetFault> {
         let Some(given) = self.given.checked_add(1) else {
             return Err(self.fail());
         };
         let accepted = match &self.listener {
-            Some(listener) => next(listener),
+            Some(listener) => next(&self.rt, listener),
             None => Err(io::Error::from(io::ErrorKind::NotConnected)),
         };
         match accepted {
             Ok(stream) => {
                 self.given = given;
-                Ok(match set_up(&stream) {
-                    Ok(()) => accept(self.alloc, stream),
+                Ok(match WakingStream::new(&self.rt, self.alloc, stream) {
+                    Ok(stream) => accept_waking(self.alloc, stream),
                     Err(_) => broken(self.alloc),
                 })
             }
@@ -122,7 +148,7 @@ impl<R: Net<Listener = TcpListener, Stream = TcpStream> + RandomSource + Copy + 
         }
     }
 
-    fn connect(&mut self, port: u16) -> Result<SocketLink<TcpStream, R>, NetFault> {
+    fn connect(&mut self, port: u16) -> Result<SocketLink<WakingStream, R>, NetFault> {
         let Some(given) = self.given.checked_add(1) else {
             return Err(self.fail());
         };

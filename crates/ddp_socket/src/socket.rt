@@ -2,6 +2,7 @@ ghost use Rattle.std.specs.Prelude.{◌≡◌, ℕ, List, Some, false, IfOk};
 ghost use Rattle.tungstenite.specs.Heads.{Serves, Connected};
 ghost use Rattle.ddp_socket.specs.Links.{largest, IsBounded};
 
+use crate::door::Door;
 use crate::metered::Metered;
 use crate::turn::{Turn, error_turn};
 use duct::NetFault;
@@ -11,8 +12,8 @@ use std::io::{Read, Write};
 use std::random::RandomSource;
 use tungstenite::handshake::{client, server};
 use tungstenite::{
-    CloseCode, CloseFrame, Error, HandshakeError, MaskKeys, NoCallback, RandomKeys, Role,
-    Utf8Bytes, WebSocket, WebSocketConfig,
+    CloseCode, CloseFrame, Error, HandshakeError, MaskKeys, RandomKeys, Role, Utf8Bytes, WebSocket,
+    WebSocketConfig,
 };
 
 /// How often a handshake is tried. At reads of 20 ms that is 10 seconds.
@@ -55,6 +56,7 @@ fn limits() -> WebSocketConfig
     WebSocketConfig::default()
         .max_message_size(Some(LARGEST))
         .max_frame_size(Some(LARGEST))
+        .max_write_buffer_size(LARGEST)
 }
 
 // Why a handshake came to nothing.
@@ -73,7 +75,8 @@ pub(crate) fn serve<S: Read + Write + Drop, R: RandomSource + Drop>(
     ensures served { IfOk result Serves }
     ensures bounded { IfOk result (λ socket. IsBounded socket.conn) }
 {
-    let mut mid = server::start(alloc, Metered::new(stream), NoCallback, Some(limits()));
+    let stream = Metered::new(alloc, stream);
+    let mut mid = server::start(alloc, stream, Door { alloc }, Some(limits()));
     for _ in 0..TRIES {
         match mid.handshake() {
             Ok(done) => {
@@ -116,7 +119,7 @@ fn ask_with<S: Read + Write + Drop, R: RandomSource + Drop>(
         nonce,
         keys,
         request,
-        Metered::new(stream),
+        Metered::new(alloc, stream),
         Some(limits()),
     ) {
         Ok(mid) => mid,

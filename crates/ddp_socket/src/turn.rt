@@ -7,7 +7,8 @@ ghost use Rattle.ddp_socket.specs.Turns.{MessageIs, fault_turn};
 use ejson_value::Text;
 use std::alloc::Global;
 use std::io::ErrorKind;
-use tungstenite::{Error, Message};
+use tungstenite::{CloseCode, Error, Message};
+use websocket::error::ProtocolError;
 
 /// What a read of a WebSocket is to its link.
 #[derive(Drop)]
@@ -24,6 +25,8 @@ pub enum Turn {
     Memory,
     /// Memory was refused for a text that was read, and which is lost.
     Lost,
+    /// The peer sent what may not be sent; it is told so by this code.
+    Faulty(CloseCode),
     /// The connection or the peer failed.
     Broken,
 }
@@ -69,6 +72,10 @@ pub(crate) fn error_turn(error: Error) -> Turn
             ErrorKind::WouldBlock => Turn::Nothing,
             _ => Turn::Broken,
         },
+        Error::Protocol(ProtocolError::ResetWithoutClosingHandshake) => Turn::Broken,
+        Error::Protocol(_) => Turn::Faulty(CloseCode::Protocol),
+        Error::Utf8 => Turn::Faulty(CloseCode::Invalid),
+        Error::Capacity(_) => Turn::Faulty(CloseCode::Size),
         _ => Turn::Broken,
     }
 }

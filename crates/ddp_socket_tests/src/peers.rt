@@ -1,12 +1,13 @@
 use crate::talk::listening;
-use ddp_socket::{SocketLink, SocketNetwork};
-use duct::{Link, NetFault, Network, Polled};
+use ddp_socket::{SocketLink, SocketNetwork, WakingStream};
+use duct::{Bell, Link, NetFault, Network, Polled};
 use std::alloc::Global;
 use std::io;
 use std::io::{Read, Write};
 use std::net::{Ipv4Addr, Net, Shutdown, TcpListener, TcpStream};
 use std::random::RandomSource;
 use std::test::Fail;
+use std::time::Clock;
 
 // How often a link is polled for what a peer sent.
 const POLLS: u32 = 100;
@@ -28,31 +29,73 @@ const FRAMES: &str = r#"818000000000 => [] failed =>
 898100000000618182000000006869 => [hi] failed => 8a0161
 82810000000061 => closed => 880203eb
 81820000000068698280000000008182000000006869 => [hi] closed => 880203eb
+02810000000061 => failed =>
+028100000000618081000000006280 => closed => 880203eb
 88820000000003e8 => closed => 880203e8
+88850000000003e8627965 => closed => 880503e8627965
+8882000000000fa0 => closed => 88020fa0
+88820000000003ed => closed => 881403ea50726f746f636f6c2076696f6c6174696f6e
 888000000000 => closed => 8800
 888000000000818100000000 => closed => 8800
 81850000000068 => failed =>
 8182000000 => failed =>
 81820000000068698181 => [hi] failed =>
-818100000000ff => failed =>
+818100000000ff => failed => 880203ef
 818200000000686981820000 => [hi] failed =>
-81ff000000000080000100000000 => failed =>
-81026869 => failed =>
-c18000000000 => failed =>
-808000000000 => failed =>
-838000000000 => failed =>
+81ff000000000080000100000000 => failed => 880203f1
+81026869 => failed => 880203ea
+c18000000000 => failed => 880203ea
+808000000000 => failed => 880203ea
+838000000000 => failed => 880203ea
+818000000000018100000000688181000000006a => [] failed => 880203ea
+89fe007e00000000000000000000000000000000000000000000000000000000000000000000000000000000000000000000000000000000000000000000000000000000000000000000000000000000000000000000000000000000000000000000000000000000000000000000000000000000000000000000000000000000000000000000 => failed => 880203ea
+81ffffffffffffffffff00000000 => failed => 880203ea
+8a8000000000 => failed =>
+018200000000f09f8082000000008d8c => [🍌] failed =>
  => failed =>
 "#;
 
-// Each row: what a peer sends in place of a handshake before it sends no more, with a bar for the end of a line.
-const HEADS: &str = r#"
-hello
-GET /websocket HTTP/1.1|Host: 127.0.0.1||
-GET /websocket HTTP/1.1|Host: 127.0.0.1|Connection: Upgrade|Upgrade: websocket|Sec-WebSocket-Version: 13|
-GET /websocket HTTP/1.1|Host: 127.0.0.1|Connection: Upgrade|Upgrade: websocket|Sec-WebSocket-Version: 13||
-GET /websocket HTTP/1.1|Host: 127.0.0.1|Connection: Upgrade|Upgrade: websocket|Sec-WebSocket-Version: 8|Sec-WebSocket-Key: dGhlIHNhbXBsZSBub25jZQ==||
-POST /websocket HTTP/1.1|Host: 127.0.0.1|Connection: Upgrade|Upgrade: websocket|Sec-WebSocket-Version: 13|Sec-WebSocket-Key: dGhlIHNhbXBsZSBub25jZQ==||
+// Each row: what a peer sends as its handshake before it sends no more, with a bar for the end of a line and KEYS for the
+// fields of a good one; and the status of the answer, if there is any.
+const HEADS: &str = r#" =>
+hello => 400
+GET /websocket HTTP/1.1|Host: 127.0.0.1|| => 400
+GET /websocket HTTP/1.1|Host: 127.0.0.1|Connection: Upgrade|Upgrade: websocket|Sec-WebSocket-Version: 13| => 400
+GET /websocket HTTP/1.1|Host: 127.0.0.1|Connection: Upgrade|Upgrade: websocket|Sec-WebSocket-Version: 13|| => 400
+GET /websocket HTTP/1.1|Host: 127.0.0.1|Connection: Upgrade|Upgrade: websocket|Sec-WebSocket-Version: 13|Sec-WebSocket-Key: dGhl|| => 400
+GET /websocket HTTP/1.1|Host: 127.0.0.1|Connection: Upgrade|Upgrade: websocket|Sec-WebSocket-Key: dGhlIHNhbXBsZSBub25jZQ==|| => 400
+GET /websocket HTTP/1.1|Host: 127.0.0.1|Connection: Upgrade|Upgrade: websocket|Sec-WebSocket-Version: 8|Sec-WebSocket-Key: dGhlIHNhbXBsZSBub25jZQ==|| => 426
+POST /websocket HTTP/1.1|KEYS|| => 400
+GET /websocket HTTP/1.0|KEYS|| => 400
+GET /websocket HTTP/1.1|KEYS||junk => 400
+GET /websocket HTTP/1.1|KEYS|| => 101
+GET /websocket HTTP/1.1|Connection: keep-alive, Upgrade|Upgrade: WebSocket|Sec-WebSocket-Version: 13|Sec-WebSocket-Key: dGhlIHNhbXBsZSBub25jZQ==|| => 101
+GET /websocket HTTP/1.1|Sec-WebSocket-Extensions: permessage-deflate|Sec-WebSocket-Protocol: ddp|KEYS|| => 101
+GET / HTTP/1.1|KEYS|| => 101
+GET /any/other?query HTTP/1.1|KEYS|| => 101
+GET /sockjs/info HTTP/1.1|KEYS|| => 404
+GET /sockjs/1/x/websocket HTTP/1.1|KEYS|| => 404
+GET /sockjs HTTP/1.1|Origin: http://localhost|KEYS|| => 404
+GET /websocket HTTP/1.1|Origin: http://127.0.0.1:3000|KEYS|| => 101
+GET /websocket HTTP/1.1|Origin: http://127.8.9.1|KEYS|| => 101
+GET /websocket HTTP/1.1|Origin: http://[::1]:3000|KEYS|| => 101
+GET /websocket HTTP/1.1|Origin: http://LocalHost:3000|KEYS|| => 101
+GET /websocket HTTP/1.1|Origin: null|KEYS|| => 101
+GET /websocket HTTP/1.1|Origin: file:///home/page.html|KEYS|| => 101
+GET /websocket HTTP/1.1|Origin: http://evil.example|KEYS|| => 403
+GET /websocket HTTP/1.1|Origin: http://localhost.evil.example|KEYS|| => 403
+GET /websocket HTTP/1.1|Origin: http://128.0.0.1|KEYS|| => 403
+GET /websocket HTTP/1.1|Origin: evil|KEYS|| => 403
+GET /websocket HTTP/1.1|Origin: https://Example.org|Host: example.org:3000|Connection: Upgrade|Upgrade: websocket|Sec-WebSocket-Version: 13|Sec-WebSocket-Key: dGhlIHNhbXBsZSBub25jZQ==|| => 101
+GET /websocket HTTP/1.1|Origin: https://example.org|Host: other.example.org|Connection: Upgrade|Upgrade: websocket|Sec-WebSocket-Version: 13|Sec-WebSocket-Key: dGhlIHNhbXBsZSBub25jZQ==|| => 403
+GET /websocket HTTP/1.1|Origin: https://example.org|Connection: Upgrade|Upgrade: websocket|Sec-WebSocket-Version: 13|Sec-WebSocket-Key: dGhlIHNhbXBsZSBub25jZQ==|| => 403
 "#;
+
+const KEYS: &[u8] =
+    b"Host: 127.0.0.1\r\nConnection: Upgrade\r\nUpgrade: websocket\r\nSec-WebSocket-Version: 13\r\nSec-WebSocket-Key: dGhlIHNhbXBsZSBub25jZQ==\r\n";
+
+// The first bytes of a handshake of TLS.
+const TLS: &[u8] = b"\x16\x03\x01\x02\x00\x01\x00\x01\xfc\x03\x03";
 
 fn digit(letter: u8) -> u8 {
     match letter {
@@ -70,13 +113,19 @@ fn bytes(alloc: Global, digits: &str) -> Result<Vec<u8>, Fail> {
     Ok(bytes)
 }
 
+// The bytes of a head: its lines, of which one may stand for all fields.
 fn lines(alloc: Global, row: &str) -> Result<Vec<u8>, Fail> {
     let mut bytes = Vec::new(alloc);
-    for byte in row.as_bytes() {
-        if *byte == b'|' {
+    let mut first = true;
+    for line in row.split('|') {
+        if !first {
             bytes.extend_from_slice(b"\r\n")?;
+        }
+        first = false;
+        if line == "KEYS" {
+            bytes.extend_from_slice(&KEYS[..KEYS.len() - 2])?;
         } else {
-            bytes.push(*byte)?;
+            bytes.extend_from_slice(line.as_bytes())?;
         }
     }
     Ok(bytes)
@@ -116,24 +165,24 @@ fn heard<L: Link>(alloc: Global, link: &mut L) -> Result<String, Fail> {
 }
 
 // A peer that has sent this, and the link of it.
-fn peer<R: Net<Listener = TcpListener, Stream = TcpStream> + RandomSource + Copy + Send>(
+fn peer<R: Net<Listener = TcpListener, Stream = TcpStream> + RandomSource + Clock + Copy + Send>(
     rt: R,
     network: &mut SocketNetwork<R>,
     port: u16,
     head: &[u8],
-) -> Result<(TcpStream, SocketLink<TcpStream, R>), Fail> {
+) -> Result<(TcpStream, SocketLink<WakingStream, R>), Fail> {
     let mut peer = TcpStream::connect(&rt, (Ipv4Addr::LOCALHOST, port))?;
     peer.write_all(head)?;
     Ok((peer, network.accept()?))
 }
 
 // A peer and its link behind the handshake; the peer has sent these frames, and sends no more.
-fn sends<R: Net<Listener = TcpListener, Stream = TcpStream> + RandomSource + Copy + Send>(
+fn sends<R: Net<Listener = TcpListener, Stream = TcpStream> + RandomSource + Clock + Copy + Send>(
     rt: R,
     network: &mut SocketNetwork<R>,
     port: u16,
     frames: &[u8],
-) -> Result<(TcpStream, SocketLink<TcpStream, R>), Fail> {
+) -> Result<(TcpStream, SocketLink<WakingStream, R>), Fail> {
     let (mut peer, mut link) = peer(rt, network, port, REQUEST)?;
     if !matches!(link.poll(), Polled::Quiet) {
         return Err(io::Error::from(io::ErrorKind::ConnectionRefused).into());
@@ -152,7 +201,9 @@ fn is_answered(sent: &[u8], wanted: &[u8]) -> bool {
 }
 
 // What is heard of a peer that sends these frames, and what it is sent.
-fn exchange<R: Net<Listener = TcpListener, Stream = TcpStream> + RandomSource + Copy + Send>(
+fn exchange<
+    R: Net<Listener = TcpListener, Stream = TcpStream> + RandomSource + Clock + Copy + Send,
+>(
     rt: R,
     alloc: Global,
     network: &mut SocketNetwork<R>,
@@ -175,7 +226,9 @@ fn parts(row: &str) -> Option<(&str, &str, &str)> {
 }
 
 // Whether a row of frames is heard as it says, and answered so.
-fn is_heard<R: Net<Listener = TcpListener, Stream = TcpStream> + RandomSource + Copy + Send>(
+fn is_heard<
+    R: Net<Listener = TcpListener, Stream = TcpStream> + RandomSource + Clock + Copy + Send,
+>(
     rt: R,
     alloc: Global,
     network: &mut SocketNetwork<R>,
@@ -191,18 +244,90 @@ fn is_heard<R: Net<Listener = TcpListener, Stream = TcpStream> + RandomSource + 
     Ok(heard.as_str() == polls && is_answered(&sent, &reply))
 }
 
-// Whether a link fails at its first poll and its second where its peer sends this.
-fn is_refused<R: Net<Listener = TcpListener, Stream = TcpStream> + RandomSource + Copy + Send>(
+// What a peer is still told. A connection that ends with bytes unread is reset behind it.
+fn rest(alloc: Global, peer: &mut TcpStream) -> Result<Vec<u8>, Fail> {
+    let mut sent = Vec::new(alloc);
+    let mut part = [0; 256];
+    for _ in 0..POLLS {
+        match peer.read(&mut part) {
+            Ok(0) => return Ok(sent),
+            Ok(n) => sent.extend_from_slice(&part[..n])?,
+            Err(error) if error.kind() == io::ErrorKind::ConnectionReset => return Ok(sent),
+            Err(error) => return Err(error.into()),
+        }
+    }
+    Ok(sent)
+}
+
+// What a peer is told that sends this as its handshake, and whether its link is open then; a link that isn't stays so.
+fn greeting<
+    R: Net<Listener = TcpListener, Stream = TcpStream> + RandomSource + Clock + Copy + Send,
+>(
     rt: R,
     alloc: Global,
     network: &mut SocketNetwork<R>,
     port: u16,
-    head: &str,
-) -> Result<bool, Fail> {
-    let head = lines(alloc, head)?;
-    let (peer, mut link) = peer(rt, network, port, &head)?;
+    head: &[u8],
+) -> Result<(Vec<u8>, bool), Fail> {
+    let (mut peer, mut link) = peer(rt, network, port, head)?;
     peer.shutdown(Shutdown::Write)?;
-    Ok(matches!(link.poll(), Polled::Failed) && matches!(link.poll(), Polled::Failed))
+    let opened = match link.poll() {
+        Polled::Quiet => true,
+        Polled::Failed if matches!(link.poll(), Polled::Failed) => false,
+        _ => return Err(io::Error::from(io::ErrorKind::Other).into()),
+    };
+    drop(link);
+    Ok((rest(alloc, &mut peer)?, opened))
+}
+
+// Whether an answer has this status, which is empty where there is none.
+fn has_status(sent: &[u8], status: &str) -> bool {
+    if status.is_empty() {
+        return sent.is_empty();
+    }
+    match sent.strip_prefix(b"HTTP/1.1 ".as_slice()) {
+        Some(rest) => rest.starts_with(status.as_bytes()),
+        None => false,
+    }
+}
+
+// Whether a row of heads is answered as it says, and the link open where the handshake is taken.
+fn is_greeted<
+    R: Net<Listener = TcpListener, Stream = TcpStream> + RandomSource + Clock + Copy + Send,
+>(
+    rt: R,
+    alloc: Global,
+    network: &mut SocketNetwork<R>,
+    port: u16,
+    row: &str,
+) -> Result<bool, Fail> {
+    let Some((head, status)) = row.split_once(" =>") else {
+        return Ok(false);
+    };
+    let head = lines(alloc, head)?;
+    let (sent, opened) = greeting(rt, alloc, network, port, &head)?;
+    Ok(has_status(&sent, status.trim()) && opened == (status.trim() == "101"))
+}
+
+// Whether a head that is no text, and one that is too long, are answered so.
+fn are_refused<
+    R: Net<Listener = TcpListener, Stream = TcpStream> + RandomSource + Clock + Copy + Send,
+>(rt: R, alloc: Global, network: &mut SocketNetwork<R>, port: u16) -> Result<bool, Fail> {
+    let (no_text, first) = greeting(rt, alloc, network, port, TLS)?;
+    let mut long = Vec::new(alloc);
+    long.extend_from_slice(b"GET /websocket HTTP/1.1\r\nX: ")?;
+    long.resize(70000, b'x')?;
+    let (too_long, second) = greeting(rt, alloc, network, port, &long)?;
+    Ok(has_status(&no_text, "400") && has_status(&too_long, "431") && !first && !second)
+}
+
+// Whether a peer is told so whose link is let go before it was polled.
+fn is_turned_away<
+    R: Net<Listener = TcpListener, Stream = TcpStream> + RandomSource + Clock + Copy + Send,
+>(rt: R, alloc: Global, network: &mut SocketNetwork<R>, port: u16) -> Result<bool, Fail> {
+    let (mut peer, link) = peer(rt, network, port, REQUEST)?;
+    drop(link);
+    Ok(has_status(&rest(alloc, &mut peer)?, "503"))
 }
 
 // Adds a row, as one that isn't as it says.
@@ -214,7 +339,7 @@ fn add(wrong: &mut String, row: &str) -> Result<(), Fail> {
 
 // Adds the rows of frames that aren't as they say.
 fn add_wrong_frames<
-    R: Net<Listener = TcpListener, Stream = TcpStream> + RandomSource + Copy + Send,
+    R: Net<Listener = TcpListener, Stream = TcpStream> + RandomSource + Clock + Copy + Send,
 >(
     rt: R,
     alloc: Global,
@@ -230,24 +355,28 @@ fn add_wrong_frames<
     Ok(())
 }
 
-// Adds the heads that aren't refused.
-fn add_wrong_heads<R: Net<Listener = TcpListener, Stream = TcpStream> + RandomSource + Copy + Send>(
+// Adds the rows of heads that aren't answered as they say.
+fn add_wrong_heads<
+    R: Net<Listener = TcpListener, Stream = TcpStream> + RandomSource + Clock + Copy + Send,
+>(
     rt: R,
     alloc: Global,
     network: &mut SocketNetwork<R>,
     port: u16,
     wrong: &mut String,
 ) -> Result<(), Fail> {
-    for head in HEADS.lines() {
-        if !is_refused(rt, alloc, network, port, head)? {
-            add(wrong, head)?;
+    for row in HEADS.lines() {
+        if !is_greeted(rt, alloc, network, port, row)? {
+            add(wrong, row)?;
         }
     }
     Ok(())
 }
 
-// The rows that aren't as they say; a link that stands beside them all then still gives its text.
-fn wrong_rows<R: Net<Listener = TcpListener, Stream = TcpStream> + RandomSource + Copy + Send>(
+// The rows that aren't as they say; a link that stands beside them all, and whose bell is rung, then still gives its text.
+fn wrong_rows<
+    R: Net<Listener = TcpListener, Stream = TcpStream> + RandomSource + Clock + Copy + Send,
+>(
     rt: R,
     alloc: Global,
     network: &mut SocketNetwork<R>,
@@ -258,14 +387,15 @@ fn wrong_rows<R: Net<Listener = TcpListener, Stream = TcpStream> + RandomSource 
     let (_peer, mut standing) = sends(rt, network, port, &text)?;
     add_wrong_frames(rt, alloc, network, port, wrong)?;
     add_wrong_heads(rt, alloc, network, port, wrong)?;
-    Ok(heard(alloc, &mut standing)?.as_str() == "[hi] failed")
+    let refused = are_refused(rt, alloc, network, port)?;
+    let turned_away = is_turned_away(rt, alloc, network, port)?;
+    standing.bell()?.ring();
+    Ok(refused && turned_away && heard(alloc, &mut standing)?.as_str() == "[hi] failed")
 }
 
-fn all_are_right<R: Net<Listener = TcpListener, Stream = TcpStream> + RandomSource + Copy + Send>(
-    rt: R,
-    alloc: Global,
-    wrong: &mut String,
-) -> Result<bool, Fail> {
+fn all_are_right<
+    R: Net<Listener = TcpListener, Stream = TcpStream> + RandomSource + Clock + Copy + Send,
+>(rt: R, alloc: Global, wrong: &mut String) -> Result<bool, Fail> {
     let mut network = SocketNetwork::new(rt, alloc);
     match listening(&mut network) {
         Some(port) => wrong_rows(rt, alloc, &mut network, port, wrong),
@@ -282,7 +412,7 @@ fn links_fail_alone(rt: HostRuntime) -> Result<(), Fail> {
 }
 
 // Whether the calls of a network fail where nothing listens, and where the port is taken.
-fn fails<R: Net<Listener = TcpListener, Stream = TcpStream> + RandomSource + Copy + Send>(
+fn fails<R: Net<Listener = TcpListener, Stream = TcpStream> + RandomSource + Clock + Copy + Send>(
     rt: R,
     alloc: Global,
 ) -> bool {

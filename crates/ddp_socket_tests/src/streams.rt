@@ -1,8 +1,8 @@
 ghost use Rattle.std.specs.Prelude.{◌≤◌, length};
 
-use ddp_socket::{READS, SocketLink, TRIES, accept, connect};
+use ddp_socket::{READS, SocketLink, TRIES, WRITES, accept, connect};
 use duct::{Link, NetFault, Polled, SendFault};
-use ejson_value::Text;
+use ejson_value::{Mem, Text};
 use std::alloc::Global;
 use std::io;
 use std::io::{ErrorKind, Read, Write};
@@ -19,9 +19,18 @@ enum Then {
     Ends,
     // These six bytes at each read.
     Repeats([u8; 6]),
+    // As many pings at each read as there is room for.
+    Pings,
 }
 
-// A stream that gives a part at each read, counts its reads, takes so many writes and then fails at each with this error.
+// How long a masked ping with 125 bytes is.
+const PING: usize = 131;
+
+// How many bytes a write takes.
+const TAKES: usize = 200;
+
+// A stream that gives a part at each read, counts its reads, takes so many writes, each of 200 bytes at most, and then fails
+// at each with this error.
 #[derive(Drop)]
 struct Stream<'a> {
     parts: &'a [&'a [u8]],
@@ -41,6 +50,20 @@ fn give(bytes: &[u8], into: &mut [u8]) -> usize
     n
 }
 
+// Puts pings at the front, whose bytes and mask are zeros.
+fn give_pings(into: &mut [u8]) -> usize
+    ensures { result ≤ length into.new }
+{
+    for (at, byte) in into.iter_mut().enumerate() {
+        *byte = match at % PING {
+            0 => 0x89,
+            1 => 0xfd,
+            _ => 0,
+        };
+    }
+    into.len() - into.len() % PING
+}
+
 impl Read for Stream<'_> {
     fn read(&mut self, into: &mut [u8]) -> io::Result<usize> {
         *self.reads = self.reads.saturating_add(1);
@@ -52,6 +75,7 @@ impl Read for Stream<'_> {
                 Then::Blocks => Err(io::Error::from(ErrorKind::WouldBlock)),
                 Then::Ends => Ok(0),
                 Then::Repeats(bytes) => Ok(give(bytes, into)),
+                Then::Pings => Ok(give_pings(into)),
             },
         }
     }
@@ -62,7 +86,7 @@ impl Write for Stream<'_> {
         match self.writes.checked_sub(1) {
             Some(writes) => {
                 self.writes = writes;
-                Ok(bytes.len())
+                Ok(bytes.len().min(TAKES))
             }
             None => Err(io::Error::from(self.refused)),
         }
@@ -133,6 +157,29 @@ fn ends_each_poll(alloc: Global) -> bool {
     quiet && reads == 2 * READS
 }
 
+// How many reads so many polls make of a peer that sends pings without end and takes no pong; none where one isn't quiet.
+fn reads_of_pings(alloc: Global, polls: u32) -> Option<u32> {
+    let mut reads = 0;
+    let parts: [&[u8]; 1] = [REQUEST];
+    let mut link = link(
+        alloc,
+        &parts,
+        Then::Pings,
+        &mut reads,
+        1,
+        ErrorKind::WouldBlock,
+    );
+    let quiet = (0..polls).all(|_| matches!(link.poll(), Polled::Quiet));
+    drop(link);
+    quiet.then_some(reads)
+}
+
+// Whether no more is read of a peer once so many pongs wait for it.
+fn ends_reading(alloc: Global) -> bool {
+    let some = reads_of_pings(alloc, 8);
+    some.is_some() && some == reads_of_pings(alloc, 80)
+}
+
 // Whether a client fails where its server sends nothing, and where it ends.
 fn fails_to_connect(alloc: Global, then: Then, wanted: u32) -> bool {
     let mut reads = 0;
@@ -153,6 +200,7 @@ fn calls_end(rt: HostRuntime) {
     let alloc = rt.alloc();
     assert!(rt; fails_at_silence(alloc));
     assert!(rt; ends_each_poll(alloc));
+    assert!(rt; ends_reading(alloc));
     assert!(rt; fails_to_connect(alloc, Then::Blocks, TRIES));
     assert!(rt; fails_to_connect(alloc, Then::Ends, 1));
 }
@@ -184,6 +232,27 @@ fn is_full(alloc: Global) -> bool {
     let taken = sent(alloc, &mut link) == Some(Ok(()));
     let full = sent(alloc, &mut link) == Some(Err(SendFault::Full));
     before && opened && taken && full && matches!(link.poll(), Polled::Quiet)
+}
+
+// Whether a send ends though its peer takes a few bytes at a time: the next write would fail.
+fn ends_a_send(alloc: Global) -> Result<bool, Mem> {
+    let mut reads = 0;
+    let parts: [&[u8]; 1] = [REQUEST];
+    let mut link = link(
+        alloc,
+        &parts,
+        Then::Blocks,
+        &mut reads,
+        1 + WRITES,
+        ErrorKind::BrokenPipe,
+    );
+    let mut text = Text::new(alloc);
+    for _ in 0..2000 {
+        text.push_str("0123456789")?;
+    }
+    let opened = matches!(link.poll(), Polled::Quiet);
+    let taken = link.send(text).is_ok();
+    Ok(opened && taken && sent(alloc, &mut link) == Some(Err(SendFault::Failed)))
 }
 
 // A link fails at a write that fails, and stays so.
@@ -223,9 +292,11 @@ fn is_closed(alloc: Global) -> bool {
 }
 
 #[test]
-fn a_refused_text_comes_back(rt: HostRuntime) {
+fn a_refused_text_comes_back(rt: HostRuntime) -> Result<(), Fail> {
     let alloc = rt.alloc();
+    assert!(rt; ends_a_send(alloc)?);
     assert!(rt; is_full(alloc));
     assert!(rt; is_broken(alloc));
     assert!(rt; is_closed(alloc));
+    Ok(())
 }

@@ -7,6 +7,7 @@ use std::random::RandomSource;
 use std::test::Fail;
 use std::thread;
 use std::thread::Threads;
+use std::time::Clock;
 
 // How often a test polls or sends before it gives up.
 pub const TURNS: u32 = 3000;
@@ -105,6 +106,7 @@ fn texts(alloc: Global, longest: u32) -> Result<Vec<Text>, Mem> {
 fn two_ends<
     R: Net<Listener = TcpListener, Stream = TcpStream>
         + RandomSource
+        + Clock
         + Threads
         + Copy
         + Send

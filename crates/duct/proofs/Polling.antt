@@ -8,6 +8,7 @@ use Rattle.duct.specs.declared.link.Polled.TheVariants.{Message, Quiet, Closed, 
 use Rattle.duct.specs.Told.{Told}
 use Rattle.duct.specs.Polls.{Polls, poll_failed, next_of, polled, has_closed}
 use Rattle.duct.specs.Schedules.{fails_after}
+use Rattle.duct.specs.CallLaws.{has_closed-append}
 use Rattle.duct.specs.Lines.{Script, Line, given, answer_after, answers, LineAnswers, line_polled}
 
 pub next_of_some : (texts : List (List ℕ)) (at : ℕ) (text : List ℕ) (closed : Bool) → slice_get texts at ≡ Some text
@@ -29,11 +30,6 @@ length-answers s (suc n) = omega (arith, length-append (answers s n) (answer_aft
 
 pub answers-next : (s : Script) (n call : ℕ) → call ≡ n + 1 → answers s call ≡ answers s n ++ answer_after s n ∷ []
 answers-next s n call is = ap (answers s) (is ∙ add-one n)
-
-pub has_closed-append : (xs : List Polled) (x : Polled) → has_closed (xs ++ x ∷ []) ≡ (has_closed xs || has_closed (x ∷ []))
-has_closed-append [] x = refl
-has_closed-append (Closed ∷ xs) x = refl
-has_closed-append (_ ∷ xs) x = has_closed-append xs x
 
 -- what the fields keep
 abbrev pub Keeps : Script → ℕ → ℕ → Bool → Type 0

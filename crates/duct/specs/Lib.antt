@@ -9,3 +9,5 @@ pub mod Nets
 pub mod Marked
 pub mod Rings
 pub mod RingViews
+pub mod Calls
+pub mod CallLaws

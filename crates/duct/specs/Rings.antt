@@ -7,6 +7,7 @@ use Rattle.duct.specs.declared.link.Polled.{Polled}
 use Rattle.duct.specs.declared.link.Polled.TheVariants.{Message, Quiet, Closed}
 use Rattle.duct.specs.declared.link.SendFault.{SendFault}
 use Rattle.duct.specs.declared.link.SendFault.TheVariants.{Full}
+use Rattle.duct.specs.Calls.{Call, heard, said, handed_back}
 
 -- which one of all the ways that items go through rings: where its memory lies, and its names in proofs
 pub record Way : Type 0 where
@@ -59,6 +60,16 @@ abbrev pub RingSends : {R : Type 0} → RingEnd → List ℕ → Result R (List 
 RingSends before text (Ok _) after =
     (before.closed ≡ false) × (before.slots ≤ after.slots + 1) × (after ≡ record before { sent = before.sent ++ text ∷ []; slots = after.slots })
 RingSends before text (Err refused) after = (refused ≡ (text, Full)) × (before.slots ≡ 0) × (after ≡ before)
+
+-- what one call makes of an end
+abbrev pub RingMakes : RingEnd → Call → RingEnd → Type 0
+RingMakes before (heard answer) after = RingPolls before answer after
+RingMakes before (said text) after = RingSends {R = Unit {0}} before text (Ok tt) after
+RingMakes before (handed_back text fault) after = RingSends {R = Unit {0}} before text (Err (text, fault)) after
+
+-- an end that looked anew knows of as many free places as before, or more
+abbrev pub Looks : RingEnd → RingEnd → Type 0
+Looks before after = (after ≡ record before { slots = after.slots }) × (before.slots ≤ after.slots)
 
 -- the mark stands behind the texts, and none can be sent any more
 abbrev pub with_mark : RingEnd → RingEnd

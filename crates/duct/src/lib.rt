@@ -2,6 +2,7 @@
 //! two ends of a ring that carries texts between two threads.
 #![tactic(auto)]
 
+mod laws;
 mod link;
 mod memory_link;
 mod memory_network;
@@ -9,7 +10,8 @@ mod network;
 mod ring_link;
 mod schedule;
 
-pub use link::{Link, Polled, SendFault};
+pub use laws::{chains_of_links_that_tell, chains_of_rings};
+pub use link::{Bell, Link, NoBell, Polled, SendFault};
 pub use memory_link::{MemoryLink, Texts};
 pub use memory_network::{Links, MemoryNetwork};
 pub use network::{NetFault, Network};

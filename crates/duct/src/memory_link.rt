@@ -1,12 +1,13 @@
-ghost use Rattle.std.specs.Prelude.{◌≡◌, ◌≤◌, ◌<◌, ◌+◌, ◌||◌, ◌∷◌, [], Some, None, drop, IfOk, IfSome, IfErr, OnOk};
+ghost use Rattle.std.specs.Prelude.{◌≡◌, ◌≤◌, ◌<◌, ◌+◌, ◌||◌, ◌∷◌, [], Some, None, drop, IfOk, IfErr, OnOk};
 ghost use Rattle.io_edge.specs.Memory.{last_call};
 ghost use Rattle.duct.specs.Told.{Told, CountsFaults};
-ghost use Rattle.duct.specs.Polls.{Polls, poll_failed, next_of, has_closed};
-ghost use Rattle.duct.specs.Sends.{Sends, send_failed, with_sent};
+ghost use Rattle.duct.specs.Calls.{heard, sending, Tells};
+ghost use Rattle.duct.specs.Polls.{poll_failed, next_of, has_closed};
+ghost use Rattle.duct.specs.Sends.{send_failed, with_sent};
 ghost use Rattle.duct.specs.Lines.{Line, LineAnswers, new_line, line_polled};
 ghost use Rattle.duct.specs.LineSends.{LineRefuses, RefusesFor, refusal_of, faults_after, line_sent};
 
-use crate::link::{Link, Polled, SendFault};
+use crate::link::{Link, NoBell, Polled, SendFault};
 use crate::schedule::Schedule;
 use ejson_value::{ListOf, Mem, Text};
 use io_edge::Calls;
@@ -145,12 +146,16 @@ fn ends(ended: bool, answer: &Polled) -> bool
 }
 
 impl Link for MemoryLink {
+    type Bell = NoBell;
+
     ghost told = { λ l. Some l.told };
 
     ghost faults = { λ l. l.faults };
 
+    ghost steps = { λ a call b. Tells a.told call b.told };
+
     fn poll(&mut self) -> Polled
-        ensures told { IfSome (Some self.old.told) (λ before. Polls before result (Some self.new.told)) }
+        ensures made { Tells self.old.told (heard result) self.new.told }
         ensures faults { CountsFaults (poll_failed result) self.old.faults self.new.faults }
         ensures answer { LineAnswers self.old result }
         ensures after { self.new ≡ line_polled self.old result }
@@ -176,7 +181,7 @@ impl Link for MemoryLink {
     }
 
     fn send(&mut self, text: Text) -> Result<(), (Text, SendFault)>
-        ensures told { IfSome (Some self.old.told) (λ before. Sends before text result (Some self.new.told)) }
+        ensures made { Tells self.old.told (sending text result) self.new.told }
         ensures back { IfErr result (λ refused. refused.0 ≡ text) }
         ensures sound { OnOk result (self.new.faults ≡ self.old.faults) }
         ensures faults { IfErr result (λ refused. CountsFaults (send_failed refused.1) self.old.faults self.new.faults) }
@@ -191,5 +196,9 @@ impl Link for MemoryLink {
                 Err((text, fault))
             }
         }
+    }
+
+    fn bell(&self) -> Result<NoBell, Mem> {
+        Ok(NoBell)
     }
 }

@@ -1,12 +1,13 @@
-ghost use Rattle.std.specs.Prelude.{◌≡◌, ◌≤◌, ◌-◌, ◌<◌, MatchBool, false, if◌then◌else◌, length, Some, None, IfOk, IfErr, IfSome, OnOk};
+ghost use Rattle.std.specs.Prelude.{◌≡◌, ◌≤◌, ◌-◌, ◌<◌, MatchBool, false, if◌then◌else◌, length, Some, None, IfOk, IfErr, OnOk};
 ghost use Rattle.rtrb.specs.Ring.{known_free, ProducerLooked};
 ghost use Rattle.duct.specs.Told.{CountsFaults};
-ghost use Rattle.duct.specs.Polls.{Polls, poll_failed};
-ghost use Rattle.duct.specs.Sends.{Sends, send_failed};
-ghost use Rattle.duct.specs.Rings.{RingEnd, AreEnds, SameWays, new_end, no_faults, RingPolls, RingSends, with_mark, Beside};
+ghost use Rattle.duct.specs.Polls.{poll_failed};
+ghost use Rattle.duct.specs.Sends.{send_failed};
+ghost use Rattle.duct.specs.Calls.{heard, sending};
+ghost use Rattle.duct.specs.Rings.{RingEnd, AreEnds, SameWays, new_end, no_faults, RingMakes, Looks, with_mark, Beside};
 ghost use Rattle.duct.specs.RingViews.{marks};
 
-use crate::link::{Link, Polled, SendFault};
+use crate::link::{Link, NoBell, Polled, SendFault};
 use ejson_value::{Mem, Text};
 use rtrb::{Consumer, Producer, RingBuffer};
 use std::alloc::Global;
@@ -90,6 +91,18 @@ impl RingLink {
         (self.out.cached_slots() - 1) as u32
     }
 
+    /// Looks how many places for texts of this end are free now. A loop that waits for one calls it, since `slots` tells
+    /// the same each time.
+    pub fn look(&mut self) -> u32
+        ensures value { result ≡ self.new.slots }
+        ensures looks { Looks self.old self.new }
+    {
+        if self.closed {
+            return 0;
+        }
+        (self.out.slots() - 1) as u32
+    }
+
     /// Puts the mark behind the texts of this end: it sends none any more. A second call does nothing.
     pub fn close(&mut self)
         ensures { self.new ≡ with_mark self.old }
@@ -113,16 +126,19 @@ impl RingLink {
 }
 
 impl Link for RingLink {
+    type Bell = NoBell;
+
     ghost told = { λ _. None };
 
     ghost faults = { no_faults };
 
+    ghost steps = { RingMakes };
+
     /// Takes the oldest text. Quiet comes only where no text is known to wait, and closed where this end has taken the
     /// peer's mark.
     fn poll(&mut self) -> Polled
-        ensures told { IfSome None (λ before. Polls before result None) }
         ensures faults { CountsFaults (poll_failed result) (no_faults self.old) (no_faults self.new) }
-        ensures ring { RingPolls self.old result self.new }
+        ensures made { RingMakes self.old (heard result) self.new }
         ensures ways { SameWays self.old self.new }
     {
         if self.ended {
@@ -140,11 +156,10 @@ impl Link for RingLink {
 
     /// Sends the text, or hands it back as full, which never comes where a place is known to be free.
     fn send(&mut self, text: Text) -> Result<(), (Text, SendFault)>
-        ensures told { IfSome None (λ before. Sends before text result None) }
         ensures back { IfErr result (λ refused. refused.0 ≡ text) }
         ensures sound { OnOk result (no_faults self.new ≡ no_faults self.old) }
         ensures faults { IfErr result (λ refused. CountsFaults (send_failed refused.1) (no_faults self.old) (no_faults self.new)) }
-        ensures ring { RingSends self.old text result self.new }
+        ensures made { RingMakes self.old (sending text result) self.new }
         ensures ways { SameWays self.old self.new }
     {
         if self.closed {
@@ -155,5 +170,9 @@ impl Link for RingLink {
         }
         self.out.push_reserved(Some(text));
         Ok(())
+    }
+
+    fn bell(&self) -> Result<NoBell, Mem> {
+        Ok(NoBell)
     }
 }

@@ -1,4 +1,6 @@
-use duct::{Link, Links, MemoryLink, MemoryNetwork, NetFault, Network, Polled, SendFault, Texts};
+use duct::{
+    Bell, Link, Links, MemoryLink, MemoryNetwork, NetFault, Network, Polled, SendFault, Texts,
+};
 use ejson_value::{Mem, Text};
 use io_edge::Calls;
 use std::alloc::Global;
@@ -55,6 +57,7 @@ fn polls(link: &mut MemoryLink, wanted: &str) -> bool {
 fn polls_give_the_texts_in_order(rt: HostRuntime) -> Result<(), Fail> {
     let alloc = rt.alloc();
     let mut open = link(alloc, "a b", false, 1, &[3], &[])?;
+    open.bell()?.ring();
     assert!(rt; polls(&mut open, "a b failed - -"));
     let mut closed = link(alloc, "a b", true, 1, &[1, 3], &[])?;
     assert!(rt; polls(&mut closed, "failed a failed b closed closed"));

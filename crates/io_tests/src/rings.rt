@@ -24,8 +24,8 @@ fn takes(link: &mut RingLink, wanted: &str) -> bool
     }
 }
 
-// Two texts fill a ring of two places; a third comes back and is taken once a poll at the other end has made room.
-// Whether that is so, and how many texts are found beside then, and after two more polls.
+// Two texts fill a ring of two places; a third comes back and is taken once a poll at the other end has made room, which
+// this end knows of when it has looked. Whether that is so, and how many texts are found beside then, and after two more polls.
 fn fill(
     here: &mut RingLink,
     there: &mut RingLink,
@@ -41,11 +41,13 @@ fn fill(
         _ => return (false, 0, 0),
     };
     let given = takes(there, "a");
+    let known = here.slots();
+    let found = here.look();
     let sent = sends(here, back).is_ok();
     let waiting = there.beside(here);
     let taken = takes(there, "b") && takes(there, "c");
     (
-        filled && given && sent && taken,
+        filled && given && known == 0 && found == 1 && sent && taken,
         waiting,
         there.beside(here),
     )
@@ -89,7 +91,7 @@ fn close(
     here.close();
     let refused = sends(here, second).is_err();
     let given = takes(there, "a") && takes(there, "closed") && takes(there, "closed");
-    (sent && given, refused, here.slots())
+    (sent && given && here.look() == 0, refused, here.slots())
 }
 
 fn close_new(alloc: Global, first: Text, second: Text) -> Result<(bool, bool, u32), Mem> {

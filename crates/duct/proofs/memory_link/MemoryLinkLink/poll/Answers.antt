@@ -17,8 +17,8 @@ invariant_of-self-2 c =
     keeps_passed _ c.self.inside.at c.self.inside.polls.calls c.in-Some.call c.self.inside.ended _ c.in-Ok.answer c.in-Some.ensures.some.0
     (sym c.in-Some.ensures.some.1 ∙ c.if-fails.false) c.in-Ok.ensures c.ends-self-inside.ensures c.self.invariant
 
-pub returns-clause-told : goal.returns-clause-told
-returns-clause-told c =
+pub returns-clause-made : goal.returns-clause-made
+returns-clause-made c =
     rw (← c.self.view_is) (polls_next _ _ c.in-Ok.answer c.in-Ok.ensures
     (told_polled _ _ _ _ c.self.inside.at c.self.inside.polls.calls c.in-Some.call c.in-Ok.answer c.in-Some.ensures.some.0
     (sym c.in-Some.ensures.some.1 ∙ c.if-fails.false) c.self.invariant.1 c.in-Ok.ensures))

@@ -10,8 +10,8 @@ invariant_of-self-2 c =
     is_put c.has_place.new.out c.push_reserved.new.self c.self.inside.inn c.self.inside.closed c.self.inside.ended c.args.text c.if-self.false c.push_reserved.ensures.ring
     c.push_reserved.ensures.sent.0 (omega (arith, two, free)) (is_looked c.self.inside.out c.has_place.new.out c.self.inside.inn c.self.inside.closed c.self.inside.ended c.has_place.ensures.looked c.self.invariant)
 
-pub returns-clause-ring : goal.returns-clause-ring
-returns-clause-ring c =
+pub returns-clause-made : goal.returns-clause-made
+returns-clause-made c =
     rw (← c.self.view_is) (sends_text c.self.inside.out c.has_place.new.out c.push_reserved.new.self c.self.inside.inn c.self.inside.closed c.self.inside.ended c.args.text c.if-self.false
     c.has_place.ensures.looked c.push_reserved.ensures.ring c.push_reserved.ensures.sent.0 c.push_reserved.ensures.sent.1 c.if-not-has_place.ensures.place c.self.invariant)
 
