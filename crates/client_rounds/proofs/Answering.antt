@@ -17,8 +17,8 @@ use Rattle.connection.specs.connection_laws.Standing.{longer_stays}
 use Rattle.connection.specs.Answers.{Acts, AnswersIn, Answers}
 use Rattle.connection.specs.Storing.{Enters, Begins, StepsOn, Learns}
 use Rattle.connection.specs.connection_laws.Acting.{IsDone}
-use Rattle.source_laws.specs.shared_news.Telling.{ANews}
-use Rattle.source_laws.specs.shared_news.Longer.{told_longer}
+use Rattle.source_laws.specs.multiplexer.Telling.{ANews}
+use Rattle.source_laws.specs.multiplexer.Longer.{told_longer}
 use Rattle.source_laws.specs.Sources.{cursors_at_of}
 use Rattle.source_laws.specs.News.{AreNews}
 use Rattle.client_rounds.specs.Visit.{AVisit, visit, side, IsReady, IsSame}

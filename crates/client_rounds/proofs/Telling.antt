@@ -19,11 +19,11 @@ use Rattle.connection.specs.core_model.Store.{moments}
 use Rattle.connection.specs.connection_laws.Connection.{AConnection, IsConnection}
 use Rattle.connection.specs.Answers.{AnswersIn}
 use Rattle.connection.specs.Storing.{AdvancesBy, FeedsBy}
-use Rattle.source_laws.specs.shared_news.declared.news.Lent.{Lent}
-use Rattle.source_laws.specs.shared_news.Leading.{IsLead}
-use Rattle.source_laws.specs.shared_news.Telling.{ANews, batch_of, IsSource}
-use Rattle.source_laws.specs.shared_news.Spans.{IsLent}
-use Rattle.source_laws.specs.shared_news_for_proofs.Lending.{with_texts, known_of, known_with}
+use Rattle.source_laws.specs.multiplexer.declared.news.Lent.{Lent}
+use Rattle.source_laws.specs.multiplexer.Leading.{IsLead}
+use Rattle.source_laws.specs.multiplexer.Telling.{batch_of, IsSource}
+use Rattle.source_laws.specs.multiplexer.Spans.{IsLent}
+use Rattle.source_laws.specs.multiplexer_for_proofs.Lending.{with_texts, known_of, known_with}
 use Rattle.connection.specs.session_parts.Known.{AreRight, AreLearnt}
 use Rattle.source_laws.specs.Sources.{cursors_at_of, has_limit, IsSub}
 use Rattle.source_laws.specs.Found.{is_source, place_is, told_feeds}
@@ -49,13 +49,13 @@ module _ (m : MachineState) (x : AConnection) (p : IsConnection m.app x.own.name
   feeds value start count placed fits (Err e) d = tt
 
   -- a span is lent to it
-  pub lends : {E : Type 0} (from until : ℕ) (news : ANews) → cursor_of number x.session.carried.own.subs ≡ Some from → (result : Result (Option Lent) E) →
-      IfOk result (λ answer. IfSome answer (IsLent m sub from until news.sources)) → IfOk result (λ answer. IfSome answer (IsLentTo m x number from until news))
-  lends from until news placed (Ok None) lent = tt
-  lends from until news placed (Ok (Some l)) lent = record { sub = sub; is = is; placed = sym (place_is m.app x.own.name m.history x p number sub is) ∙ placed; unlimited = none; span = lent }
-  lends from until news placed (Err e) lent = tt
+  pub lends : {E : Type 0} (from until : ℕ) → cursor_of number x.session.carried.own.subs ≡ Some from → (result : Result (Option Lent) E) →
+      IfOk result (λ answer. IfSome answer (IsLent m sub from until)) → IfOk result (λ answer. IfSome answer (IsLentTo m x number from until))
+  lends from until placed (Ok None) lent = tt
+  lends from until placed (Ok (Some l)) lent = record { sub = sub; is = is; placed = sym (place_is m.app x.own.name m.history x p number sub is) ∙ placed; unlimited = none; span = lent }
+  lends from until placed (Err e) lent = tt
 
-module _ (m : MachineState) (x : AConnection) (p : IsConnection m.app x.own.name m.history x) (number from until : ℕ) (news : ANews) (lent : Lent) (is : IsLentTo m x number from until news lent) where
+module _ (m : MachineState) (x : AConnection) (p : IsConnection m.app x.own.name m.history x) (number from until : ℕ) (lent : Lent) (is : IsLentTo m x number from until lent) where
   pub lent_source : IsSource (cursors_at_of m.app) is.sub
   lent_source = source m x p number is.sub is.is is.unlimited
 
@@ -63,13 +63,13 @@ module _ (m : MachineState) (x : AConnection) (p : IsConnection m.app x.own.name
   pub right : (told : List Publish) → told ≡ arc_value lent.span.told → AreRight number x.session.carried.box (news_of told) lent.span.texts
   right told same =
       subst (λ (ps : List Publish). AreRight number x.session.carried.box (news_of ps) lent.span.texts) (sym same)
-      (known_are_right m x.own.name x p number from is.sub is.is is.placed (arc_value lent.span.told) lent.span.texts (known_of m is.sub from until news.sources lent is.span))
+      (known_are_right m x.own.name x p number from is.sub is.is is.placed (arc_value lent.span.told) lent.span.texts (known_of m is.sub from until lent is.span))
 
   -- and what is learnt of the client is known
-  pub learns : (told : List Publish) (texts : Texts) → told ≡ arc_value lent.span.told → AreLearnt number x.session.carried.box (news_of told) lent.span.texts texts → IsLent m is.sub from until news.sources (with_texts lent texts)
+  pub learns : (told : List Publish) (texts : Texts) → told ≡ arc_value lent.span.told → AreLearnt number x.session.carried.box (news_of told) lent.span.texts texts → IsLent m is.sub from until (with_texts lent texts)
   learns told texts same learnt =
-      known_with m is.sub from until news.sources lent is.span texts
-      (learnt_are_known m x.own.name x p number from is.sub is.is is.placed (arc_value lent.span.told) lent.span.texts texts (known_of m is.sub from until news.sources lent is.span)
+      known_with m is.sub from until lent is.span texts
+      (learnt_are_known m x.own.name x p number from is.sub is.is is.placed (arc_value lent.span.told) lent.span.texts texts (known_of m is.sub from until lent is.span)
       (subst (λ (ps : List Publish). AreLearnt number x.session.carried.box (news_of ps) lent.span.texts texts) same learnt))
 
 module _ (m : MachineState) (x y : AConnection) (sub count : ℕ) (few : length m.history < 18446744073709551616) where

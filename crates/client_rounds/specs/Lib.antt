@@ -27,6 +27,6 @@ pub mod session_for_proofs
 pub mod session_journal_for_proofs
 pub mod session_parts_for_proofs
 pub mod session_state_for_proofs
-pub mod shared_news
+pub mod multiplexer
 pub mod store_machine
 pub mod store_machine_for_proofs

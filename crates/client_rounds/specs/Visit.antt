@@ -7,7 +7,7 @@ use Rattle.connection.specs.core_model.Settle.{Phase}
 use Rattle.connection.specs.link_laws.Links.{IsLinked}
 use Rattle.phase_laws.specs.round_laws.Visits.{Side, can_on, act_on, phase_on}
 use Rattle.connection.specs.connection_laws.Connection.{AConnection, as_conn, IsConnection}
-use Rattle.source_laws.specs.shared_news.Telling.{ANews}
+use Rattle.source_laws.specs.multiplexer.Telling.{ANews}
 use Rattle.source_laws.specs.News.{AreNews}
 
 pub record AVisit : Type 0 where

@@ -11,7 +11,7 @@ use connection::core_model::{Act, Answer};
 use connection::store_machine::Machine;
 use ejson_value::Mem;
 use heard_messages::Heard;
-use source_laws::shared_news::SharedNews;
+use source_laws::multiplexer::Multiplexer;
 
 // The client takes a text, whether or not it breaks at it.
 fn take(connection: &mut Connection, heard: &mut Heard) -> Result<Answer, Mem>
@@ -27,7 +27,7 @@ fn take(connection: &mut Connection, heard: &mut Heard) -> Result<Answer, Mem>
 fn make_over(
     connection: &mut Connection,
     machine: &Machine,
-    news: &mut SharedNews,
+    news: &mut Multiplexer,
     heard: &mut Heard,
     act: Act,
 ) -> Result<Answer, Mem>
@@ -54,7 +54,7 @@ fn make_over(
 fn make(
     connection: &mut Connection,
     machine: &mut Machine,
-    news: &mut SharedNews,
+    news: &mut Multiplexer,
     heard: &mut Heard,
     act: Act,
 ) -> Result<Answer, Mem>
@@ -72,7 +72,7 @@ fn make(
 pub(crate) fn tries_over(
     connection: &mut Connection,
     machine: &Machine,
-    news: &mut SharedNews,
+    news: &mut Multiplexer,
     heard: &mut Heard,
     act: Act,
 ) -> Result<bool, Mem>
@@ -91,7 +91,7 @@ pub(crate) fn tries_over(
 pub(crate) fn tries(
     connection: &mut Connection,
     machine: &mut Machine,
-    news: &mut SharedNews,
+    news: &mut Multiplexer,
     heard: &mut Heard,
     act: Act,
 ) -> Result<bool, Mem>

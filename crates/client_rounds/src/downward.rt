@@ -11,7 +11,7 @@ use connection::core_model::Act;
 use connection::store_machine::Machine;
 use ejson_value::Mem;
 use heard_messages::Heard;
-use source_laws::shared_news::SharedNews;
+use source_laws::multiplexer::Multiplexer;
 use std::alloc::Global;
 
 // Subscriptions are loaded.
@@ -19,7 +19,7 @@ fn loadings(
     alloc: Global,
     connection: &mut Connection,
     machine: &Machine,
-    news: &mut SharedNews,
+    news: &mut Multiplexer,
     heard: &mut Heard,
 ) -> Result<bool, Mem>
     requires { IsReady (visit machine.now connection.old news.old) }
@@ -34,7 +34,7 @@ fn advancings(
     alloc: Global,
     connection: &mut Connection,
     machine: &Machine,
-    news: &mut SharedNews,
+    news: &mut Multiplexer,
     heard: &mut Heard,
 ) -> Result<bool, Mem>
     requires { IsReady (visit machine.now connection.old news.old) }
@@ -48,7 +48,7 @@ fn advancings(
 fn texts_down(
     connection: &mut Connection,
     machine: &Machine,
-    news: &mut SharedNews,
+    news: &mut Multiplexer,
     heard: &mut Heard,
 ) -> Result<bool, Mem>
     requires { IsReady (visit machine.now connection.old news.old) }
@@ -64,7 +64,7 @@ fn shows(
     alloc: Global,
     connection: &mut Connection,
     machine: &Machine,
-    news: &mut SharedNews,
+    news: &mut Multiplexer,
     heard: &mut Heard,
 ) -> Result<bool, Mem>
     requires { IsReady (visit machine.now connection.old news.old) }
@@ -80,7 +80,7 @@ pub(crate) fn tells(
     alloc: Global,
     connection: &mut Connection,
     machine: &Machine,
-    news: &mut SharedNews,
+    news: &mut Multiplexer,
     heard: &mut Heard,
 ) -> Result<bool, Mem>
     requires { IsReady (visit machine.now connection.old news.old) }
@@ -97,7 +97,7 @@ pub fn tell(
     alloc: Global,
     connection: &mut Connection,
     machine: &Machine,
-    news: &mut SharedNews,
+    news: &mut Multiplexer,
     heard: &mut Heard,
 ) -> Result<bool, Mem>
     requires { IsReady (visit machine.now connection.old news.old) }

@@ -13,4 +13,4 @@ pub use connection;
 pub use connection::{core_model, store_machine};
 pub use downward::tell;
 pub use rounds::round;
-pub use source_laws::shared_news;
+pub use source_laws::multiplexer;

@@ -13,13 +13,13 @@ use connection::core_model::Act;
 use connection::store_machine::Machine;
 use ejson_value::Mem;
 use heard_messages::Heard;
-use source_laws::shared_news::SharedNews;
+use source_laws::multiplexer::Multiplexer;
 
 /// Makes the act until it can't be made any more. Whether it was made at all.
 pub(crate) fn repeat(
     connection: &mut Connection,
     machine: &mut Machine,
-    news: &mut SharedNews,
+    news: &mut Multiplexer,
     heard: &mut Heard,
     act: Act,
 ) -> Result<bool, Mem>
@@ -39,7 +39,7 @@ pub(crate) fn repeat(
 pub(crate) fn repeat_over(
     connection: &mut Connection,
     machine: &Machine,
-    news: &mut SharedNews,
+    news: &mut Multiplexer,
     heard: &mut Heard,
     act: Act,
 ) -> Result<bool, Mem>
@@ -59,7 +59,7 @@ pub(crate) fn repeat_over(
 pub(crate) fn each(
     connection: &mut Connection,
     machine: &Machine,
-    news: &mut SharedNews,
+    news: &mut Multiplexer,
     heard: &mut Heard,
     acts: &[Act],
 ) -> Result<bool, Mem>
@@ -80,7 +80,7 @@ pub(crate) fn each(
 pub(crate) fn steps(
     connection: &mut Connection,
     machine: &mut Machine,
-    news: &mut SharedNews,
+    news: &mut Multiplexer,
     heard: &mut Heard,
     calls: &[u64],
 ) -> Result<bool, Mem>

@@ -12,14 +12,14 @@ use connection::core_model::Act;
 use connection::store_machine::Machine;
 use ejson_value::Mem;
 use heard_messages::Heard;
-use source_laws::shared_news::SharedNews;
+use source_laws::multiplexer::Multiplexer;
 use std::alloc::Global;
 
 // Texts go up while they can, and are taken.
 fn texts_up(
     connection: &mut Connection,
     machine: &mut Machine,
-    news: &mut SharedNews,
+    news: &mut Multiplexer,
     heard: &mut Heard,
 ) -> Result<bool, Mem>
     requires { IsReady (visit machine.old connection.old news.old) }
@@ -34,7 +34,7 @@ fn texts_up(
 fn requests(
     connection: &mut Connection,
     machine: &mut Machine,
-    news: &mut SharedNews,
+    news: &mut Multiplexer,
     heard: &mut Heard,
 ) -> Result<bool, Mem>
     requires { IsReady (visit machine.old connection.old news.old) }
@@ -49,7 +49,7 @@ fn requests(
 fn runs(
     connection: &mut Connection,
     machine: &mut Machine,
-    news: &mut SharedNews,
+    news: &mut Multiplexer,
     heard: &mut Heard,
 ) -> Result<bool, Mem>
     requires { IsReady (visit machine.old connection.old news.old) }
@@ -64,7 +64,7 @@ fn learnings(
     alloc: Global,
     connection: &mut Connection,
     machine: &mut Machine,
-    news: &mut SharedNews,
+    news: &mut Multiplexer,
     heard: &mut Heard,
 ) -> Result<bool, Mem>
     requires { IsReady (visit machine.old connection.old news.old) }
@@ -79,7 +79,7 @@ fn learnings(
 fn asks(
     connection: &mut Connection,
     machine: &mut Machine,
-    news: &mut SharedNews,
+    news: &mut Multiplexer,
     heard: &mut Heard,
 ) -> Result<bool, Mem>
     requires { IsReady (visit machine.old connection.old news.old) }
@@ -95,7 +95,7 @@ fn calls(
     alloc: Global,
     connection: &mut Connection,
     machine: &mut Machine,
-    news: &mut SharedNews,
+    news: &mut Multiplexer,
     heard: &mut Heard,
 ) -> Result<bool, Mem>
     requires { IsReady (visit machine.old connection.old news.old) }
@@ -111,7 +111,7 @@ fn serves(
     alloc: Global,
     connection: &mut Connection,
     machine: &mut Machine,
-    news: &mut SharedNews,
+    news: &mut Multiplexer,
     heard: &mut Heard,
 ) -> Result<bool, Mem>
     requires { IsReady (visit machine.old connection.old news.old) }
@@ -128,7 +128,7 @@ pub fn round(
     alloc: Global,
     connection: &mut Connection,
     machine: &mut Machine,
-    news: &mut SharedNews,
+    news: &mut Multiplexer,
     heard: &mut Heard,
 ) -> Result<bool, Mem>
     requires { IsReady (visit machine.old connection.old news.old) }

@@ -8,21 +8,56 @@ ghost use Rattle.connection.specs.core_model.Store.{moments};
 ghost use Rattle.connection.specs.connection_laws.Connection.{IsConnection};
 ghost use Rattle.connection.specs.Answers.{AnswersIn};
 ghost use Rattle.source_laws.specs.News.{AreNews};
-ghost use Rattle.client_rounds.specs.Lending.{IsLentTo};
+ghost use Rattle.client_rounds.specs.Lending.{SpansIn, IsLentTo};
 
 use connection::Connection;
 use connection::core_model::Answer;
-use connection::session_state::sub_of;
+use connection::session_state::{Sub, sub_of};
 use connection::store_machine::Machine;
 use ejson_value::Mem;
-use source_laws::shared_news::{Lent, SharedNews};
+use selector_match::Steps;
+use source_laws::multiplexer::{Lent, Multiplexer};
+use std::marker::Brand;
+use std::sync::ledger::{Blank, Ledger};
 
-// What the subscription's publication tells of the entries to all that ask, where none of its cursors
-// has a limit.
+// The ledger counts how often documents are looked at.
+fn span_by<L: Ledger>(
+    machine: &Machine,
+    news: &mut Multiplexer,
+    live: &Sub,
+    from: u64,
+    count: u64,
+    blank: Blank,
+) -> Result<Option<Lent>, Mem>
+    requires within { from + count ≤ length machine.now.history }
+    requires name { blank.name ≡ L.name }
+    requires parts { blank.parts ≡ L.parts }
+    requires whole { blank.parts ≡ 1 }
+    ensures { SpansIn machine.now live.now from (from + count) news.old news.new result }
+{
+    let mut steps = Steps::<L>::new(blank);
+    news.span(machine, live, from, count, &mut steps)
+}
+
+// What the subscription's publication tells of the entries to all that ask.
+fn span(
+    machine: &Machine,
+    news: &mut Multiplexer,
+    live: &Sub,
+    from: u64,
+    count: u64,
+) -> Result<Option<Lent>, Mem>
+    requires { from + count ≤ length machine.now.history }
+    ensures { SpansIn machine.now live.now from (from + count) news.old news.new result }
+{
+    span_by::<Brand>(machine, news, live, from, count, Blank::new(1))
+}
+
+// The same, where none of the subscription's cursors has a limit.
 fn told(
     connection: &Connection,
     machine: &Machine,
-    news: &mut SharedNews,
+    news: &mut Multiplexer,
     sub: u64,
     from: u64,
     count: u64,
@@ -33,10 +68,10 @@ fn told(
     requires within { from + count ≤ length machine.now.history }
     ensures keeps { AreNews machine.now news.new }
     ensures feeds { IfOk result (λ told. IfSome told (λ lent. IsFeed (moments machine.now.app connection.now.session.carried.number machine.now.history) sub count (arc_value lent.span.told) connection.now.session)) }
-    ensures lent { IfOk result (λ told. IfSome told (IsLentTo machine.now connection.now sub from (from + count) news.new)) }
+    ensures lent { IfOk result (λ told. IfSome told (IsLentTo machine.now connection.now sub from (from + count))) }
 {
     match sub_of(connection.subs(), sub) {
-        Some(live) if !live.cursors.limited() => news.span(machine, live, from, count),
+        Some(live) if !live.cursors.limited() => span(machine, news, live, from, count),
         _ => Ok(None),
     }
 }
@@ -45,7 +80,7 @@ fn told(
 fn advance_alone(
     connection: &mut Connection,
     machine: &Machine,
-    news: &mut SharedNews,
+    news: &mut Multiplexer,
     sub: u64,
     from: u64,
     count: u64,
@@ -66,7 +101,7 @@ fn advance_alone(
 fn advance_within(
     connection: &mut Connection,
     machine: &Machine,
-    news: &mut SharedNews,
+    news: &mut Multiplexer,
     sub: u64,
     from: u64,
     count: u64,
@@ -95,7 +130,7 @@ fn advance_within(
 pub(crate) fn advance(
     connection: &mut Connection,
     machine: &Machine,
-    news: &mut SharedNews,
+    news: &mut Multiplexer,
     sub: u64,
     count: u64,
 ) -> Result<Answer, Mem>

@@ -15,7 +15,7 @@ use Rattle.ejson_value.specs.Key.{key_cmp, key_order, name_order}
 use Rattle.ejson_value.specs.Rows.{Rows}
 use Rattle.kept_document.specs.Held.{KeptDoc, IsAlone}
 use Rattle.merge_box.specs.State.{KeptDocs}
-use Rattle.shared_news.specs.Known.{IsSeenAs}
+use Rattle.multiplexer.specs.Known.{IsSeenAs}
 
 -- ---- one way of seeing it
 

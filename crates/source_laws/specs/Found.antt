@@ -28,13 +28,14 @@ use Rattle.connection_laws.specs.session_relation.Resolved.{cursors_in}
 use Rattle.connection_laws.specs.session_relation.Stands.{items_of}
 use Rattle.session_state.specs.declared.subs.Sub.{Sub}
 use Rattle.session_state.specs.Subs.{as_live, live_of, observers_of, observer_at}
-use Rattle.connection_laws.specs.session_laws.Meaning.{IsWatched, AreWatched}
+use Rattle.connection_laws.specs.session_laws.Session.{ASession}
+use Rattle.connection_laws.specs.session_laws.Meaning.{IsWatched, AreWatched, Means}
 use Rattle.connection_laws.specs.session_laws.Differences.{sorted_renewed, renewed_at}
 use Rattle.connection_laws.specs.session_laws.Events.{IsFeed, cursors_at}
 use Rattle.connection_laws.specs.core_model.Store.{moments}
 use Rattle.connection_laws.specs.Showing.{leading_feeds}
 use Rattle.connection_laws.specs.Connection.{AConnection, IsConnection}
-use Rattle.shared_news.specs.Leading.{News, IsLead}
+use Rattle.multiplexer.specs.Leading.{News, IsLead}
 use Rattle.source_laws.specs.Sources.{IsMadeBy, AreMadeBy, has_limit, AreSubs, IsSub, IsSourceOf, AreSourcesOf}
 use Rattle.source_laws.specs.Made.{journal_made}
 
@@ -108,7 +109,7 @@ of_found f otherwise number l (x ∷ ls) is =
 -- ---- what leads
 
 -- news that lead from what cursors publish of some documents to what they publish of others, put into the one, make the other
-renewed_leads : (cursors : ACursors) (rows rows' : Rows) (told : News) → IsSorted key_cmp rows → IsSorted key_cmp rows' → IsLead (published cursors rows) (published cursors rows') told →
+pub renewed_leads : (cursors : ACursors) (rows rows' : Rows) (told : News) → IsSorted key_cmp rows → IsSorted key_cmp rows' → IsLead (published cursors rows) (published cursors rows') told →
     renewed key_cmp (queried cursors rows) told ≡ queried cursors rows'
 renewed_leads cursors rows rows' told p q d =
     let shown = queried cursors rows in
@@ -118,6 +119,31 @@ renewed_leads cursors rows rows' told p q d =
     ∙ (ap (λ (x : Option Entries). unwrap_or (at key_cmp told key) x) (at_queried cursors rows key p)
     ∙ (d.leads key ∙ sym (at_queried cursors rows' key q))))
 
+-- ---- of a session
+
+module _ (app : App) (taken : List (List ℕ)) (C : List Moment) (sent : List (List ℕ)) (s : ASession) (served : s.carried.app ≡ app) (m : Means taken C sent s) where
+  -- the cursors that its subscriptions have are those that the application makes
+  pub session_made : AreMadeBy app s.carried.own.subs
+  session_made =
+      let k = s.carried in
+      subst (λ (a : App). AreMadeBy a k.own.subs) served (subst (λ (st : State). AreMadeBy k.app st.subs) (sym m.stands.own) (journal_made k.app k.number C (items_of taken k) m.stands.fits))
+
+  pub session_sources : (subs : List Sub) → AreSubs subs s → All (IsSourceOf app) subs
+  session_sources subs these =
+      All-from_recursion (IsSourceOf app) subs
+      (sources app C subs (subst (AreMadeBy app) (sym these.live) session_made)
+      (subst (λ (ls : List Live). AreWatched C ls (observers_of subs)) (sym these.live) (subst (AreWatched C s.carried.own.subs) (sym these.observers) m.watched)))
+
+  pub session_source : (number : ℕ) (sub : Sub) → IsSub number sub s → IsSourceOf app sub
+  session_source number sub is = let both = found app C number sub s.carried.own.subs s.observers session_made m.watched is.live is.observer in source app C sub both.0 both.1
+
+module _ (number : ℕ) (sub : Sub) (s : ASession) (is : IsSub number sub s) where
+  pub session_cursors : cursors_at number s ≡ sub.cursors
+  session_cursors = of_found (λ (l : Live). l.cursors) [] number (as_live sub) s.carried.own.subs is.live
+
+  pub session_place : cursor_of number s.carried.own.subs ≡ sub.cursor
+  session_place = of_found (λ (l : Live). l.cursor) None number (as_live sub) s.carried.own.subs is.live
+
 -- ---- of a connection
 
 module _ (app : App) (name : List ℕ) (history : List Entry) (x : AConnection) (p : IsConnection app name history x) where
@@ -126,26 +152,20 @@ module _ (app : App) (name : List ℕ) (history : List Entry) (x : AConnection) 
 
   -- the cursors that the session's subscriptions have are those that the application makes
   pub all_made : AreMadeBy app x.session.carried.own.subs
-  all_made =
-      let s = x.session.carried in
-      subst (λ (a : App). AreMadeBy a s.own.subs) p.served
-      (subst (λ (st : State). AreMadeBy s.app st.subs) (sym p.means.stands.own) (journal_made s.app s.number C (items_of x.received s) p.means.stands.fits))
+  all_made = session_made app x.received C x.sent x.session p.served p.means
 
   pub all_sources : (subs : List Sub) → AreSubs subs x.session → All (IsSourceOf app) subs
-  all_sources subs these =
-      All-from_recursion (IsSourceOf app) subs
-      (sources app C subs (subst (AreMadeBy app) (sym these.live) all_made)
-      (subst (λ (ls : List Live). AreWatched C ls (observers_of subs)) (sym these.live) (subst (AreWatched C x.session.carried.own.subs) (sym these.observers) p.means.watched)))
+  all_sources = session_sources app x.received C x.sent x.session p.served p.means
 
   module _ (number : ℕ) (sub : Sub) (is : IsSub number sub x.session) where
     pub is_source : IsSourceOf app sub
-    is_source = let both = found app C number sub x.session.carried.own.subs x.session.observers all_made p.means.watched is.live is.observer in source app C sub both.0 both.1
+    is_source = session_source app x.received C x.sent x.session p.served p.means number sub is
 
     pub cursors_are : cursors_at number x.session ≡ sub.cursors
-    cursors_are = of_found (λ (l : Live). l.cursors) [] number (as_live sub) x.session.carried.own.subs is.live
+    cursors_are = session_cursors number sub x.session is
 
     pub place_is : cursor_of number x.session.carried.own.subs ≡ sub.cursor
-    place_is = of_found (λ (l : Live). l.cursor) None number (as_live sub) x.session.carried.own.subs is.live
+    place_is = session_place number sub x.session is
 
 -- ---- what feeds it
 

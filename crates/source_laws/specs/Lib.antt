@@ -5,5 +5,5 @@ pub mod News
 pub mod Alone
 pub mod Texts
 -- what lies below, for the crates above
-pub mod shared_news
-pub mod shared_news_for_proofs
+pub mod multiplexer
+pub mod multiplexer_for_proofs

@@ -15,8 +15,8 @@ use Rattle.connection_laws.specs.store_machine.declared.fault.BeginFault.{BeginF
 use Rattle.connection_laws.specs.store_machine.declared.fault.AdminFault.{AdminFault}
 use Rattle.connection_laws.specs.store_machine.declared.fault.AdminFault.TheVariants as admin
 use Rattle.connection_laws.specs.store_machine.State.{MachineState, programs, held_by, with_entry, full_with, begin_answer, is_running, step_state, by_answer, by_operation, admin_answer, BeginGives, AdminGives}
-use Rattle.shared_news.specs.Telling.{ANews, nothing_told, AreTold}
-use Rattle.shared_news.specs.Longer.{told_longer, nothing_told_yet}
+use Rattle.multiplexer.specs.Telling.{ANews, nothing_told, AreTold}
+use Rattle.multiplexer.specs.Longer.{told_longer, nothing_told_yet}
 use Rattle.source_laws.specs.Sources.{cursors_at_of}
 
 -- the answers are of the application's publications and the machine's history

@@ -10,7 +10,7 @@ use Rattle.connection_laws.specs.session_relation.Resolved.{cursors_in}
 use Rattle.session_state.specs.declared.subs.Sub.{Sub}
 use Rattle.session_state.specs.Subs.{as_live, live_of, observers_of, observer_at}
 use Rattle.connection_laws.specs.session_laws.Session.{ASession}
-use Rattle.shared_news.specs.Telling.{CursorsAt, IsSource}
+use Rattle.multiplexer.specs.Telling.{CursorsAt, IsSource}
 
 -- the cursors that the application's publication of this name makes with the parameters; none where it makes none
 abbrev pub cursors_at_of : App → CursorsAt

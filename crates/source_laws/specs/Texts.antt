@@ -36,7 +36,7 @@ use Rattle.connection_laws.specs.core_model.Store.{moments}
 use Rattle.connection_laws.specs.link_laws.Moments.{moment_there}
 use Rattle.connection_laws.specs.Showing.{cursor_within}
 use Rattle.connection_laws.specs.Connection.{AConnection, IsConnection}
-use Rattle.shared_news.specs.Known.{IsSeenAs, text_of, IsKnown, AreKnown}
+use Rattle.multiplexer.specs.Known.{IsSeenAs, text_of, IsKnown, AreKnown}
 use Rattle.source_laws.specs.Sources.{IsSub}
 use Rattle.source_laws.specs.Found.{cursors_are, place_is}
 use Rattle.source_laws.specs.Alone.{seen_once, seen_alone}
@@ -52,7 +52,7 @@ told_as_seen box one = said (between text_cmp same_value (seen_in box one.0) one
     said (Some step) = refl
 
 -- a client sees each document that the subscription alone publishes as it was shown before
-abbrev SeesAlone : ℕ → KeptDocs → (Key → Option Entries) → Type 0
+abbrev pub SeesAlone : ℕ → KeptDocs → (Key → Option Entries) → Type 0
 SeesAlone sub box before = (key : Key) → IsAlone sub (publishers_at key_cmp box key) → IsSeenAs (seen_in box key) (before key)
 
 module _ (sub : ℕ) (box : KeptDocs) (before : Key → Option Entries) (sees : SeesAlone sub box before) where
@@ -61,7 +61,7 @@ module _ (sub : ℕ) (box : KeptDocs) (before : Key → Option Entries) (sees : 
   right_one one (Some text) known = λ alone. told_as_seen box one ∙ known (seen_in box one.0) (sees one.0 alone)
 
   -- what is known is right for it
-  known_right : (news : NewsList) (texts : Texts) → AreKnown before news texts → AreRight sub box news texts
+  pub known_right : (news : NewsList) (texts : Texts) → AreKnown before news texts → AreRight sub box news texts
   known_right news [] known = tt
   known_right [] (text ∷ texts) known = absurd known
   known_right (one ∷ news) (text ∷ texts) known = (right_one one text known.0, known_right news texts known.1)
@@ -74,7 +74,7 @@ module _ (sub : ℕ) (box : KeptDocs) (before : Key → Option Entries) (sees : 
       ap (text_of one) (seen_once seen (seen_in box one.0) (before one.0) is (sees one.0 learnt.0)) ∙ (sym (told_as_seen box one) ∙ learnt.1)
 
   -- and what is learnt of it is known for all
-  learnt_known : (news : NewsList) (old new : Texts) → AreKnown before news old → AreLearnt sub box news old new → AreKnown before news new
+  pub learnt_known : (news : NewsList) (old new : Texts) → AreKnown before news old → AreLearnt sub box news old new → AreKnown before news new
   learnt_known news [] [] known learnt = tt
   learnt_known news [] (text ∷ texts) known learnt = absurd learnt
   learnt_known news (was ∷ old) [] known learnt = absurd learnt
@@ -92,7 +92,7 @@ module _ (taken : List (List ℕ)) (C : List Moment) (sent : List (List ℕ)) (s
   shows_at : (key : Key) → at key_cmp (shown key_cmp (calls_of C (items_of taken s.carried)) number) key ≡ published (cursors_at number s) (rows_at C start) key
   shows_at key = ap (λ (rows : Rows). at key_cmp rows key) (shows ∙ shown_from C number start s.carried.own.subs is) ∙ at_queried (cursors_at number s) (rows_at C start) key (m.order start)
 
-  sees_alone : SeesAlone number s.carried.box (published (cursors_at number s) (rows_at C start))
+  pub sees_alone : SeesAlone number s.carried.box (published (cursors_at number s) (rows_at C start))
   sees_alone key alone =
       let past = calls_of C (items_of taken s.carried) in
       subst (IsSeenAs (seen_in s.carried.box key)) (shows_at key) (seen_alone (shown key_cmp past) (shown_since key_cmp text_cmp past) s.carried.box m.stands.shows number key alone)

@@ -8,8 +8,8 @@ mod news;
 mod sources;
 mod texts;
 
+pub use multiplexer;
 pub use news::{histories_go_on, machines_answer, news_go_on};
-pub use shared_news;
 pub use sources::{
     limits_are_tested, live_subscriptions_have_their_cursors, subscriptions_are_sources,
     told_news_feed,

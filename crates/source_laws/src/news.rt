@@ -7,7 +7,7 @@ ghost use Rattle.connection_laws.specs.history_model.declared.entry.Entry.{Entry
 ghost use Rattle.connection_laws.specs.store_machine.declared.fault.BeginFault.{BeginFault};
 ghost use Rattle.connection_laws.specs.store_machine.declared.fault.AdminFault.{AdminFault};
 ghost use Rattle.connection_laws.specs.store_machine.State.{MachineState, begin_answer, step_state, admin_answer, BeginGives, AdminGives};
-ghost use Rattle.shared_news.specs.Telling.{ANews, nothing_told};
+ghost use Rattle.multiplexer.specs.Telling.{ANews, nothing_told};
 ghost use Rattle.source_laws.specs.News.{AreNews, GoesOn};
 
 /// Nothing is told beside a new machine, or once all answers are forgotten; what is told stays so while the machine goes on.

@@ -18,7 +18,7 @@ ghost use Rattle.session_state.specs.declared.subs.Sub.{Sub as ASub};
 ghost use Rattle.connection_laws.specs.session_laws.Events.{IsFeed, cursors_at};
 ghost use Rattle.connection_laws.specs.core_model.Store.{moments};
 ghost use Rattle.connection_laws.specs.Connection.{AConnection, IsConnection};
-ghost use Rattle.shared_news.specs.Leading.{IsLead};
+ghost use Rattle.multiplexer.specs.Leading.{IsLead};
 ghost use Rattle.source_laws.specs.Sources.{AreMadeBy, has_limit, AreSubs, IsSub, IsSourceOf};
 
 /// Each live subscription of a journal that fits has the cursors that its publication makes with its parameters.

@@ -17,7 +17,7 @@ ghost use Rattle.connection_laws.specs.store_machine.State.{MachineState, held_a
 ghost use Rattle.session_state.specs.declared.subs.Sub.{Sub as ASub};
 ghost use Rattle.session_parts.specs.Known.{AreRight, AreLearnt};
 ghost use Rattle.connection_laws.specs.Connection.{AConnection, IsConnection};
-ghost use Rattle.shared_news.specs.Known.{IsSeenAs, AreKnown};
+ghost use Rattle.multiplexer.specs.Known.{IsSeenAs, AreKnown};
 ghost use Rattle.source_laws.specs.Sources.{IsSub};
 
 /// Where no other subscription publishes a document, a client sees of it what the subscription shows, and there is one way of

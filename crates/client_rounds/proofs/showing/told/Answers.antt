@@ -19,5 +19,5 @@ pub returns-in-Some-clause-lent : goal.returns-in-Some-clause-lent
 returns-in-Some-clause-lent c =
     let is : IsSub c.args.sub c.in-Some.live.now c.args.connection.now.session = sub_is c.args.sub c.subs.result.now c.in-Some.live.now c.args.connection.now.session c.subs.ensures.live c.subs.ensures.observers c.in-Some.ensures.live c.in-Some.ensures.observer in
     let none = sym c.limited.ensures ∙ c.if-not-limited.true in
-    lends c.args.machine.now c.args.connection.now c.requires.connection c.args.sub c.in-Some.live.now is none c.args.from (c.args.from + c.args.count) c.span.new.self c.requires.is c.span.result
+    lends c.args.machine.now c.args.connection.now c.requires.connection c.args.sub c.in-Some.live.now is none c.args.from (c.args.from + c.args.count) c.requires.is c.span.result
     (c.span.ensures.lent (cursors_at_of c.args.machine.now.app) c.requires.news (source c.args.machine.now c.args.connection.now c.requires.connection c.args.sub c.in-Some.live.now is none))

@@ -1,0 +1,12 @@
+pub mod Alike
+pub mod Places
+pub mod Joins
+pub mod Growing
+pub mod Sources
+pub mod Kept
+pub mod Texts
+pub mod Soles
+pub mod Putting
+pub mod Counts
+pub mod Weights
+pub mod Finds

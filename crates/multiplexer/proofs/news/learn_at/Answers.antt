@@ -1,0 +1,20 @@
+use Rattle.std.specs.Prelude.{vec_len}
+use Rattle.std.proofs.Common.{refl, arith}
+use Rattle.std.proofs.lemmas.Option.{slice_get_read}
+use Rattle.multiplexer.specs.Bounds.{IsSmall}
+use Rattle.multiplexer.specs.Inside.{seen_span}
+use Rattle.multiplexer.proofs.Sources.{all_at, all_learnt}
+use Rattle.multiplexer.proofs.Weights.{bounded_with}
+use Rattle.multiplexer.proofs.news.learn_at.Goals as goal
+
+pub returns-in-Some-clause-bounded : goal.returns-in-Some-clause-bounded
+returns-in-Some-clause-bounded c = λ bounded.
+    let sources = c.args.sources.now.items in
+    let at = slice_get_read sources (vec_len c.args.sources.now) c.args.place c.in-Some.source.now (omega (arith, c.args.sources.now.ok.0)) (c.in-Some.ensures.variant.0 refl) c.in-Some.ensures.value in
+    bounded_with sources c.args.place c.learn.new.self (c.learn.ensures.small (all_at IsSmall sources c.args.place c.in-Some.source.now bounded.each at)) bounded
+
+pub returns-in-Some-clause-told : goal.returns-in-Some-clause-told
+returns-in-Some-clause-told c = λ cursors_at m sub from until all source placed asked.
+    let sources = c.args.sources.now.items in
+    let at = slice_get_read sources (vec_len c.args.sources.now) c.args.place c.in-Some.source.now (omega (arith, c.args.sources.now.ok.0)) (c.in-Some.ensures.variant.0 refl) c.in-Some.ensures.value in
+    all_learnt cursors_at m sub sources c.args.place c.in-Some.source.now c.learn.new.self (seen_span c.args.span) at placed source asked.is c.learn.ensures.same (c.learn.ensures.told sub.cursors m) all

@@ -1,0 +1,15 @@
+pub mod Leading
+pub mod Known
+pub mod Telling
+pub mod Longer
+pub mod Between
+pub mod Params
+pub mod Joining
+pub mod Bounds
+pub mod Sources
+pub mod Looks
+pub mod Inside
+pub mod Spans
+pub mod Lending
+pub mod Origins
+pub mod Parts

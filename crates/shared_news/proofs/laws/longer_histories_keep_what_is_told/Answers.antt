@@ -1,8 +1,0 @@
-use Rattle.shared_news.specs.Longer.{told_longer, nothing_told_yet}
-use Rattle.shared_news.proofs.laws.longer_histories_keep_what_is_told.Goals as goal
-
-pub returns-clause-first : goal.returns-clause-first
-returns-clause-first c = nothing_told_yet
-
-pub returns-clause-longer : goal.returns-clause-longer
-returns-clause-longer c = told_longer

@@ -1,0 +1,3 @@
+-- What proofs of crates above name of `multiplexer`.
+pub use Rattle.multiplexer.specs.Between
+pub use Rattle.multiplexer.specs.Lending
