@@ -1,4 +1,3 @@
-pub mod Puts
 pub mod Sends
 pub mod Sides
 pub mod Told

@@ -16,7 +16,7 @@ use Rattle.app_model.specs.contracts.publication.CursorRule as cursorrule
 use Rattle.app_model.specs.contracts.publication.Projection as projection
 use Rattle.app_model.specs.contracts.publication.Publication as publication
 use Rattle.client_rounds.specs.client_core_for_proofs.contracts.client.Client as client
-use Rattle.client_lanes.specs.contracts.lanes.Lane as lane
+use Rattle.lanes.specs.contracts.lane.Lane as lane
 use Rattle.ejson_value.specs.contracts.text.Text as text_row
 use Rattle.std.specs.contracts.alloc.Global as global_row
 use Rattle.client_rounds.specs.client_parts_for_proofs.contracts.calls.Call as ccall
@@ -367,10 +367,10 @@ machine_sync = search (app_sync, mparts_sync, maps.crosses, std.crosses, sendabl
 pub machine_whole : IsSync machine.the_row
 machine_whole = search (machine_sync, sendable) depth 60 fits 20000
 
-pub lane_send : IsSend lane.the_field.row
-lane_send = search (text.the_send, connection_send, maps.crosses, std.crosses, sendable) depth 60 fits 20000
+pub lane_send : IsSend (lane.the_field connection.the_row).row
+lane_send = search (text.the_send, connection_whole, maps.crosses, std.crosses, sendable) depth 60 fits 20000
 
-pub lane_whole : IsSend lane.the_row
+pub lane_whole : IsSend (lane.the_row connection.the_row)
 lane_whole = search (lane_send, sendable) depth 60 fits 20000
 
 pub text_whole : IsSync text_row.the_row

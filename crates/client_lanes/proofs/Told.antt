@@ -12,11 +12,11 @@ use Rattle.client_rounds.specs.store_machine.State.{MachineState}
 use Rattle.client_rounds.specs.core_model.Settle.{Phase, order}
 use Rattle.client_rounds.specs.connection_laws.Connection.{AConnection}
 use Rattle.client_rounds.specs.connection.Asks.{asks_nothing}
-use Rattle.client_rounds.specs.shared_news.Telling.{ANews, nothing_told}
+use Rattle.client_rounds.specs.multiplexer.Telling.{ANews, nothing_told}
 use Rattle.client_rounds.specs.News.{AreNews, nothing_is_news}
 use Rattle.client_rounds.specs.Visit.{visit, IsReady, Passes}
-use Rattle.lane_laws.specs.Lanes.{Named, VisitBy, EachTold, IsAmong, AreLed, AreTold, Hears}
-use Rattle.lane_laws.specs.Telling.{next_take, told_more, visit_ok, told_left}
+use Rattle.lanes.specs.Lanes.{Named, VisitBy, EachTold, IsAmong, AreLed, AreTold, Hears}
+use Rattle.lanes.specs.Telling.{next_take, told_more, visit_ok, told_left}
 use Rattle.client_lanes.specs.Visits.{CanBeTold, AreReady, Tells, Leads, TellsIn}
 
 module _ (m : MachineState) where
@@ -72,6 +72,11 @@ module _ (m : MachineState) where
         cut xs zero = refl
         cut [] (suc n) = refl
         cut (x ∷ xs) (suc n) = ap (λ ys. x ∷ ys) (cut xs n)
+
+-- where nobody is there
+pub nobody_told : {X : Type 0} (Tells : X → X → Bool → Type 0) (names : List (List ℕ)) → EachTold Tells names [] [] false
+nobody_told Tells [] = (refl, refl)
+nobody_told Tells (name ∷ names) = ([], false, false, (refl, refl), nobody_told Tells names, refl)
 
 -- where nothing was told yet
 pub no_news : (m : MachineState) (news : ANews) → news ≡ nothing_told → AreNews m news

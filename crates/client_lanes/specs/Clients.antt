@@ -9,7 +9,7 @@ use Rattle.client_rounds.specs.core_model.declared.events.Event.{Event}
 use Rattle.client_rounds.specs.link_laws.Session.{IsServed}
 use Rattle.client_rounds.specs.connection_laws.Connection.{AConnection, as_conn, IsConnection}
 use Rattle.client_rounds.specs.connection.Acting.{TellsOver, AsksFor}
-use Rattle.lane_laws.specs.Lanes.{Named, IsVisit}
+use Rattle.lanes.specs.Lanes.{Named, IsVisit}
 
 -- the client can act over the machine's history
 pub record IsReady (m : MachineState) (name : List ℕ) (c : AConnection) : Type 0 where

@@ -19,5 +19,5 @@ pub mod link_laws
 pub mod link_laws_for_proofs
 pub mod minimongo
 pub mod round_laws
-pub mod shared_news
+pub mod multiplexer
 pub mod store_machine

@@ -8,9 +8,9 @@ use Rattle.client_rounds.specs.core_model.Settle.{order}
 use Rattle.client_rounds.specs.link_laws.Links.{IsLinked}
 use Rattle.client_rounds.specs.connection_laws.Connection.{AConnection, as_conn, IsConnection}
 use Rattle.client_rounds.specs.connection.Asks.{asks_nothing}
-use Rattle.client_rounds.specs.shared_news.Telling.{ANews}
+use Rattle.client_rounds.specs.multiplexer.Telling.{ANews}
 use Rattle.client_rounds.specs.Visit.{visit, IsReady, IsLed, ArePassed, Passes}
-use Rattle.lane_laws.specs.Lanes.{Named, IsVisit, Hears}
+use Rattle.lanes.specs.Lanes.{Named, IsVisit, Hears}
 
 -- ---- rounds
 

@@ -6,17 +6,19 @@ ghost use Rattle.value_model.specs.Order.{text_cmp};
 ghost use Rattle.client_rounds.specs.history_log.Lines.{store_lines};
 ghost use Rattle.client_rounds.specs.store_machine.State.{held_by};
 ghost use Rattle.client_rounds.specs.News.{AreNews};
-ghost use Rattle.lane_laws.specs.Lanes.{AreTold};
-ghost use Rattle.lane_laws.specs.Unions.{AreLanes};
+ghost use Rattle.lanes.specs.Lanes.{AreTold};
+ghost use Rattle.lanes.specs.Unions.{AreLanes};
 ghost use Rattle.client_lanes.specs.Visits.{AreReady, Tells, Leads};
 
-use crate::lanes::{Clients, Lane, Three, Two};
+use crate::clients::{Clients, NoLane};
 use crate::telling::{either, told_in_turn};
-use client_rounds::shared_news::SharedNews;
+use client_rounds::connection::Connection;
+use client_rounds::multiplexer::Multiplexer;
 use client_rounds::store_machine::Machine;
 use ejson_codec::Lines;
 use ejson_value::{Mem, Text};
 use heard_messages::Heard;
+use lanes::{Both, Lane, Lanes};
 use std::alloc::Global;
 use std::marker::Sync;
 use std::thread::{Threads, available_parallelism, join_mut};
@@ -38,53 +40,57 @@ fn told_alone(
     alloc: Global,
     machine: &Machine,
     names: &[Text],
-    lane: &mut Lane,
+    lane: &mut Lane<Connection>,
 ) -> Result<bool, Mem>
     requires { AreReady machine.now lane.old }
     ensures { AreTold (Tells machine.now) (Leads machine.now) names.now lane.old lane.new result }
 {
-    let mut news = SharedNews::new(alloc);
+    let mut news = Multiplexer::new(alloc);
     let mut heard = Heard::new(alloc);
     told_in_turn(alloc, machine, &mut news, &mut heard, names, lane)
 }
 
-// The same of one lane by a thread, while this one waits: a thread that has just been made may wait for
-// the processor of the one that made it.
-fn told_beside<R: Threads + Sync>(
-    rt: &R,
-    alloc: Global,
-    machine: &Machine,
-    names: &[Text],
-    lane: &mut Lane,
-) -> Result<bool, Mem>
-    requires { AreReady machine.now lane.old }
-    ensures { AreTold (Tells machine.now) (Leads machine.now) names.now lane.old lane.new result }
-{
-    let (told, _) = join_mut(
-        rt,
-        &mut || -> Result<bool, Mem>
-            requires { AreReady machine.now lane.now }
-            ensures { AreTold (Tells machine.entry.now) (Leads machine.entry.now) names.entry.now lane.entry.now lane.exit.now result }
-        { told_alone(alloc, machine, names, lane) },
-        &mut || {},
-    );
-    told
+// Lanes each of which a thread tells.
+trait ByThreads: Lanes<Connection> {
+    // What there is to show goes to those of these names that are in the lanes.
+    fn told_by_threads<R: Threads>(
+        rt: &R,
+        alloc: Global,
+        machine: &Machine,
+        names: &[Text],
+        clients: &mut Self,
+    ) -> Result<bool, Mem>
+        requires { AreReady machine.now (Self.values clients.old) }
+        ensures { AreTold (Tells machine.now) (Leads machine.now) names.now (Self.values clients.old) (Self.values clients.new) result };
 }
 
-// The same of two lanes, each by a thread.
-fn two_told<R: Threads + Sync>(
+impl ByThreads for NoLane {
+    fn told_by_threads<R: Threads>(
+        _rt: &R,
+        _alloc: Global,
+        _machine: &Machine,
+        _names: &[Text],
+        _clients: &mut NoLane,
+    ) -> Result<bool, Mem> {
+        Ok(false)
+    }
+}
+
+// A thread tells the lane, while this one has the others told: a thread that has just been made may wait for the
+// processor of the one that made it, so that this one tells none.
+fn both_told<R: Threads, B: ByThreads>(
     rt: &R,
     alloc: Global,
     machine: &Machine,
     names: &[Text],
-    one: &mut Lane,
-    other: &mut Lane,
+    one: &mut Lane<Connection>,
+    other: &mut B,
 ) -> Result<bool, Mem>
-    requires lanes { AreLanes one.old other.old }
+    requires lanes { AreLanes one.old (B.values other.old) }
     requires one { AreReady machine.now one.old }
-    requires other { AreReady machine.now other.old }
-    ensures told { AreTold (Tells machine.now) (Leads machine.now) names.now (union text_cmp one.old other.old) (union text_cmp one.new other.new) result }
-    ensures lanes { AreLanes one.new other.new }
+    requires other { AreReady machine.now (B.values other.old) }
+    ensures told { AreTold (Tells machine.now) (Leads machine.now) names.now (union text_cmp one.old (B.values other.old)) (union text_cmp one.new (B.values other.new)) result }
+    ensures lanes { AreLanes one.new (B.values other.new) }
 {
     let (first, second) = join_mut(
         rt,
@@ -93,111 +99,30 @@ fn two_told<R: Threads + Sync>(
             ensures { AreTold (Tells machine.entry.now) (Leads machine.entry.now) names.entry.now one.entry.now one.exit.now result }
         { told_alone(alloc, machine, names, one) },
         &mut || -> Result<bool, Mem>
-            requires { IsSync R.row × AreReady machine.now other.now }
-            ensures { AreTold (Tells machine.entry.now) (Leads machine.entry.now) names.entry.now other.entry.now other.exit.now result }
-        { told_beside(rt, alloc, machine, names, other) },
+            requires { AreReady machine.now (B.values other.now) }
+            ensures { AreTold (Tells machine.entry.now) (Leads machine.entry.now) names.entry.now (B.values other.entry.now) (B.values other.exit.now) result }
+        { B::told_by_threads(rt, alloc, machine, names, other) },
     );
     either(first, second)
 }
 
-// The same.
-fn told_by_two<R: Threads + Sync>(
-    rt: &R,
-    alloc: Global,
-    machine: &Machine,
-    names: &[Text],
-    lanes: &mut Two,
-) -> Result<bool, Mem>
-    requires { AreReady machine.now lanes.old }
-    ensures { AreTold (Tells machine.now) (Leads machine.now) names.now lanes.old lanes.new result }
-{
-    two_told(rt, alloc, machine, names, &mut lanes.one, &mut lanes.other)
-}
-
-// The same of three lanes, each by a thread.
-fn three_told<R: Threads + Sync>(
-    rt: &R,
-    alloc: Global,
-    machine: &Machine,
-    names: &[Text],
-    one: &mut Lane,
-    other: &mut Two,
-) -> Result<bool, Mem>
-    requires lanes { AreLanes one.old other.old }
-    requires one { AreReady machine.now one.old }
-    requires other { AreReady machine.now other.old }
-    ensures told { AreTold (Tells machine.now) (Leads machine.now) names.now (union text_cmp one.old other.old) (union text_cmp one.new other.new) result }
-    ensures lanes { AreLanes one.new other.new }
-{
-    let (first, second) = join_mut(
-        rt,
-        &mut || -> Result<bool, Mem>
-            requires { AreReady machine.now one.now }
-            ensures { AreTold (Tells machine.entry.now) (Leads machine.entry.now) names.entry.now one.entry.now one.exit.now result }
-        { told_alone(alloc, machine, names, one) },
-        &mut || -> Result<bool, Mem>
-            requires { IsSync R.row × AreReady machine.now other.now }
-            ensures { AreTold (Tells machine.entry.now) (Leads machine.entry.now) names.entry.now other.entry.now other.exit.now result }
-        { told_by_two(rt, alloc, machine, names, other) },
-    );
-    either(first, second)
-}
-
-// The same.
-fn told_by_three<R: Threads + Sync>(
-    rt: &R,
-    alloc: Global,
-    machine: &Machine,
-    names: &[Text],
-    lanes: &mut Three,
-) -> Result<bool, Mem>
-    requires { AreReady machine.now lanes.old }
-    ensures { AreTold (Tells machine.now) (Leads machine.now) names.now lanes.old lanes.new result }
-{
-    three_told(rt, alloc, machine, names, &mut lanes.one, &mut lanes.other)
-}
-
-// The same of four lanes, each by a thread.
-fn four_told<R: Threads + Sync>(
-    rt: &R,
-    alloc: Global,
-    machine: &Machine,
-    names: &[Text],
-    one: &mut Lane,
-    other: &mut Three,
-) -> Result<bool, Mem>
-    requires lanes { AreLanes one.old other.old }
-    requires one { AreReady machine.now one.old }
-    requires other { AreReady machine.now other.old }
-    ensures told { AreTold (Tells machine.now) (Leads machine.now) names.now (union text_cmp one.old other.old) (union text_cmp one.new other.new) result }
-    ensures lanes { AreLanes one.new other.new }
-{
-    let (first, second) = join_mut(
-        rt,
-        &mut || -> Result<bool, Mem>
-            requires { AreReady machine.now one.now }
-            ensures { AreTold (Tells machine.entry.now) (Leads machine.entry.now) names.entry.now one.entry.now one.exit.now result }
-        { told_alone(alloc, machine, names, one) },
-        &mut || -> Result<bool, Mem>
-            requires { IsSync R.row × AreReady machine.now other.now }
-            ensures { AreTold (Tells machine.entry.now) (Leads machine.entry.now) names.entry.now other.entry.now other.exit.now result }
-        { told_by_three(rt, alloc, machine, names, other) },
-    );
-    either(first, second)
-}
-
-// The same.
-fn told_by_four<R: Threads + Sync>(
-    rt: &R,
-    alloc: Global,
-    machine: &Machine,
-    names: &[Text],
-    lanes: &mut Clients,
-) -> Result<bool, Mem>
-    requires { AreReady machine.now lanes.old }
-    ensures { AreTold (Tells machine.now) (Leads machine.now) names.now lanes.old lanes.new result }
-{
-    four_told(rt, alloc, machine, names, &mut lanes.one, &mut lanes.other)
+impl<B: ByThreads> ByThreads for Both<Connection, B> {
+    fn told_by_threads<R: Threads>(
+        rt: &R,
+        alloc: Global,
+        machine: &Machine,
+        names: &[Text],
+        clients: &mut Both<Connection, B>,
+    ) -> Result<bool, Mem> {
+        both_told(
+            rt,
+            alloc,
+            machine,
+            names,
+            &mut clients.one,
+            &mut clients.other,
+        )
+    }
 }
 
 // Whether there is a processor for each lane.
@@ -219,7 +144,7 @@ pub trait Hands {
         &self,
         alloc: Global,
         machine: &Machine,
-        news: &mut SharedNews,
+        news: &mut Multiplexer,
         heard: &mut Heard,
         names: &[Text],
         work: u64,
@@ -248,7 +173,7 @@ impl Hands for InTurn {
         &self,
         alloc: Global,
         machine: &Machine,
-        news: &mut SharedNews,
+        news: &mut Multiplexer,
         heard: &mut Heard,
         names: &[Text],
         _work: u64,
@@ -282,7 +207,7 @@ impl<'a, R: Threads + Sync> Hands for OnThreads<'a, R> {
         &self,
         alloc: Global,
         machine: &Machine,
-        news: &mut SharedNews,
+        news: &mut Multiplexer,
         heard: &mut Heard,
         names: &[Text],
         work: u64,
@@ -291,7 +216,7 @@ impl<'a, R: Threads + Sync> Hands for OnThreads<'a, R> {
         if work < MUCH_WORK || names.len() < 2 || !are_many(self.rt) {
             return told_in_turn(alloc, machine, news, heard, names, clients);
         }
-        told_by_four(self.rt, alloc, machine, names, clients)
+        Clients::told_by_threads(self.rt, alloc, machine, names, clients)
     }
 
     fn store_lines(&self, alloc: Global, machine: &Machine) -> Result<Lines, Mem> {

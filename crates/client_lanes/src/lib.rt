@@ -1,12 +1,13 @@
-//! The clients of a world by name, in lanes, so that threads may each tell those of a lane what there is to show.
+//! The clients of a world, which act, are asked and are told one after another, or those of each lane by a thread.
 #![tactic(auto)]
 
+mod clients;
 mod hands;
-mod lanes;
 mod telling;
 mod visits;
 
 pub use client_rounds::connection::{Connection, named};
-pub use client_rounds::{core_model, shared_news, store_machine};
+pub use client_rounds::{core_model, multiplexer, store_machine};
+pub use clients::{Beside, Clients, NoLane, no_clients};
 pub use hands::{Hands, InTurn, OnThreads};
-pub use lanes::{Both, Clients, Lane, Lanes, no_clients};
+pub use visits::{acted, asked, visited};

@@ -1,34 +1,36 @@
 //! Clients are told one after another.
 ghost use Rattle.std.specs.Prelude.{◌≡◌};
 ghost use Rattle.client_rounds.specs.News.{AreNews};
-ghost use Rattle.lane_laws.specs.Lanes.{AreTold, either};
+ghost use Rattle.lanes.specs.Lanes.{AreTold, either};
 ghost use Rattle.client_lanes.specs.Visits.{AreReady, Tells, Leads};
 
-use crate::lanes::Lanes;
-use client_rounds::shared_news::SharedNews;
+use crate::visits::told;
+use client_rounds::connection::Connection;
+use client_rounds::multiplexer::Multiplexer;
 use client_rounds::store_machine::Machine;
 use ejson_value::{Mem, Text};
 use heard_messages::Heard;
+use lanes::Lanes;
 use std::alloc::Global;
 
 /// What there is to show goes to those of these names that are among the clients, one after another. Whether
 /// any act was made.
-pub(crate) fn told_in_turn<L: Lanes>(
+pub(crate) fn told_in_turn<L: Lanes<Connection>>(
     alloc: Global,
     machine: &Machine,
-    news: &mut SharedNews,
+    news: &mut Multiplexer,
     heard: &mut Heard,
     names: &[Text],
-    lanes: &mut L,
+    clients: &mut L,
 ) -> Result<bool, Mem>
-    requires clients { AreReady machine.now (L.clients lanes.old) }
+    requires clients { AreReady machine.now (L.values clients.old) }
     requires news { AreNews machine.now news.old }
-    ensures told { AreTold (Tells machine.now) (Leads machine.now) names.now (L.clients lanes.old) (L.clients lanes.new) result }
+    ensures told { AreTold (Tells machine.now) (Leads machine.now) names.now (L.values clients.old) (L.values clients.new) result }
     ensures news { AreNews machine.now news.new }
 {
     let mut made = false;
     for name in names {
-        let now = lanes.told(alloc, machine, news, heard, name)?;
+        let now = told(alloc, clients, machine, news, heard, name)?;
         made = now || made;
     }
     Ok(made)

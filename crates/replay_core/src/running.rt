@@ -34,7 +34,7 @@ fn run_event<H: Hands>(
     requires { H.ready }
     ensures { IfOk result (λ lines. (world.new ≡ step world.old event.now) × (lines ≡ lines_of world.old event.now)) }
 {
-    world.event_by(hands, event)?.lines(alloc)
+    world.event(hands, event)?.lines(alloc)
 }
 
 // Makes the operation of which the text tells, and answers what it prints.

@@ -14,8 +14,8 @@ use Rattle.client_lanes.specs.core_model.declared.events.Answer.TheVariants as a
 use Rattle.client_lanes.specs.core_model.declared.events.Event.{Event}
 use Rattle.client_lanes.specs.connection_laws.Connection.{AConnection}
 use Rattle.client_lanes.specs.Acting.{AsksFor}
-use Rattle.client_lanes.specs.shared_news.Telling.{ANews}
-use Rattle.lane_laws.specs.Lanes.{VisitBy}
+use Rattle.client_lanes.specs.multiplexer.Telling.{ANews}
+use Rattle.lanes.specs.Lanes.{VisitBy}
 use Rattle.client_lanes.specs.Clients.{Acts}
 use Rattle.client_lanes.specs.Visits.{Visits}
 use Rattle.world_laws.specs.World.{AConnections}

@@ -13,10 +13,10 @@ use Rattle.client_lanes.specs.store_machine.State.{MachineState}
 use Rattle.client_lanes.specs.round_laws.Visits.{Side}
 use Rattle.client_lanes.specs.connection_laws.Connection.{AConnection, IsConnection}
 use Rattle.client_lanes.specs.Asks.{asks_nothing}
-use Rattle.client_lanes.specs.shared_news.Telling.{ANews, nothing_told}
+use Rattle.client_lanes.specs.multiplexer.Telling.{ANews, nothing_told}
 use Rattle.client_lanes.specs.Visit.{visit}
 use Rattle.client_lanes.specs.Visit as one
-use Rattle.lane_laws.specs.Lanes.{VisitBy, IsVisit, EachTold, IsAmong, AreLed}
+use Rattle.lanes.specs.Lanes.{VisitBy, IsVisit, EachTold, IsAmong, AreLed}
 use Rattle.client_lanes.specs.Visits.{Tells, Leads, VisitsIn}
 use Rattle.world_laws.specs.World.{AConnections, AWorld, as_world, connection_of}
 use Rattle.world_laws.specs.Doing.{IsWorker, after_visit}

@@ -14,7 +14,7 @@ use Rattle.client_lanes.specs.core_model.Conn.{Conn}
 use Rattle.client_lanes.specs.core_model.Settle.{order, round, settled}
 use Rattle.client_lanes.specs.round_laws.Visits.{Side, visits}
 use Rattle.client_lanes.specs.connection_laws.Connection.{AConnection, as_conn, IsConnection}
-use Rattle.client_lanes.specs.shared_news.Telling.{ANews, nothing_told}
+use Rattle.client_lanes.specs.multiplexer.Telling.{ANews, nothing_told}
 use Rattle.client_lanes.specs.News.{AreNews, nothing_is_news}
 use Rattle.client_lanes.specs.Visit.{visit, ArePassed, Passes}
 use Rattle.client_lanes.specs.Visit as one

@@ -12,7 +12,7 @@ use Rattle.std.proofs.Common.{ap, sym, subst, ◌∙◌, arith, inl, inr}
 use Rattle.map_model.specs.Maps.{at}
 use Rattle.value_model.specs.Order.{text_cmp}
 use Rattle.ejson_value.specs.Key.{name_order}
-use Rattle.client_names.specs.Names.{NoneFrom, IsLeastFrom}
+use Rattle.lanes.specs.Names.{NoneFrom, IsLeastFrom}
 use Rattle.world_laws.specs.World.{Names, AWorld, is_among}
 use Rattle.world_laws.specs.Names.{names_from, behind, behind_it}
 use Rattle.world_laws.specs.Doing.{IsWorker}

@@ -5,7 +5,7 @@ use Rattle.map_model.specs.Maps.{at}
 use Rattle.value_model.specs.Order.{text_cmp}
 use Rattle.client_lanes.specs.connection_laws.Connection.{AConnection}
 use Rattle.client_lanes.specs.Asks.{asks_nothing}
-use Rattle.lane_laws.specs.Lanes.{EachTold, IsAmong, AreLed}
+use Rattle.lanes.specs.Lanes.{EachTold, IsAmong, AreLed}
 use Rattle.client_lanes.specs.Visits.{Tells, Leads}
 use Rattle.world_laws.specs.World.{AConnections, AWorld}
 use Rattle.world_laws.specs.Names.{behind}

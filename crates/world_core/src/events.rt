@@ -14,9 +14,10 @@ use crate::printing::{history, journal, show, store};
 use crate::rounds::settle;
 use client_lanes::core_model::{Act, Event};
 use client_lanes::store_machine::AdminFault;
-use client_lanes::{Hands, Lanes, named};
+use client_lanes::{Hands, acted, asked, named};
 use collection_store::Op;
 use ejson_value::{Items, Mem, Text};
+use lanes::Lanes;
 use world_lines::Printed;
 
 // The act of the client that the event names, if it names one.
@@ -37,9 +38,13 @@ fn make(inside: &mut Inside, client: &Text, act: Act) -> Result<Printed, Mem>
     ensures { MakesAct (seen inside.old) client.now act (seen inside.new) result }
 {
     inside.busy.put(client)?;
-    let (answer, refusal) = inside
-        .conns
-        .acted(&mut inside.machine, &mut inside.heard, client, act)?;
+    let (answer, refusal) = acted(
+        &mut inside.conns,
+        &mut inside.machine,
+        &mut inside.heard,
+        client,
+        act,
+    )?;
     Ok(Printed::told(answer, refusal))
 }
 
@@ -63,7 +68,7 @@ fn ask(inside: &mut Inside, client: &Text, event: &Event) -> Result<Printed, Mem
     ensures { Happens (seen inside.old) event.now (seen inside.new) result }
 {
     inside.busy.put(client)?;
-    let done = inside.conns.asked(client, event)?;
+    let done = asked(&mut inside.conns, client, event)?;
     Ok(Printed::asked(done))
 }
 
@@ -74,7 +79,7 @@ fn leave(inside: &mut Inside, client: &Text, event: &Event) -> Result<Printed, M
     ensures { Happens (seen inside.old) event.now (seen inside.new) result }
 {
     inside.busy.put(client)?;
-    let done = inside.conns.asked(client, event)?;
+    let done = asked(&mut inside.conns, client, event)?;
     if !done {
         return Ok(Printed::asked(false));
     }

@@ -1,8 +1,8 @@
 //! What is kept of a world.
 use client_lanes::Clients;
 use client_lanes::store_machine::Machine;
-use client_names::Names;
 use heard_messages::Heard;
+use lanes::Names;
 use std::alloc::Global;
 
 #[derive(Drop)]

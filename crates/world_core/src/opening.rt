@@ -12,8 +12,9 @@ ghost use Rattle.world_core.specs.Happening.{Happens, Begins};
 
 use crate::inside::Inside;
 use client_lanes::store_machine::Machine;
-use client_lanes::{Clients, Connection, Lanes};
+use client_lanes::{Clients, Connection};
 use ejson_value::{Mem, Text};
+use lanes::Lanes;
 use std::alloc::Global;
 use world_lines::Printed;
 

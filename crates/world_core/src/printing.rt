@@ -6,8 +6,9 @@ ghost use Rattle.world_laws.specs.World.{as_world, IsWorld};
 ghost use Rattle.world_core.specs.Kept.{seen};
 
 use crate::inside::Inside;
-use client_lanes::{Hands, Lanes};
+use client_lanes::Hands;
 use ejson_value::{Mem, Text};
+use lanes::Lanes;
 use world_lines::Printed;
 
 /// What the client has.

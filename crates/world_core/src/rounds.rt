@@ -9,10 +9,10 @@ ghost use Rattle.world_core.specs.Rounds.{IsNext, MakesRound, MakesRounds, Settl
 ghost use Rattle.world_core.specs.Runs.{AsksNothing, IsListener, IsRun, behind_all, TellsRun};
 
 use crate::inside::Inside;
-use client_lanes::shared_news::SharedNews;
-use client_lanes::{Hands, Lanes};
-use client_names::behind;
+use client_lanes::multiplexer::Multiplexer;
+use client_lanes::{Hands, visited};
 use ejson_value::{Mem, Text};
+use lanes::{Lanes, behind};
 use std::cmp::Ordering;
 
 // The lesser of two names.
@@ -129,7 +129,7 @@ fn run_from(inside: &Inside, from: &Text) -> Result<Run, Mem>
 fn tell<H: Hands>(
     hands: &H,
     inside: &mut Inside,
-    news: &mut SharedNews,
+    news: &mut Multiplexer,
     from: &mut Text,
 ) -> Result<bool, Mem>
     requires ready { H.ready }
@@ -160,7 +160,7 @@ fn either(one: bool, other: bool) -> bool
 
 // A round: by name, each client that may have something to do goes through its phases; those that come one after another
 // and ask for nothing are told at once. Whether any act was made.
-fn round<H: Hands>(hands: &H, inside: &mut Inside, news: &mut SharedNews) -> Result<bool, Mem>
+fn round<H: Hands>(hands: &H, inside: &mut Inside, news: &mut Multiplexer) -> Result<bool, Mem>
     requires ready { H.ready }
     requires world { IsWorld (seen inside.old) }
     requires news { AreNews inside.old.machine news.old }
@@ -170,8 +170,9 @@ fn round<H: Hands>(hands: &H, inside: &mut Inside, news: &mut SharedNews) -> Res
     let mut from = Text::new(inside.alloc);
     let mut made = tell(hands, inside, news, &mut from)?;
     while let Some(name) = worker_from(inside, &from)? {
-        let now = inside.conns.visited(
+        let now = visited(
             inside.alloc,
+            &mut inside.conns,
             &mut inside.machine,
             news,
             &mut inside.heard,
@@ -186,7 +187,7 @@ fn round<H: Hands>(hands: &H, inside: &mut Inside, news: &mut SharedNews) -> Res
 }
 
 // Rounds are made until none of their acts is made.
-fn rounds<H: Hands>(hands: &H, inside: &mut Inside, news: &mut SharedNews) -> Result<(), Mem>
+fn rounds<H: Hands>(hands: &H, inside: &mut Inside, news: &mut Multiplexer) -> Result<(), Mem>
     requires ready { H.ready }
     requires world { IsWorld (seen inside.old) }
     requires news { AreNews inside.old.machine news.old }
@@ -207,7 +208,7 @@ pub(crate) fn settle<H: Hands>(hands: &H, inside: &mut Inside) -> Result<(), Mem
     requires world { IsWorld (seen inside.old) }
     ensures { Settles (seen inside.old) (seen inside.new) result }
 {
-    let mut news = SharedNews::new(inside.alloc);
+    let mut news = Multiplexer::new(inside.alloc);
     rounds(hands, inside, &mut news)?;
     inside.settled = inside.machine.length();
     inside.busy.clear();

@@ -20,10 +20,10 @@ use crate::rounds::settle;
 use app_model::App;
 use client_lanes::store_machine::Machine;
 use client_lanes::{Hands, InTurn, no_clients};
-use client_names::Names;
 use collection_store::Op;
 use ejson_value::{Mem, Text};
 use heard_messages::Heard;
+use lanes::Names;
 use std::alloc::Global;
 use std::marker::Model;
 use world_events::Event;
@@ -83,22 +83,10 @@ impl World {
         })
     }
 
-    /// The event happens, and what it prints is answered. After want of memory the world is as it was,
-    /// or, where it was to settle, as the acts so far left it.
-    pub fn event(&mut self, event: &Event) -> Result<Printed, Mem>
-        ensures step { OnOk result (self.new ≡ step self.old event.now) }
-        ensures lines { IfOk result (λ printed. printed ≡ lines_of self.old event.now) }
-        ensures settles { OnOk result (event.now ≡ happening.Settle → IsSettled self.new) }
-        ensures left { OnErr result (IsLeft event.now self.old self.new) }
-        ensures true_world { IsTrueWorld self.new }
-        ensures long_alone { HaveLongAlone self.new }
-    {
-        event.known();
-        happen(&InTurn, &mut self.inside, event.happening())
-    }
-
-    /// The same, where a world that settles has these hands to tell its clients.
-    pub fn event_by<H: Hands>(&mut self, hands: &H, event: &Event) -> Result<Printed, Mem>
+    /// The event happens, and what it prints is answered. A world that settles has these hands to tell its
+    /// clients. After want of memory the world is as it was, or, where it was to settle, as the acts so far
+    /// left it.
+    pub fn event<H: Hands>(&mut self, hands: &H, event: &Event) -> Result<Printed, Mem>
         requires { H.ready }
         ensures step { OnOk result (self.new ≡ step self.old event.now) }
         ensures lines { IfOk result (λ printed. printed ≡ lines_of self.old event.now) }

@@ -14,13 +14,13 @@ returns-in_err-done c =
     let x = seen c.args.inside.now in
     let p = err_from_is_err_and c.from_residual-in_err-done.result c.from_residual-in_err-done.ensures.1 in
     let t = rw c.requires.drops at c.in_err-done.ensures in
-    rw (p.1, c.requires.drops) (leave_left x c.requires.world c.args.client.now c.asked.new.self c.put.new.self c.in_ok-put.ensures.ok _ t)
+    rw (p.1, c.requires.drops) (leave_left x c.requires.world c.args.client.now c.asked.new.clients c.put.new.self c.in_ok-put.ensures.ok _ t)
 
 pub returns-then-not-done : goal.returns-then-not-done
 returns-then-not-done c =
     let x = seen c.args.inside.now in
     let name = c.args.client.now in
-    let put = c.asked.new.self in
+    let put = c.asked.new.clients in
     let of_drop : AsksIn (happening.Drop name) x.conns put name (Ok c.in_ok-done.done) = subst (λ (e : Event). AsksIn e x.conns put name (Ok c.in_ok-done.done)) c.requires.drops c.in_ok-done.ensures in
     let t : AsksIn (happening.Drop name) x.conns put name (Ok false) = subst (λ b. AsksIn (happening.Drop name) x.conns put name (Ok b)) c.if-not-done.true of_drop in
     subst (λ (e : Event). Happens x e (record x { conns = put; busy = c.put.new.self }) (Ok c.asked-then-not-done.result)) (sym c.requires.drops)
@@ -30,7 +30,7 @@ pub returns : goal.returns
 returns c =
     let x = seen c.args.inside.now in
     let name = c.args.client.now in
-    let put = c.asked.new.self in
+    let put = c.asked.new.clients in
     let of_drop : AsksIn (happening.Drop name) x.conns put name (Ok c.in_ok-done.done) = subst (λ (e : Event). AsksIn e x.conns put name (Ok c.in_ok-done.done)) c.requires.drops c.in_ok-done.ensures in
     let t : AsksIn (happening.Drop name) x.conns put name (Ok true) = subst (λ b. AsksIn (happening.Drop name) x.conns put name (Ok b)) c.if-not-done.false of_drop in
     subst (λ (e : Event). Happens x e (record x { conns = put; present = c.remove.new.self; busy = c.put.new.self }) (Ok c.asked-2.result)) (sym c.requires.drops)

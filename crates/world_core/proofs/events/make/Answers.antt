@@ -12,9 +12,9 @@ acted-requires c = ready (seen c.args.inside.now) c.requires c.args.client.now
 pub returns-in_err-answer : goal.returns-in_err-answer
 returns-in_err-answer c =
     let p = err_from_is_err_and c.from_residual-in_err-answer.result c.from_residual-in_err-answer.ensures.1 in
-    rw p.1 (err_acts (seen c.args.inside.now) c.requires c.args.client.now c.args.act c.acted.new.machine c.acted.new.self c.put.new.self c.in_ok-put.ensures.ok _ c.in_err-answer.ensures)
+    rw p.1 (err_acts (seen c.args.inside.now) c.requires c.args.client.now c.args.act c.acted.new.machine c.acted.new.clients c.put.new.self c.in_ok-put.ensures.ok _ c.in_err-answer.ensures)
 
 pub returns : goal.returns
 returns c =
-    let t = told_acts (seen c.args.inside.now) c.requires c.args.client.now c.args.act c.acted.new.machine c.acted.new.self c.put.new.self c.in_ok-put.ensures.ok c.in_ok-answer.answer c.in_ok-answer.refusal c.in_ok-answer.ensures in
+    let t = told_acts (seen c.args.inside.now) c.requires c.args.client.now c.args.act c.acted.new.machine c.acted.new.clients c.put.new.self c.in_ok-put.ensures.ok c.in_ok-answer.answer c.in_ok-answer.refusal c.in_ok-answer.ensures in
     (t.0, c.told.ensures ∙ sym (ap texts_of t.1))

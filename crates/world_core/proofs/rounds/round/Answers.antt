@@ -32,7 +32,7 @@ returns-in_err-now-clause-round g c =
     let y = seen c.loop-from.inside in
     let n : IsNextFrom y c.loop-from.from c.in-Some.name = subst (IsNext y c.loop-from.from) c.in-Some.is c.in_ok-name.ensures in
     let p = err_from_is_err_and c.from_residual-in_err-now.result c.from_residual-in_err-now.ensures.1 in
-    rw p.1 (on_left x y c.loop-from.from c.in-Some.name c.loop-from.made c.loop-from.invariant.0 n c.visited.new.machine c.visited.new.self c.loop-from.news c.visited.new.news _ c.in_err-now.ensures)
+    rw p.1 (on_left x y c.loop-from.from c.in-Some.name c.loop-from.made c.loop-from.invariant.0 n c.visited.new.machine c.visited.new.clients c.loop-from.news c.visited.new.news _ c.in_err-now.ensures)
 
 pub returns-in_err-from-clause-round : goal.returns-in_err-from-clause-round
 returns-in_err-from-clause-round g c =
@@ -40,31 +40,31 @@ returns-in_err-from-clause-round g c =
     let y = seen c.loop-from.inside in
     let n : IsNextFrom y c.loop-from.from c.in-Some.name = subst (IsNext y c.loop-from.from) c.in-Some.is c.in_ok-name.ensures in
     let p = err_from_is_err_and c.from_residual-in_err-from.result c.from_residual-in_err-from.ensures.1 in
-    rw p.1 (on_led x y c.loop-from.from c.in-Some.name c.loop-from.made c.loop-from.invariant.0 n c.visited.new.machine c.visited.new.self c.loop-from.news c.visited.new.news c.in_ok-now.now c.in_ok-now.ensures)
+    rw p.1 (on_led x y c.loop-from.from c.in-Some.name c.loop-from.made c.loop-from.invariant.0 n c.visited.new.machine c.visited.new.clients c.loop-from.news c.visited.new.news c.in_ok-now.now c.in_ok-now.ensures)
 
 pub tell-requires-in-Some-clause-world : goal.tell-requires-in-Some-clause-world
 tell-requires-in-Some-clause-world g c =
     let x = seen c.args.inside.now in
     let y = seen c.loop-from.inside in
     let n : IsNextFrom y c.loop-from.from c.in-Some.name = subst (IsNext y c.loop-from.from) c.in-Some.is c.in_ok-name.ensures in
-    (on_led x y c.loop-from.from c.in-Some.name c.loop-from.made c.loop-from.invariant.0 n c.visited.new.machine c.visited.new.self c.loop-from.news c.visited.new.news c.in_ok-now.now c.in_ok-now.ensures).stays
+    (on_led x y c.loop-from.from c.in-Some.name c.loop-from.made c.loop-from.invariant.0 n c.visited.new.machine c.visited.new.clients c.loop-from.news c.visited.new.news c.in_ok-now.now c.in_ok-now.ensures).stays
 
 pub tell-requires-in-Some-clause-news : goal.tell-requires-in-Some-clause-news
 tell-requires-in-Some-clause-news g c =
     let y = seen c.loop-from.inside in
-    news_after (machine_of y) c.visited.new.machine y.conns c.visited.new.self c.loop-from.news c.visited.new.news c.in-Some.name c.loop-from.invariant.1 c.visited.result c.visited.ensures
+    news_after (machine_of y) c.visited.new.machine y.conns c.visited.new.clients c.loop-from.news c.visited.new.news c.in-Some.name c.loop-from.invariant.1 c.visited.result c.visited.ensures
 
 pub returns-in_err-from-clause-news : goal.returns-in_err-from-clause-news
 returns-in_err-from-clause-news g c =
     let y = seen c.loop-from.inside in
-    news_after (machine_of y) c.visited.new.machine y.conns c.visited.new.self c.loop-from.news c.visited.new.news c.in-Some.name c.loop-from.invariant.1 c.visited.result c.visited.ensures
+    news_after (machine_of y) c.visited.new.machine y.conns c.visited.new.clients c.loop-from.news c.visited.new.news c.in-Some.name c.loop-from.invariant.1 c.visited.result c.visited.ensures
 
 pub returns-in_err-told-clause-round : goal.returns-in_err-told-clause-round
 returns-in_err-told-clause-round g c =
     let x = seen c.args.inside.now in
     let y = seen c.loop-from.inside in
     let next = c.visited.new.machine in
-    let put = c.visited.new.self in
+    let put = c.visited.new.clients in
     let after : AWorld = record y { app = next.app; history = next.history; conns = put } in
     let n : IsNextFrom y c.loop-from.from c.in-Some.name = subst (IsNext y c.loop-from.from) c.in-Some.is c.in_ok-name.ensures in
     let on : IsOn x after c.in_ok-from.from (c.in_ok-now.now || c.loop-from.made) =
@@ -76,7 +76,7 @@ pub loop-from-smaller : goal.loop-from-smaller
 loop-from-smaller g c =
     let y = seen c.loop-from.inside in
     let next = c.visited.new.machine in
-    let after : AWorld = record y { app = next.app; history = next.history; conns = c.visited.new.self } in
+    let after : AWorld = record y { app = next.app; history = next.history; conns = c.visited.new.clients } in
     let n : IsNextFrom y c.loop-from.from c.in-Some.name = subst (IsNext y c.loop-from.from) c.in-Some.is c.in_ok-name.ensures in
     let one : left_from c.in_ok-from.from y.busy y.present < left_from c.loop-from.from y.busy y.present =
     subst (λ (f : List ℕ). left_from f y.busy y.present < left_from c.loop-from.from y.busy y.present) (sym c.in_ok-from.ensures) (next_is_less y c.loop-from.from c.in-Some.name n) in
@@ -89,7 +89,7 @@ loop-from-preserved g c =
     let y = seen c.loop-from.inside in
     let z = seen c.tell-in-Some.new.inside in
     let next = c.visited.new.machine in
-    let put = c.visited.new.self in
+    let put = c.visited.new.clients in
     let after : AWorld = record y { app = next.app; history = next.history; conns = put } in
     let made = c.in_ok-now.now || c.loop-from.made in
     let n : IsNextFrom y c.loop-from.from c.in-Some.name = subst (IsNext y c.loop-from.from) c.in-Some.is c.in_ok-name.ensures in

@@ -1,6 +1,6 @@
 use Rattle.std.proofs.Common.{MatchOption, sym, subst, ◌∙◌}
 use Rattle.std.specs.Option.{option_copied}
-use Rattle.client_names.specs.Names.{NoneFrom, IsLeastFrom}
+use Rattle.lanes.specs.Names.{NoneFrom, IsLeastFrom}
 use Rattle.world_core.specs.Kept.{seen}
 use Rattle.world_core.specs.Rounds.{IsNext}
 use Rattle.world_core.proofs.Workers.{first_is, both_next, copied_next}

@@ -1,5 +1,0 @@
-use Rattle.lane_laws.specs.Telling.{lanes_told}
-use Rattle.lane_laws.proofs.lanes_are_told_as_one.Goals as goal
-
-pub returns : goal.returns
-returns g c = λ t. lanes_told (g.T.Tells.tells t) (g.T.Tells.leads t) (g.T.Tells.tells_leads t)
