@@ -1,9 +1,12 @@
 -- When each status of a run comes, and what was read and written then.
-use Rattle.std.specs.Prelude.{◌≡◌, ℕ, List, [], ◌∷◌, take, Bool, true, false, Option, None, Some, is_some, IfSome, codes, if◌then◌else◌}
+use Rattle.std.specs.Prelude.{◌≡◌, ℕ, List, [], ◌∷◌, take, Bool, true, false, Option, None, Some, is_some, IfSome, codes, option_and_then, option_map, if◌then◌else◌}
 use Rattle.value_model.specs.Size.{is_name}
 use Rattle.io_edge.specs.Outside.{Grows}
 use Rattle.replay_core.specs.checking.Input.{IsWithin, IsTooLong}
 use Rattle.replay_core.specs.checking.Check.{check_text, check_bad}
+use Rattle.heartbeat.specs.Beats.{IsTime, longest}
+use Rattle.command_words.specs.Number.{number_in}
+use Rattle.beating.specs.Run.{beat_text, beat_bad}
 use Rattle.commands.specs.declared.command.Command.{Command}
 use Rattle.commands.specs.declared.command.Command.TheVariants as command
 use Rattle.commands.specs.declared.status.Status.{Status}
@@ -11,25 +14,45 @@ use Rattle.commands.specs.declared.status.Status.TheVariants as status
 use Rattle.replay_core.specs.Replay.{replay_text, first_bad}
 use Rattle.replay_core.specs.Truth.{IsTrueReplay}
 
+-- the command that the word names alone
+abbrev pub command_of : List ℕ → Option Command
+command_of word = if is_name word (codes "check") then Some command.Check else (if is_name word (codes "replay") then Some command.Replay else None)
+
+-- a number of milliseconds that a heart takes
+abbrev pub time_in : List ℕ → Option ℕ
+time_in word = number_in 1 longest word
+
+-- the command `beat` with the times that these words tell
+abbrev pub beat_of : List ℕ → List ℕ → Option Command
+beat_of interval timeout = option_and_then (λ i. option_map (λ t. command.Beat i t) (time_in timeout)) (time_in interval)
+
 -- the command that the words name, if they are those of one
 abbrev pub command_in : List (List ℕ) → Option Command
-command_in (word ∷ []) = if is_name word (codes "check") then Some command.Check else (if is_name word (codes "replay") then Some command.Replay else None)
+command_in (word ∷ []) = command_of word
+command_in (word ∷ interval ∷ timeout ∷ []) = if is_name word (codes "beat") then beat_of interval timeout else None
 command_in _ = None
+
+-- the numbers of a command are within what it takes
+abbrev pub HasBounds : Command → Type 0
+HasBounds (command.Beat interval timeout) = IsTime interval × IsTime timeout
+HasBounds _ = Unit {0}
 
 -- the whole output of a command for an input
 abbrev pub output_of : Command → List ℕ → List ℕ
 output_of command.Check input = check_text input
 output_of command.Replay input = replay_text input
+output_of (command.Beat interval timeout) input = beat_text interval timeout input
 
 -- the number of the first line that isn't of the grammar
 abbrev pub bad_line_of : Command → List ℕ → Option ℕ
 bad_line_of command.Check input = check_bad input
 bad_line_of command.Replay input = first_bad input
+bad_line_of (command.Beat interval timeout) input = beat_bad input
 
 -- what holds of the worlds of a replay
 abbrev pub IsTrueRunOf : Command → List ℕ → Type 0
-IsTrueRunOf command.Check input = Unit {0}
 IsTrueRunOf command.Replay input = IsTrueReplay input
+IsTrueRunOf _ input = Unit {0}
 
 -- The input was read whole and is within the limits; whether a line is bad is so; the whole output was written; and what holds of a run of the command holds of this one.
 -- Where source and sink tell what they hold.

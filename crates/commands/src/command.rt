@@ -1,8 +1,11 @@
 //! The words that name commands.
-ghost use Rattle.std.specs.Prelude.{◌≡◌};
-ghost use Rattle.commands.specs.Cause.{command_in};
+ghost use Rattle.std.specs.Prelude.{◌≡◌, IfSome};
+ghost use Rattle.heartbeat.specs.Beats.{IsTime};
+ghost use Rattle.commands.specs.Cause.{command_of, time_in, beat_of, command_in, HasBounds};
 
+use command_words::number_in;
 use ejson_value::Text;
+use heartbeat::LONGEST;
 
 /// A command of the program.
 #[derive(Clone, Copy, Debug, PartialEq, Eq)]
@@ -11,20 +14,50 @@ pub enum Command {
     Check,
     /// Runs the lines as events and tells what they show.
     Replay,
+    /// Hands a heart of these times, in milliseconds, the moments of the lines, and tells what it answers.
+    Beat { interval: u32, timeout: u32 },
 }
 
-// The command that the words name, if they are those of one.
-pub(crate) fn command_in(words: &[Text]) -> Option<Command>
-    ensures { result ≡ command_in words.now }
+// The command that the word names alone.
+fn command_of(word: &Text) -> Option<Command>
+    ensures command { result ≡ command_of word.now }
+    ensures bounds { IfSome result HasBounds }
 {
-    let [word] = words else {
-        return None;
-    };
     if word.as_str() == "check" {
         Some(Command::Check)
     } else if word.as_str() == "replay" {
         Some(Command::Replay)
     } else {
         None
+    }
+}
+
+// A number of milliseconds that a heart takes.
+fn time_in(word: &Text) -> Option<u32>
+    ensures time { result ≡ time_in word.now }
+    ensures bounds { IfSome result IsTime }
+{
+    number_in(1, LONGEST, word.as_str())
+}
+
+// The command `beat` with the times that these words tell.
+fn beat_of(interval: &Text, timeout: &Text) -> Option<Command>
+    ensures command { result ≡ beat_of interval.now timeout.now }
+    ensures bounds { IfSome result HasBounds }
+{
+    let interval = time_in(interval)?;
+    let timeout = time_in(timeout)?;
+    Some(Command::Beat { interval, timeout })
+}
+
+// The command that the words name, if they are those of one.
+pub(crate) fn command_in(words: &[Text]) -> Option<Command>
+    ensures command { result ≡ command_in words.now }
+    ensures bounds { IfSome result HasBounds }
+{
+    match words {
+        [word] => command_of(word),
+        [word, interval, timeout] if word.as_str() == "beat" => beat_of(interval, timeout),
+        _ => None,
     }
 }

@@ -7,6 +7,14 @@ use replay_core::checking::first_line;
 use std::alloc::Global;
 use std::str;
 
+// What a line has to be.
+#[derive(Clone, Copy)]
+enum Wanted {
+    Application,
+    Event,
+    Moment,
+}
+
 /// How many characters of a text of the input a reason shows.
 const SHOWN: usize = 100;
 
@@ -100,48 +108,51 @@ fn wrong_event(alloc: Global, value: &Value) -> Result<Text, Mem> {
     }
 }
 
-// What is wrong with the value of the line of this number.
-fn wrong_content(alloc: Global, value: Value, number: u32) -> Result<Text, Mem> {
-    let what = if number == 1 {
-        wrong_application(alloc, &value)
-    } else {
-        wrong_event(alloc, &value)
+// What is wrong with the value of a line.
+fn wrong_content(alloc: Global, value: Value, wanted: Wanted) -> Result<Text, Mem> {
+    let what = match wanted {
+        Wanted::Application => wrong_application(alloc, &value),
+        Wanted::Event => wrong_event(alloc, &value),
+        Wanted::Moment => Text::from_str(
+            alloc,
+            "it is neither [\"heard\",t] nor [\"tick\",t] with a whole number t from 0",
+        ),
     };
     drop(value);
     what
 }
 
-fn wrong_text(alloc: Global, line: Text, number: u32) -> Result<Text, Mem> {
+fn wrong_text(alloc: Global, line: Text, wanted: Wanted) -> Result<Text, Mem> {
     let parsed = parse(alloc, &line);
     drop(line);
     match parsed {
-        Ok(value) => wrong_content(alloc, value, number),
+        Ok(value) => wrong_content(alloc, value, wanted),
         Err(ParseFault::NotJson) => Text::from_str(alloc, "it is not JSON"),
         Err(ParseFault::Ejson(fault)) => wrong_value(alloc, fault),
         Err(ParseFault::Memory) => Err(Mem),
     }
 }
 
-// What is wrong with the line of this number.
-fn wrong_line(alloc: Global, line: &[u8], number: u32) -> Result<Text, Mem> {
+// What is wrong with the line.
+fn wrong_line(alloc: Global, line: &[u8], wanted: Wanted) -> Result<Text, Mem> {
     if line.is_empty() {
         return Text::from_str(alloc, "it is empty");
     }
     match str::from_utf8(line) {
-        Ok(line) => wrong_text(alloc, Text::from_str(alloc, line)?, number),
+        Ok(line) => wrong_text(alloc, Text::from_str(alloc, line)?, wanted),
         Err(_) => Text::from_str(alloc, "it is not UTF-8"),
     }
 }
 
 fn no_application(alloc: Global, input: &[u8]) -> Result<Text, Mem> {
-    let what = wrong_line(alloc, line_of(input, 1), 1)?;
+    let what = wrong_line(alloc, line_of(input, 1), Wanted::Application)?;
     let what = what.as_str();
     let reason = format!(in alloc; "line 1 is no application: {what}")?;
     Text::from_string(reason)
 }
 
 fn no_event(alloc: Global, input: &[u8], number: u32) -> Result<Text, Mem> {
-    let what = wrong_line(alloc, line_of(input, number), number)?;
+    let what = wrong_line(alloc, line_of(input, number), Wanted::Event)?;
     let what = what.as_str();
     let reason = format!(in alloc;
         "line {number} is no event: {what}; the lines before it were run"
@@ -156,12 +167,20 @@ fn further_line(alloc: Global, number: u32) -> Result<Text, Mem> {
     Text::from_string(reason)
 }
 
+fn no_moment(alloc: Global, input: &[u8], number: u32) -> Result<Text, Mem> {
+    let what = wrong_line(alloc, line_of(input, number), Wanted::Moment)?;
+    let what = what.as_str();
+    let reason = format!(in alloc;
+        "line {number} is no moment: {what}; the lines before it were run"
+    )?;
+    Text::from_string(reason)
+}
+
 /// Why the line of this number of a command's input, which isn't of the grammar, is none: a line of text.
 pub fn reason_for(alloc: Global, command: Command, input: &[u8], number: u32) -> Result<Text, Mem> {
-    if number == 1 {
-        return no_application(alloc, input);
-    }
     match command {
+        Command::Beat { .. } => no_moment(alloc, input, number),
+        _ if number == 1 => no_application(alloc, input),
         Command::Check => further_line(alloc, number),
         Command::Replay => no_event(alloc, input, number),
     }

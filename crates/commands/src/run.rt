@@ -2,12 +2,13 @@
 ghost use Rattle.std.specs.Prelude.{◌≡◌, ◌≢◌, ◌↔◌, ◌<◌, ◌≤◌, [], length, Some, Err, IfOk, IfSome, OnOk};
 ghost use Rattle.replay_core.specs.checking.Input.{input_limit, IsWithin, IsTooLong};
 ghost use Rattle.io_edge.specs.declared.whole.ReadAll.TheVariants as ReadAll;
-ghost use Rattle.commands.specs.Cause.{Cause, CauseOf, EndsAs, command_in, output_of, bad_line_of};
+ghost use Rattle.commands.specs.Cause.{Cause, CauseOf, EndsAs, HasBounds, command_in, output_of, bad_line_of};
 ghost use Rattle.commands.specs.declared.status.Status.TheVariants as status;
 
 use crate::command::{Command, command_in};
 use crate::reason::reason_for;
 use crate::status::Status;
+use beating::beat;
 use ejson_value::{Bytes, Mem, Text};
 use io_edge::{ReadAll, Sink, Source, read_all, write_all};
 use replay_core::checking::{INPUT_LIMIT, LINE_LIMIT, Outcome, check, count_lines};
@@ -51,6 +52,7 @@ fn outcome_of<R: Replayer>(
     left: &mut Option<World>,
 ) -> Result<Outcome, Mem>
     requires ready { R.ready }
+    requires bounds { HasBounds command }
     requires short { length input.now ≤ input_limit }
     ensures text { IfOk result (λ o. o.text.items ≡ output_of command input.now) }
     ensures bad { IfOk result (λ o. o.bad_line ≡ bad_line_of command input.now) }
@@ -58,6 +60,7 @@ fn outcome_of<R: Replayer>(
     match command {
         Command::Check => check(alloc, input),
         Command::Replay => replayer.replay(alloc, input, left),
+        Command::Beat { interval, timeout } => beat(alloc, interval, timeout, input),
     }
 }
 
@@ -100,6 +103,7 @@ fn run_input<R: Replayer, O: Sink>(
     left: &mut Option<World>,
 ) -> Status
     requires ready { R.ready }
+    requires bounds { HasBounds command }
     requires short { length input.now ≤ input_limit }
     ensures ends { EndsAs command input.now (O.written output.old) (O.written output.new) result }
     ensures read { result ≢ Status.ReadFault }
@@ -124,6 +128,7 @@ fn run_command<R: Replayer, I: Source, O: Sink>(
     left: &mut Option<World>,
 ) -> Status
     requires ready { R.ready }
+    requires bounds { HasBounds command }
     ensures cause { CauseOf command (I.left input.old) (I.left input.new)
         (O.written output.old) (O.written output.new) result }
     ensures read_fault { (result ≡ Status.ReadFault) ↔ (I.faults input.old < I.faults input.new) }
@@ -176,6 +181,7 @@ fn run_by<R: Replayer, I: Source, O: Sink>(
 /// `check` writes `["ok"]` where the first line is an application, and otherwise `["fault",number,place]`
 /// and `["bad",1]`; where that line is missing or no EJSON value, `["bad",1]` alone. A further line that
 /// isn't blank is bad. `replay` runs the lines behind the application as events and writes what they print.
+/// `beat INTERVAL TIMEOUT` hands a heart the moments of its lines, and writes what it answers.
 ///
 /// `cause` says when each status comes, what was read and written then, and what holds of the worlds
 /// of a replay, also where it ended for want of memory: after every event the headline, what each client

@@ -1,4 +1,4 @@
-//! The program `ddp`: a reactive data server and its client, with the commands `check` and `replay`.
+//! The program `ddp`: a reactive data server and its client, with the commands `check`, `replay` and `beat`.
 #![tactic(auto)]
 
 use commands::{Status, World, run_on};

@@ -1,5 +1,6 @@
 //! Runs the examples, and tells of each script whether its application is one and its run writes what stands beside it,
-//! and of each file of rows whether `check` answers to their applications what stands behind them.
+//! of each file of rows whether `check` answers to their applications what stands behind them, and of each file of runs
+//! whether the words and lines of each lead to the status and the lines behind them.
 #![tactic(auto)]
 
 use commands::{Status, run_plain};
@@ -83,6 +84,53 @@ fn is_right(alloc: Global, script: &str, output: &str) -> Result<bool, Mem> {
     Ok(is_taken(alloc, application)? && writes(alloc, "replay", script, Status::Ok, output)?)
 }
 
+// The words of a row, which spaces part.
+fn words_of(alloc: Global, row: &str) -> Result<Vec<Text>, Mem> {
+    let mut words = Vec::new(alloc);
+    for word in row.split_whitespace() {
+        words.push(Text::from_str(alloc, word)?)?;
+    }
+    Ok(words)
+}
+
+// The lines of a row, none of which holds a space.
+fn lines_of(alloc: Global, row: &str) -> Result<String, Mem> {
+    let mut lines = String::new(alloc);
+    for line in row.split_whitespace() {
+        lines.push_str(line)?;
+        lines.push('\n')?;
+    }
+    Ok(lines)
+}
+
+// Whether these words and lines lead to this status, and to these lines.
+fn leads_to(alloc: Global, words: &str, lines: &str, wanted: &str) -> Result<bool, Mem> {
+    let words = words_of(alloc, words)?;
+    let input = lines_of(alloc, lines)?;
+    let (code, written) = wanted.split_once(' ').unwrap_or((wanted, ""));
+    let output = lines_of(alloc, written)?;
+    let mut source = source_of(alloc, input.as_str())?;
+    let mut sink = MemorySink::new(alloc, ROOM, Calls::new(alloc))?;
+    let status = run(alloc, words.as_slice(), &mut source, &mut sink);
+    Ok(code.parse() == Ok(status.code()) && sink.written() == output.as_bytes())
+}
+
+// Whether a row of runs is so: its words, `: `, its lines, `=> `, its status and the lines that it writes.
+fn is_run(alloc: Global, row: &str) -> Result<bool, Mem> {
+    let (words, rest) = row.split_once(": ").unwrap_or((row, ""));
+    let (lines, wanted) = rest.split_once("=> ").unwrap_or((rest, ""));
+    leads_to(alloc, words, lines, wanted)
+}
+
+fn are_runs(alloc: Global, rows: &str) -> Result<bool, Mem> {
+    for row in rows.lines() {
+        if !is_run(alloc, row)? {
+            return Ok(false);
+        }
+    }
+    Ok(true)
+}
+
 fn word(right: Result<bool, Mem>) -> &'static str {
     match right {
         Ok(true) => "right",
@@ -102,10 +150,17 @@ fn told_of_script(rt: &HostRuntime, name: &str) -> io::Result<&'static str> {
     Ok(word(is_right(rt.alloc(), script.as_str(), output.as_str())))
 }
 
-// What becomes of the rows or of the script of this name.
+fn told_of_runs(rt: &HostRuntime, name: &str) -> io::Result<&'static str> {
+    let rows = fs::read_to_string(rt, name)?;
+    Ok(word(are_runs(rt.alloc(), rows.as_str())))
+}
+
+// What becomes of the rows, the runs or the script of this name.
 fn told(rt: &HostRuntime, name: &str) -> io::Result<&'static str> {
     if name.ends_with(".rows") {
         told_of_rows(rt, name)
+    } else if name.ends_with(".runs") {
+        told_of_runs(rt, name)
     } else {
         told_of_script(rt, name)
     }

@@ -5,7 +5,7 @@ use clap::Command;
 use std::alloc::{AllocError, Global};
 
 // Each command that is built: its words, and what it does.
-const COMMANDS: [(&str, &str); 2] = [
+const COMMANDS: [(&str, &str); 3] = [
     (
         "check",
         "Tells whether line 1 of standard input is an application, or what is wrong with it and where",
@@ -13,6 +13,10 @@ const COMMANDS: [(&str, &str); 2] = [
     (
         "replay",
         "Runs the application and the events on standard input, a line each, and prints what they show",
+    ),
+    (
+        "beat INTERVAL TIMEOUT",
+        "Tells of each moment on standard input whether a ping is due or a link is at its end; the words are milliseconds",
     ),
 ];
 
