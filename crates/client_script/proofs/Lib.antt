@@ -1,0 +1,5 @@
+pub mod LinesRead
+pub mod Courses
+pub mod LinesRun
+pub mod Stopping
+pub mod Turning
