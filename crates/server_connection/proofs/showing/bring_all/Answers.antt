@@ -1,0 +1,17 @@
+use Rattle.std.proofs.Common.{List, subst}
+use mathlib.Core.List.{IsPrefix}
+use Rattle.history_model.specs.declared.entry.Entry.{Entry}
+use Rattle.server_connection.proofs.Works.{served_grows, works_grows}
+use Rattle.server_connection.proofs.showing.bring_all.Goals as goal
+
+pub bring_those-requires-clause-served : goal.bring_those-requires-clause-served
+bring_those-requires-clause-served g c =
+    served_grows g.N.StoreName.app c.args.caller.now c.args.pass.now c.batch.new.pass c.args.session.now c.requires (subst (λ (es : List Entry). IsPrefix es c.batch.new.pass) c.confirm.ensures.same c.batch.ensures.shown.seen)
+
+pub returns-in-Ok-None-clause-works : goal.returns-in-Ok-None-clause-works
+returns-in-Ok-None-clause-works g c =
+    works_grows g.N.StoreName.app c.args.caller.now c.args.pass.now c.batch.new.pass c.args.session.now c.requires (subst (λ (es : List Entry). IsPrefix es c.batch.new.pass) c.confirm.ensures.same c.batch.ensures.shown.seen)
+
+pub returns-in-Err-clause-works : goal.returns-in-Err-clause-works
+returns-in-Err-clause-works g c =
+    works_grows g.N.StoreName.app c.args.caller.now c.args.pass.now c.batch.new.pass c.args.session.now c.requires (subst (λ (es : List Entry). IsPrefix es c.batch.new.pass) c.confirm.ensures.same c.batch.ensures.shown.seen)

@@ -1,0 +1,4 @@
+pub mod Serving
+pub mod AtRest
+pub mod Looks
+pub mod Ends
