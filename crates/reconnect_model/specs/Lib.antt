@@ -1,4 +1,5 @@
 pub mod Revival
 pub mod Saying
 pub mod Giving
+pub mod History
 pub mod RevivalLaws

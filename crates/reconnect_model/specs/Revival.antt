@@ -5,17 +5,17 @@
 use Rattle.std.specs.Prelude.{ℕ, List, [], Bool, true, false, Option, None}
 use Rattle.ejson_value.specs.Rows.{Rows}
 
--- a subscription: how many texts of the client were queued before it, and its text
+-- a subscription: how many texts the client had queued before its own, and that text
 pub record Wanted : Type 0 where
   pub place : ℕ
   pub text : List ℕ
 
--- a method that has no result yet, or no `updated`, and the epoch in which the client was given its `updated`
+-- the same of a method that has no result yet, or no `updated`, and which of the two the client was given
 pub record Called : Type 0 where
   pub place : ℕ
   pub text : List ℕ
   pub is_answered : Bool
-  pub updated_in : Option ℕ
+  pub is_updated : Bool
 
 -- what the session lacks until its epoch is revived, by rising id: a `ready` or `nosub`, a `result`, an `updated`
 pub record Lacking : Type 0 where
@@ -27,12 +27,12 @@ abbrev pub nothing_lacks : Lacking
 nothing_lacks = record { subs = []; results = []; updates = [] }
 
 pub record Revival : Type 0 where
-  -- how many texts the client queued, and how many links were lost
+  -- how many texts the client queued, and how many of them before the last loss
   pub queued : ℕ
-  pub epoch : ℕ
+  pub begun : ℕ
   -- the texts that wait to be said
   pub waiting : List (List ℕ)
-  -- by id: the subscriptions that are wanted, and the epoch of the `unsub` of those that have no `nosub` since
+  -- by id: the subscriptions that are wanted, the places of each first `unsub` without a `nosub` since, and the methods
   pub subs : List (List ℕ × Wanted)
   pub ended : List (List ℕ × ℕ)
   pub calls : List (List ℕ × Called)
@@ -46,14 +46,14 @@ pub record Revival : Type 0 where
   pub is_revived : Bool
   -- the texts that are held, but for data
   pub held : List (List ℕ)
-  -- the number of the refusal of a text that broke it
+  -- the number of the rule that refused a text
   pub broken : Option ℕ
 
 -- at the beginning: the first epoch lacks nothing
 abbrev pub new_revival : Revival
 new_revival = record {
   queued = 0;
-  epoch = 0;
+  begun = 0;
   waiting = [];
   subs = [];
   ended = [];

@@ -1,17 +1,15 @@
 -- Once its epoch is revived, a client was given the documents that the session sent: whatever it queues, hears and loses.
-use Rattle.std.specs.Prelude.{◌≡◌, ℕ, List, [], ◌∷◌, length, true, false, cond, not, ◌&&◌, ◌||◌, nat_lt, Option, Some, None, Result, Ok, Err, refl}
+use Rattle.std.specs.Prelude.{◌≡◌, ℕ, List, [], ◌∷◌, true, false, cond, not, ◌&&◌, ◌||◌, Option, Some, None, is_some, Result, Ok, Err, refl}
 use Rattle.std.proofs.Common.{sym, ap, ◌∙◌, true≢false}
 use Rattle.ddp_messages.specs.Answers.{client_answer, server_answer}
 use Rattle.ddp_messages.specs.declared.fault.MsgFault.{MsgFault}
-use Rattle.ddp_messages.specs.declared.fault.MsgFault.TheVariants.{Parse, BadRequest, Memory}
 use Rattle.ddp_messages.specs.ClientMessage as client
 use Rattle.ddp_messages.specs.ClientMessage.{ClientMessage}
 use Rattle.ddp_messages.specs.ServerMessage as server
 use Rattle.ddp_messages.specs.ServerMessage.{ServerMessage}
-use Rattle.client_model.specs.Taking.{max_server_text}
 use Rattle.reconnect_model.specs.Revival.{Revival}
 use Rattle.reconnect_model.specs.Saying.{asked, asked_by, said_too, queues, loses}
-use Rattle.reconnect_model.specs.Giving.{documents, noted, settled, gives, all_ended, released_by, released, Heard, half_ended, made_ready, revived, revived_then, revived_when, holds, passed, is_at_once, is_answered, breaks, refused_by, heard_unless, heard_answer, hears}
+use Rattle.reconnect_model.specs.Giving.{documents, noted, settled, all_settled, gives, released_by, released, Heard, left_unsaid, updated_before, made_ready, revived, revived_then, revived_when, holds, passed, is_at_once, is_answered, text_refusal, heard_message, heard_unless, hears}
 
 -- the documents given are those that the present session sent
 abbrev pub IsShown : Revival → Type 0
@@ -58,43 +56,38 @@ settled_same r (server.finished id fault value) = record { given = refl; copy = 
 settled_same r (server.updated ids) = record { given = refl; copy = refl; revived = refl }
 settled_same r _ = record { given = refl; copy = refl; revived = refl }
 
-all_ended-same : (ids : List (List ℕ)) (r : Revival) → SameDocuments r (all_ended ids r)
-all_ended-same [] r = same_self r
-all_ended-same (id ∷ ids) r =
-    let next = settled r (server.nosub id None) in
-    same_then r next (all_ended ids next) (settled_same r (server.nosub id None)) (all_ended-same ids next)
+all_settled-same : (r : Revival) (ms : List ServerMessage) → SameDocuments r (all_settled r ms)
+all_settled-same r [] = same_self r
+all_settled-same r (m ∷ ms) = same_then r (settled r m) (all_settled (settled r m) ms) (settled_same r m) (all_settled-same (settled r m) ms)
 
-released_by-same : (r : Revival) (text : List ℕ) (answer : Result ServerMessage MsgFault) → SameDocuments r (released_by r text answer).revival
-released_by-same r text (Ok m) = settled_same r m
-released_by-same r text (Err fault) = same_self r
+released_by-same : (before : List (List ℕ)) (r : Revival) (text : List ℕ) (answer : Result ServerMessage MsgFault) → SameDocuments r (released_by before r text answer).revival
+released_by-same before r text (Ok m) = settled_same r m
+released_by-same before r text (Err fault) = same_self r
 
-released_same : (r : Revival) (held : List (List ℕ)) → SameDocuments r (released r held).revival
-released_same r [] = same_self r
-released_same r (text ∷ held) =
-    let next = (released_by r text (server_answer text)).revival in
-    same_then r next (released next held).revival (released_by-same r text (server_answer text)) (released_same next held)
+released_same : (before : List (List ℕ)) (r : Revival) (held : List (List ℕ)) → SameDocuments r (released before r held).revival
+released_same before r [] = same_self r
+released_same before r (text ∷ held) =
+    let next = (released_by before r text (server_answer text)).revival in
+    same_then r next (released before next held).revival (released_by-same before r text (server_answer text)) (released_same before next held)
 
 pub revived_shown : (r : Revival) → IsShown (revived r).revival
 revived_shown r revived =
     let ready = made_ready r in
-    let ended = all_ended (half_ended r) ready in
-    let same = same_then ready ended (released ended r.held).revival (all_ended-same (half_ended r) ready) (released_same ended r.held) in
+    let left = all_settled ready (left_unsaid r) in
+    let before = updated_before r.calls in
+    let same = same_then ready left (released before left r.held).revival (all_settled-same ready (left_unsaid r)) (released_same before left r.held) in
     same.given ∙ sym same.copy
 
-gives_shown : (r : Revival) (m : ServerMessage) → IsShown r → IsShown (gives (noted r m) m)
-gives_shown r m w revived =
-    let same = settled_same (noted r m) m in
-    ap (λ rows. documents rows m) (w (sym same.revived ∙ revived)) ∙ sym same.copy
+noted_shown : (r : Revival) (m : ServerMessage) → IsShown r → IsShown (noted r m)
+noted_shown r m w revived = ap (λ b. cond b (documents r.given m) r.given) revived ∙ ap (λ rows. documents rows m) (w revived)
 
 passed_shown : (r : Revival) (text : List ℕ) (m : ServerMessage) → IsShown r → IsShown (passed r text m).revival
 passed_shown r text m w =
     elim (r.is_revived || is_at_once r.is_known m)
-    as (λ b. (r.is_revived || is_at_once r.is_known m) ≡ b →
-    IsShown (cond b (let h : Heard = record { revival = gives (noted r m) m; texts = text ∷ [] } in h)
-    (record { revival = holds (noted r m) text m; texts = [] })).revival) [
-      | true ↦ λ now. gives_shown r m w
-      | false ↦ λ later revived. absurd (true≢false (ap (λ b. b || is_at_once r.is_known m) (sym revived) ∙ later))
-    ] refl
+    as (λ b. IsShown (cond b (let h : Heard = record { revival = gives r m; texts = text ∷ [] } in h) (record { revival = holds r text m; texts = [] })).revival) [
+      | true ↦ shown_same r (settled r m) (settled_same r m) w
+      | false ↦ w
+    ]
 
 when_shown : (h : Heard) → IsShown h.revival → IsShown (revived_when h).revival
 when_shown h w =
@@ -102,19 +95,17 @@ when_shown h w =
     as (λ b. IsShown (cond b (revived_then h) h).revival)
     [ true ↦ revived_shown h.revival | false ↦ w ]
 
-unless_shown : (r : Revival) (text : List ℕ) (m : ServerMessage) (n : Option ℕ) → IsShown r → IsShown (heard_unless r text m n).revival
-unless_shown r text m None w = when_shown (passed r text m) (passed_shown r text m w)
-unless_shown r text m (Some n) w = w
+message_shown : (r : Revival) (text : List ℕ) (answer : Result ServerMessage MsgFault) → IsShown r → IsShown (heard_message r text answer).revival
+message_shown r text (Ok m) w = when_shown (passed (noted r m) text m) (passed_shown (noted r m) text m (noted_shown r m w))
+message_shown r text (Err fault) w = w
 
-answer_shown : (r : Revival) (text : List ℕ) (answer : Result ServerMessage MsgFault) → IsShown r → IsShown (heard_answer r text answer).revival
-answer_shown r text (Ok m) w = unless_shown r text m (refused_by r m) w
-answer_shown r text (Err Parse) w = w
-answer_shown r text (Err (BadRequest name)) w = w
-answer_shown r text (Err Memory) w = w
+unless_shown : (r : Revival) (text : List ℕ) (n : Option ℕ) → IsShown r → IsShown (heard_unless r text n).revival
+unless_shown r text None w = message_shown r text (server_answer text) w
+unless_shown r text (Some n) w = w
 
 pub hears-shown : (r : Revival) (text : List ℕ) → IsShown r → IsShown (hears r text).revival
 hears-shown r text w =
-    elim (nat_lt max_server_text (length text)) as (λ b. IsShown (cond b (breaks 1 r) (heard_answer r text (server_answer text))).revival) [
+    elim (is_some r.broken) as (λ b. IsShown (cond b (let h : Heard = record { revival = r; texts = [] } in h) (heard_unless r text (text_refusal r text))).revival) [
       | true ↦ w
-      | false ↦ answer_shown r text (server_answer text) w
+      | false ↦ unless_shown r text (text_refusal r text) w
     ]

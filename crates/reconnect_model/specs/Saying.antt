@@ -14,17 +14,17 @@ use Rattle.reconnect_model.specs.Revival.{Wanted, Called, Revival}
 
 -- ---- what the client queues
 
--- with x at the id; what is there already stays
+-- with x at the id, unless something is there
 abbrev pub entered : {X : Type 0} → List (List ℕ × X) → List ℕ → X → List (List ℕ × X)
 entered m id x = if is_some (at text_cmp m id) then m else set text_cmp m id (Some x)
 
 abbrev pub called : ℕ → List ℕ → Called
-called place text = record { place = place; text = text; is_answered = false; updated_in = None }
+called place text = record { place = place; text = text; is_answered = false; is_updated = false }
 
 -- a `sub` is wanted until its `unsub`, a method is owed
 abbrev pub asked : Revival → List ℕ → ClientMessage → Revival
 asked r text (client.sub id name params) = record r { subs = entered r.subs id (record { place = r.queued; text = text }) }
-asked r text (client.unsub id) = record r { subs = set text_cmp r.subs id None; ended = entered r.ended id r.epoch }
+asked r text (client.unsub id) = record r { subs = set text_cmp r.subs id None; ended = entered r.ended id r.queued }
 asked r text (client.method id name params seed) = record r { calls = entered r.calls id (called r.queued text) }
 asked r text _ = r
 
@@ -69,7 +69,7 @@ connect_text = client_text (client.connect (codes "1") (Some (codes "1" ∷ []))
 -- The link is lost. What was not said is dropped, what is wanted and owed is said again, and what the old session sent is forgotten.
 abbrev pub loses : Revival → Revival
 loses r = record r {
-  epoch = suc r.epoch;
+  begun = r.queued;
   waiting = connect_text ∷ sub_texts r.subs ++ call_texts r.calls;
   copy = [];
   is_connected = false;

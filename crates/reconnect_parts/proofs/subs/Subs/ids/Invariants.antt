@@ -1,0 +1,6 @@
+use Rattle.std.proofs.Common.{◌≡◌, ◌++◌, ℕ, List, [], map, filter, not, drop}
+use Rattle.std.specs.Map.{keys_of}
+use Rattle.reconnect_parts.proofs.subs.Subs.ids.Given as goal
+
+abbrev pub invariant-loop-id : goal.invariant-loop-id
+invariant-loop-id l = (goal.iterator-loop-id).can_next l.id-iterator × (goal.iterator-loop-id).is_finite l.id-iterator × (l.ids.keys ++ keys_of l.id-iterator ≡ keys_of l.self)
