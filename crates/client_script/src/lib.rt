@@ -14,6 +14,7 @@ mod turns;
 pub use end::ConsoleEnd;
 pub use fault::ScriptFault;
 pub use line::{Ask, Line};
+pub use reading::line_in;
 pub use script::Script;
 pub use speaker::{Heard, Speaker};
 pub use turns::leg;

@@ -89,7 +89,7 @@ fn read_row(alloc: Global, word: &Text, values: &[Value]) -> Result<Option<Line>
 }
 
 /// The line that the value describes, if it describes one.
-pub(crate) fn line_in(alloc: Global, value: &Value) -> Result<Option<Line>, Mem>
+pub fn line_in(alloc: Global, value: &Value) -> Result<Option<Line>, Mem>
     ensures { IfOk result (λ l. l ≡ line_in (view value.now)) }
 {
     let Value::List(items) = value else {

@@ -1,12 +1,12 @@
 //! Scripts.
-ghost use Rattle.std.specs.Prelude.{◌≡◌, length, slice_get};
+ghost use Rattle.std.specs.Prelude.{◌≡◌, ◌++◌, ◌∷◌, [], length, slice_get, OnOk, OnErr};
 ghost use Rattle.std.specs.Option.{option_copied};
 ghost use Rattle.client_script.specs.Scripts.{Reads};
 
 use crate::fault::ScriptFault;
 use crate::line::Line;
 use crate::reading::line_in;
-use ejson_value::{Items, ListOf, Value};
+use ejson_value::{Items, ListOf, Mem, Value};
 use std::alloc::Global;
 use std::marker::Model;
 
@@ -31,6 +31,23 @@ impl Model for Script {
 }
 
 impl Script {
+    /// A script without lines.
+    pub fn new(alloc: Global) -> Script
+        ensures { result ≡ [] }
+    {
+        Script {
+            lines: ListOf::new(alloc),
+        }
+    }
+
+    /// Puts the line behind the others. Where there is no memory for it, the script is as it was.
+    pub fn push(&mut self, line: Line) -> Result<(), Mem>
+        ensures ok { OnOk result (self.new ≡ self.old ++ line ∷ []) }
+        ensures err { OnErr result (self.new ≡ self.old) }
+    {
+        self.lines.push(line)
+    }
+
     /// The script of these values: `["sub",id,name]`, `["call",method]`, both also with a list of
     /// parameters, `["unsub",id]`, `["wait"]` and `["show"]`.
     pub fn read(alloc: Global, values: &Items) -> Result<Script, ScriptFault>
