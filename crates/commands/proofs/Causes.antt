@@ -57,13 +57,11 @@ ran c bad left rest bytes written now same short whole grows is_bad = record {
 pub cause_of : (c : Command) (left rest : Option (List ℕ)) (bytes : List ℕ) (written now : Option (List ℕ)) (s : Status) →
     IfSome left (λ old. bytes ≡ old) → IsWithin bytes → IfSome left (λ old. rest ≡ Some []) → EndsAs c bytes written now s → CauseOf c left rest written now s
 cause_of c left rest bytes written now status.Ok same short whole ends = ran c false left rest bytes written now same short whole ends.0 ends.1
-cause_of c left rest bytes written now status.Usage same short whole ends = ends
 cause_of c left rest bytes written now status.BadInput same short whole ends = ran c true left rest bytes written now same short whole ends.0 ends.1
-cause_of c left rest bytes written now status.ReadFault same short whole ends = absurd ends
 cause_of c left rest bytes written now status.WriteFault same short whole ends = record {
   within = of_the_input left IsWithin bytes same short;
   output = of_the_input left (λ input. (n : ℕ) × Grows written now (take n (output_of c input))) bytes same ends;
   true_run = run_is_true c left;
 }
-cause_of c left rest bytes written now status.TooLong same short whole ends = absurd ends
 cause_of c left rest bytes written now status.Memory same short whole ends = (run_is_true c left, ends)
+cause_of c left rest bytes written now _ same short whole ends = absurd ends

@@ -72,22 +72,20 @@ pub record CutShort (command : Command) (left written now : Option (List ℕ)) :
 -- What came of an input that was read whole: the whole output was written, and whether a line is bad is so; or a prefix of the output was, or nothing.
 abbrev pub EndsAs : Command → List ℕ → Option (List ℕ) → Option (List ℕ) → Status → Type 0
 EndsAs c input written now status.Ok = Grows written now (output_of c input) × (is_some (bad_line_of c input) ≡ false)
-EndsAs c input written now status.Usage = ⊥
 EndsAs c input written now status.BadInput = Grows written now (output_of c input) × (is_some (bad_line_of c input) ≡ true)
-EndsAs c input written now status.ReadFault = ⊥
 EndsAs c input written now status.WriteFault = (n : ℕ) × Grows written now (take n (output_of c input))
-EndsAs c input written now status.TooLong = ⊥
 EndsAs c input written now status.Memory = Grows written now []
+EndsAs c input written now _ = ⊥
 
 -- the cause of a status of a command, from what the source had left and the sink had written before the run and has now
 abbrev pub CauseOf : Command → Option (List ℕ) → Option (List ℕ) → Option (List ℕ) → Option (List ℕ) → Status → Type 0
 CauseOf c left rest written now status.Ok = Ran c false left rest written now
-CauseOf c left rest written now status.Usage = ⊥
 CauseOf c left rest written now status.BadInput = Ran c true left rest written now
 CauseOf c left rest written now status.ReadFault = Grows written now []
 CauseOf c left rest written now status.WriteFault = CutShort c left written now
 CauseOf c left rest written now status.TooLong = IfSome left IsTooLong × Grows written now []
 CauseOf c left rest written now status.Memory = IfSome left (λ input. IsTrueRunOf c input) × Grows written now []
+CauseOf c left rest written now _ = ⊥
 
 -- `Usage` comes exactly where the words name no command
 abbrev pub Cause : Option Command → Option (List ℕ) → Option (List ℕ) → Option (List ℕ) → Option (List ℕ) → Status → Type 0

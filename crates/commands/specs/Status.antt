@@ -11,3 +11,7 @@ code_of status.ReadFault = 4
 code_of status.WriteFault = 5
 code_of status.TooLong = 6
 code_of status.Memory = 7
+code_of status.NetFault = 8
+code_of status.ServerSent = 9
+code_of status.Version = 10
+code_of status.Closed = 11

@@ -6,7 +6,8 @@ mod reason;
 mod run;
 mod status;
 
+pub use reason::{Wanted, reason_for};
 pub use replay_core::checking::{INPUT_LIMIT, LINE_LIMIT};
 pub use replay_core::{World, world_events};
-pub use run::{run_on, run_plain};
+pub use run::{read_input, run_on, run_plain};
 pub use status::Status;

@@ -1,5 +1,4 @@
 //! What is wrong with a line that isn't of the grammar, in words.
-use crate::command::Command;
 use app_model::{App, AppFault};
 use ejson_codec::{EjsonFault, ParseFault, parse, text};
 use ejson_value::{Mem, Text, Value};
@@ -7,12 +6,19 @@ use replay_core::checking::first_line;
 use std::alloc::Global;
 use std::str;
 
-// What a line has to be.
-#[derive(Clone, Copy)]
-enum Wanted {
+/// What a line of an input has to be.
+#[derive(Clone, Copy, Debug, PartialEq, Eq)]
+pub enum Wanted {
+    /// An application, alone on line 1.
     Application,
+    /// Nothing: the application stands alone.
+    Nothing,
+    /// An event.
     Event,
+    /// A moment that a heart is handed.
     Moment,
+    /// A line of a client's script.
+    Action,
 }
 
 /// How many characters of a text of the input a reason shows.
@@ -98,13 +104,14 @@ fn wrong_name(alloc: Global, name: &Text) -> Result<Text, Mem> {
     Text::from_string(what)
 }
 
-fn wrong_event(alloc: Global, value: &Value) -> Result<Text, Mem> {
+// What is wrong with a list that is to begin with a name.
+fn wrong_list(alloc: Global, value: &Value, unnamed: &str) -> Result<Text, Mem> {
     let Value::List(items) = value else {
         return Text::from_str(alloc, "it is not a list");
     };
     match items.as_slice().first() {
         Some(Value::Text(name)) => wrong_name(alloc, name),
-        _ => Text::from_str(alloc, "it does not begin with the name of an event"),
+        _ => Text::from_str(alloc, unnamed),
     }
 }
 
@@ -112,7 +119,13 @@ fn wrong_event(alloc: Global, value: &Value) -> Result<Text, Mem> {
 fn wrong_content(alloc: Global, value: Value, wanted: Wanted) -> Result<Text, Mem> {
     let what = match wanted {
         Wanted::Application => wrong_application(alloc, &value),
-        Wanted::Event => wrong_event(alloc, &value),
+        Wanted::Nothing => Text::from_str(alloc, "nothing may stand here"),
+        Wanted::Event => wrong_list(alloc, &value, "it does not begin with the name of an event"),
+        Wanted::Action => wrong_list(
+            alloc,
+            &value,
+            "it does not begin with sub, unsub, call, wait or show",
+        ),
         Wanted::Moment => Text::from_str(
             alloc,
             "it is neither [\"heard\",t] nor [\"tick\",t] with a whole number t from 0",
@@ -176,12 +189,22 @@ fn no_moment(alloc: Global, input: &[u8], number: u32) -> Result<Text, Mem> {
     Text::from_string(reason)
 }
 
-/// Why the line of this number of a command's input, which isn't of the grammar, is none: a line of text.
-pub fn reason_for(alloc: Global, command: Command, input: &[u8], number: u32) -> Result<Text, Mem> {
-    match command {
-        Command::Beat { .. } => no_moment(alloc, input, number),
-        _ if number == 1 => no_application(alloc, input),
-        Command::Check => further_line(alloc, number),
-        Command::Replay => no_event(alloc, input, number),
+fn no_action(alloc: Global, input: &[u8], number: u32) -> Result<Text, Mem> {
+    let what = wrong_line(alloc, line_of(input, number), Wanted::Action)?;
+    let what = what.as_str();
+    let reason = format!(in alloc;
+        "line {number} is no line of a script: {what}; nothing was run"
+    )?;
+    Text::from_string(reason)
+}
+
+/// Why the line of this number of an input, which isn't what is wanted, is none: a line of text.
+pub fn reason_for(alloc: Global, wanted: Wanted, input: &[u8], number: u32) -> Result<Text, Mem> {
+    match wanted {
+        Wanted::Application => no_application(alloc, input),
+        Wanted::Nothing => further_line(alloc, number),
+        Wanted::Event => no_event(alloc, input, number),
+        Wanted::Moment => no_moment(alloc, input, number),
+        Wanted::Action => no_action(alloc, input, number),
     }
 }

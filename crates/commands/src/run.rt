@@ -6,7 +6,7 @@ ghost use Rattle.commands.specs.Cause.{Cause, CauseOf, EndsAs, HasBounds, comman
 ghost use Rattle.commands.specs.declared.status.Status.TheVariants as status;
 
 use crate::command::{Command, command_in};
-use crate::reason::reason_for;
+use crate::reason::{Wanted, reason_for};
 use crate::status::Status;
 use beating::beat;
 use ejson_value::{Bytes, Mem, Text};
@@ -17,16 +17,26 @@ use std::alloc::Global;
 use std::marker::Sync;
 use std::thread::Threads;
 
+// What the line of this number of a command's input has to be.
+fn wanted(command: Command, number: u32) -> Wanted {
+    match command {
+        Command::Beat { .. } => Wanted::Moment,
+        _ if number == 1 => Wanted::Application,
+        Command::Check => Wanted::Nothing,
+        Command::Replay => Wanted::Event,
+    }
+}
+
 // Tells why a line isn't of the grammar, if there is memory for it.
 fn tell(alloc: Global, command: Command, input: &[u8], number: u32, reason: &mut Text) {
-    if let Ok(told) = reason_for(alloc, command, input, number) {
+    if let Ok(told) = reason_for(alloc, wanted(command, number), input, number) {
         *reason = told;
     }
 }
 
-// Reads an input whole, if it keeps to the limits.
+/// Reads an input whole, if it keeps to the limits.
 #[tactic(auto, using(crate::proofs::Causes::too_many_bytes, crate::proofs::Causes::too_many_lines, crate::proofs::Causes::keeps_within))]
-fn read_input<I: Source>(alloc: Global, input: &mut I) -> Result<Bytes, ReadAll>
+pub fn read_input<I: Source>(alloc: Global, input: &mut I) -> Result<Bytes, ReadAll>
     ensures all { IfOk result (λ bytes. IfSome (I.left input.old) (λ old. bytes ≡ old)) }
     ensures end { OnOk result (IfSome (I.left input.old) (λ _. I.left input.new ≡ Some [])) }
     ensures short { IfOk result (λ bytes. length bytes ≤ input_limit) }

@@ -19,6 +19,14 @@ pub enum Status {
     TooLong,
     /// There was no memory left.
     Memory,
+    /// The network failed, or a link of it.
+    NetFault,
+    /// The client refused a text of the server.
+    ServerSent,
+    /// The server does not speak this version of DDP.
+    Version,
+    /// The server closed the link before the script was done.
+    Closed,
 }
 
 impl Status {
@@ -34,6 +42,10 @@ impl Status {
             Status::WriteFault => 5,
             Status::TooLong => 6,
             Status::Memory => 7,
+            Status::NetFault => 8,
+            Status::ServerSent => 9,
+            Status::Version => 10,
+            Status::Closed => 11,
         }
     }
 
@@ -53,7 +65,13 @@ impl Status {
             Status::TooLong =>
                 "the input has more than 67108864 bytes or 1048576 lines, and nothing was run: run fewer events at a time, each time with the application as line 1",
             Status::Memory =>
-                "there was no memory left, and nothing was written: run again with more memory or a shorter input",
+                "there was no memory left, and the output is not whole: run again with more memory or a shorter input",
+            Status::NetFault =>
+                "the network failed: see whether the port is free to listen at, or whether a server listens there",
+            Status::ServerSent =>
+                "the server sent a text that the client refused: the last line of the output tells why",
+            Status::Version => "the server does not speak version 1 of DDP",
+            Status::Closed => "the server closed the link before the script was done",
         }
     }
 }
