@@ -1,0 +1,117 @@
+//! All that the program does.
+ghost use Rattle.std.specs.Prelude.{◌≡◌, ◌≢◌, ◌↔◌, ◌<◌, ◌≤◌, length, None};
+ghost use Rattle.checking.specs.Input.{input_limit};
+ghost use Rattle.network_commands.specs.Words.{network_command_in};
+ghost use Rattle.network_commands.specs.Cause.{outside, Ends, CauseOf, RunCause, IsUnasked};
+
+use crate::command::{NetworkCommand, network_command_in};
+use crate::console::run_console;
+use crate::server::serve_input;
+use commands::{Status, World, read_input, run_on};
+use duct::Network;
+use ejson_value::Text;
+use io_edge::{ReadAll, Sink, Source};
+use std::alloc::Global;
+use std::marker::Sync;
+use std::sync::Wait;
+use std::thread::Threads;
+
+// Runs an input of a command.
+fn run_input<R: Threads + Wait + Copy + Send + Sync + 'static, O: Sink, N: Network>(
+    rt: &R,
+    alloc: Global,
+    command: NetworkCommand,
+    input: &[u8],
+    output: &mut O,
+    net: &mut N,
+    reason: &mut Text,
+) -> Status
+where
+    N::Link: 'static,
+    requires { length input.now ≤ input_limit }
+    ensures ends { Ends N.Link.steps N.Link.faults command input.now
+        (outside (O.written output.old) (N.given net.old) (N.faults net.old))
+        (outside (O.written output.new) (N.given net.new) (N.faults net.new)) result }
+    ensures write_fault { (result ≡ Status.WriteFault) ↔ (O.faults output.old < O.faults output.new) }
+    ensures unasked { IsUnasked result → net.new ≡ net.old }
+    ensures told { result ≢ Status.BadInput → reason.new ≡ reason.old }
+{
+    match command {
+        NetworkCommand::Serve { port, connections } => serve_input(
+            rt,
+            alloc,
+            port,
+            connections,
+            input,
+            output,
+            net,
+            reason,
+        ),
+        NetworkCommand::Console { port } => {
+            run_console(rt, alloc, port, input, output, net, reason)
+        }
+    }
+}
+
+// Reads the input of a command and runs it.
+fn run_command<R: Threads + Wait + Copy + Send + Sync + 'static, I: Source, O: Sink, N: Network>(
+    rt: &R,
+    alloc: Global,
+    command: NetworkCommand,
+    input: &mut I,
+    output: &mut O,
+    net: &mut N,
+    reason: &mut Text,
+) -> Status
+where
+    N::Link: 'static,
+    ensures cause { CauseOf N.Link.steps N.Link.faults command (I.left input.old) (I.left input.new)
+        (outside (O.written output.old) (N.given net.old) (N.faults net.old))
+        (outside (O.written output.new) (N.given net.new) (N.faults net.new)) result }
+    ensures unasked { IsUnasked result → net.new ≡ net.old }
+    ensures read_fault { (result ≡ Status.ReadFault) ↔ (I.faults input.old < I.faults input.new) }
+    ensures write_fault { (result ≡ Status.WriteFault) ↔ (O.faults output.old < O.faults output.new) }
+    ensures told { result ≢ Status.BadInput → reason.new ≡ reason.old }
+{
+    match read_input(alloc, input) {
+        Ok(bytes) => run_input(rt, alloc, command, bytes.as_slice(), output, net, reason),
+        Err(ReadAll::Failed) => Status::ReadFault,
+        Err(ReadAll::TooLong) => Status::TooLong,
+        Err(ReadAll::Memory) => Status::Memory,
+    }
+}
+
+/// Does what the words say, with an input that it reads whole. `serve PORT CONNECTIONS` serves the application of line 1 at this port of the
+/// machine until so many connections have ended. `console PORT` connects to a server there, and runs the script of the further lines. All other
+/// words are run as `run_on` runs them.
+///
+/// `cause` says when each status comes, and what was read and written then. Where a line isn't of the grammar, it is named, nothing else is
+/// written, `reason` is set to a line for a person that says which line is bad and why, if there is memory for it, and the network is asked for
+/// nothing.
+pub fn run<R: Threads + Wait + Copy + Send + Sync + 'static, I: Source, O: Sink, N: Network>(
+    rt: &R,
+    alloc: Global,
+    words: &[Text],
+    input: &mut I,
+    output: &mut O,
+    net: &mut N,
+    reason: &mut Text,
+    left: &mut Option<World>,
+) -> Status
+where
+    N::Link: 'static,
+    ensures cause { RunCause N.Link.steps N.Link.faults words.now (I.left input.old) (I.left input.new)
+        (outside (O.written output.old) (N.given net.old) (N.faults net.old))
+        (outside (O.written output.new) (N.given net.new) (N.faults net.new)) result }
+    ensures untouched { result ≡ Status.Usage → (input.new ≡ input.old) × (output.new ≡ output.old) × (left.new ≡ left.old) }
+    ensures other { network_command_in words.now ≡ None → net.new ≡ net.old }
+    ensures unasked { IsUnasked result → net.new ≡ net.old }
+    ensures read_fault { (result ≡ Status.ReadFault) ↔ (I.faults input.old < I.faults input.new) }
+    ensures write_fault { (result ≡ Status.WriteFault) ↔ (O.faults output.old < O.faults output.new) }
+    ensures told { result ≢ Status.BadInput → reason.new ≡ reason.old }
+{
+    match network_command_in(words) {
+        Some(command) => run_command(rt, alloc, command, input, output, net, reason),
+        None => run_on(rt, alloc, words, input, output, reason, left),
+    }
+}
