@@ -1,12 +1,18 @@
-//! The program `ddp`: a reactive data server and its client, with the commands `check`, `replay` and `beat`.
+//! The program `ddp`: a reactive data server and its client, with the commands `check`, `replay`, `beat`, `serve` and `console`.
 #![tactic(auto)]
 
-use commands::{Status, World, run_on};
+mod announcing;
+
+use announcing::{Announcing, Trouble};
+use commands::{Status, World};
+use ddp_socket::SocketNetwork;
+use duct::Network;
 use ejson_value::{Mem, Text};
 use io_edge::{Sink, Source, StdSink, StdSource};
 use std::marker::Sync;
 use std::process::ExitCode;
 use std::rt::Env;
+use std::sync::Wait;
 use std::thread::Threads;
 use std::{env, io, mem};
 use usage::usage_text;
@@ -37,15 +43,33 @@ fn status_of(fault: io::Error) -> Status {
     }
 }
 
-fn run<R: Env + AllocGlobal + Threads + Sync, I: Source, O: Sink>(
+fn run<
+    R: Env + AllocGlobal + Threads + Wait + Copy + Send + Sync + 'static,
+    I: Source,
+    O: Sink,
+    N: Network,
+>(
     rt: &R,
     source: &mut I,
     sink: &mut O,
+    net: &mut N,
     reason: &mut Text,
     left: &mut Option<World>,
-) -> Status {
+) -> Status
+where
+    N::Link: 'static,
+{
     match words(rt) {
-        Ok(words) => run_on(rt, rt.alloc(), words.as_slice(), source, sink, reason, left),
+        Ok(words) => network_commands::run(
+            rt,
+            rt.alloc(),
+            words.as_slice(),
+            source,
+            sink,
+            net,
+            reason,
+            left,
+        ),
         Err(fault) => status_of(fault),
     }
 }
@@ -62,12 +86,34 @@ fn tell_usage(rt: &(impl Eprint + AllocGlobal)) -> io::Result<()> {
     }
 }
 
+// Tells what the network failed at. Where it gave what it was asked for, a link of it failed.
+fn tell_trouble(rt: &impl Eprint, trouble: Option<Trouble>) -> io::Result<()> {
+    match trouble {
+        Some(Trouble::Listening(port)) => eprintln!(rt;
+            "ddp: nothing can listen at port {port} of 127.0.0.1: it is taken, or this user may not have it; choose another port"
+        ),
+        Some(Trouble::Accepting) => eprintln!(rt;
+            "ddp: no further connection could be taken: the system is short of descriptors or memory"
+        ),
+        Some(Trouble::Connecting(port)) => eprintln!(rt;
+            "ddp: no server answers at ws://127.0.0.1:{port}/websocket: see whether it is running, and whether the port is right"
+        ),
+        None => eprintln!(rt; "ddp: the link to the server failed before the script was done"),
+    }
+}
+
 // Tells on standard error how the run ended.
-fn tell(rt: &(impl Eprint + AllocGlobal), status: Status, reason: &Text) -> io::Result<()> {
+fn tell(
+    rt: &(impl Eprint + AllocGlobal),
+    status: Status,
+    reason: &Text,
+    trouble: Option<Trouble>,
+) -> io::Result<()> {
     match status {
         Status::Ok => Ok(()),
         Status::Usage => tell_usage(rt),
         Status::BadInput if !reason.is_empty() => eprintln!(rt; "ddp: {}", reason.as_str()),
+        Status::NetFault => tell_trouble(rt, trouble),
         _ => tell_message(rt, status),
     }
 }
@@ -75,10 +121,18 @@ fn tell(rt: &(impl Eprint + AllocGlobal), status: Status, reason: &Text) -> io::
 fn main(rt: HostRuntime) -> ExitCode {
     let mut source = StdSource::new(rt.stdin());
     let mut sink = StdSink::new(rt.stdout());
+    let mut net = Announcing::new(rt, SocketNetwork::new(rt, rt.alloc()));
     let mut reason = Text::new(rt.alloc());
     let mut left = None;
-    let status = run(&rt, &mut source, &mut sink, &mut reason, &mut left);
-    let _ = tell(&rt, status, &reason);
+    let status = run(
+        &rt,
+        &mut source,
+        &mut sink,
+        &mut net,
+        &mut reason,
+        &mut left,
+    );
+    let _ = tell(&rt, status, &reason, net.trouble());
     // The process ends here, and its memory with it.
     mem::forget(left);
     ExitCode::from(status.code())

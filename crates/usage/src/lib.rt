@@ -5,7 +5,7 @@ use clap::Command;
 use std::alloc::{AllocError, Global};
 
 // Each command that is built: its words, and what it does.
-const COMMANDS: [(&str, &str); 3] = [
+const COMMANDS: [(&str, &str); 5] = [
     (
         "check",
         "Tells whether line 1 of standard input is an application, or what is wrong with it and where",
@@ -17,6 +17,14 @@ const COMMANDS: [(&str, &str); 3] = [
     (
         "beat INTERVAL TIMEOUT",
         "Tells of each moment on standard input whether a ping is due or a link is at its end; the words are milliseconds",
+    ),
+    (
+        "serve PORT CONNECTIONS",
+        "Serves the application on standard input at ws://127.0.0.1:PORT/websocket, until so many connections have ended",
+    ),
+    (
+        "console PORT",
+        "Connects to a server at that port, runs the script that follows the application on standard input, and prints what it shows",
     ),
 ];
 
