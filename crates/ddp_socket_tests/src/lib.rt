@@ -2,6 +2,8 @@
 #![tactic(auto)]
 
 #[cfg(test)]
+mod open;
+#[cfg(test)]
 mod peers;
 #[cfg(test)]
 mod streams;

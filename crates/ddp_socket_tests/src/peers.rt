@@ -12,7 +12,7 @@ use std::time::Clock;
 // How often a link is polled for what a peer sent.
 const POLLS: u32 = 100;
 
-const REQUEST: &[u8] =
+pub const REQUEST: &[u8] =
     b"GET /websocket HTTP/1.1\r\nHost: 127.0.0.1\r\nConnection: Upgrade\r\nUpgrade: websocket\r\nSec-WebSocket-Version: 13\r\nSec-WebSocket-Key: dGhlIHNhbXBsZSBub25jZQ==\r\n\r\n";
 
 // The example of RFC 6455, section 1.3: how a server answers that key.
@@ -43,6 +43,8 @@ const FRAMES: &str = r#"818000000000 => [] failed =>
 818100000000ff => failed => 880203ef
 818200000000686981820000 => [hi] failed =>
 81ff000000000080000100000000 => failed => 880203f1
+81ff000000000080000000000000 => failed =>
+8181000000006881ff000000000080000100000000 => [h] failed => 880203f1
 81026869 => failed => 880203ea
 c18000000000 => failed => 880203ea
 808000000000 => failed => 880203ea
@@ -71,6 +73,7 @@ GET /websocket HTTP/1.1|KEYS||junk => 400
 GET /websocket HTTP/1.1|KEYS|| => 101
 GET /websocket HTTP/1.1|Connection: keep-alive, Upgrade|Upgrade: WebSocket|Sec-WebSocket-Version: 13|Sec-WebSocket-Key: dGhlIHNhbXBsZSBub25jZQ==|| => 101
 GET /websocket HTTP/1.1|Sec-WebSocket-Extensions: permessage-deflate|Sec-WebSocket-Protocol: ddp|KEYS|| => 101
+GET /websocket HTTP/1.1|Host: 127.0.0.1|connection: UPGRADE|UPGRADE: WEBSOCKET|sec-websocket-version: 13|sec-websocket-key: dGhlIHNhbXBsZSBub25jZQ==|| => 101
 GET / HTTP/1.1|KEYS|| => 101
 GET /any/other?query HTTP/1.1|KEYS|| => 101
 GET /sockjs/info HTTP/1.1|KEYS|| => 404
@@ -105,7 +108,7 @@ fn digit(letter: u8) -> u8 {
     }
 }
 
-fn bytes(alloc: Global, digits: &str) -> Result<Vec<u8>, Fail> {
+pub fn bytes(alloc: Global, digits: &str) -> Result<Vec<u8>, Fail> {
     let mut bytes = Vec::new(alloc);
     for pair in digits.as_bytes().chunks_exact(2) {
         bytes.push(digit(pair[0]) << 4 | digit(pair[1]))?;
@@ -149,7 +152,7 @@ fn word(polled: Polled) -> &'static str {
 }
 
 // What the polls of a link give, up to its end.
-fn heard<L: Link>(alloc: Global, link: &mut L) -> Result<String, Fail> {
+pub fn heard<L: Link>(alloc: Global, link: &mut L) -> Result<String, Fail> {
     let mut all = String::new(alloc);
     for _ in 0..POLLS {
         match link.poll() {
@@ -165,7 +168,9 @@ fn heard<L: Link>(alloc: Global, link: &mut L) -> Result<String, Fail> {
 }
 
 // A peer that has sent this, and the link of it.
-fn peer<R: Net<Listener = TcpListener, Stream = TcpStream> + RandomSource + Clock + Copy + Send>(
+pub fn peer<
+    R: Net<Listener = TcpListener, Stream = TcpStream> + RandomSource + Clock + Copy + Send,
+>(
     rt: R,
     network: &mut SocketNetwork<R>,
     port: u16,
@@ -177,7 +182,9 @@ fn peer<R: Net<Listener = TcpListener, Stream = TcpStream> + RandomSource + Cloc
 }
 
 // A peer and its link behind the handshake; the peer has sent these frames, and sends no more.
-fn sends<R: Net<Listener = TcpListener, Stream = TcpStream> + RandomSource + Clock + Copy + Send>(
+pub fn sends<
+    R: Net<Listener = TcpListener, Stream = TcpStream> + RandomSource + Clock + Copy + Send,
+>(
     rt: R,
     network: &mut SocketNetwork<R>,
     port: u16,
@@ -193,7 +200,7 @@ fn sends<R: Net<Listener = TcpListener, Stream = TcpStream> + RandomSource + Clo
 }
 
 // Whether these end with the head that accepts the handshake, and then these.
-fn is_answered(sent: &[u8], wanted: &[u8]) -> bool {
+pub fn is_answered(sent: &[u8], wanted: &[u8]) -> bool {
     let head = sent.len().saturating_sub(wanted.len());
     sent.ends_with(wanted)
         && sent[..head].ends_with(b"\r\n\r\n")
@@ -245,7 +252,7 @@ fn is_heard<
 }
 
 // What a peer is still told. A connection that ends with bytes unread is reset behind it.
-fn rest(alloc: Global, peer: &mut TcpStream) -> Result<Vec<u8>, Fail> {
+pub fn rest(alloc: Global, peer: &mut TcpStream) -> Result<Vec<u8>, Fail> {
     let mut sent = Vec::new(alloc);
     let mut part = [0; 256];
     for _ in 0..POLLS {
@@ -291,6 +298,20 @@ fn has_status(sent: &[u8], status: &str) -> bool {
     }
 }
 
+// How the fields begin that grant an extension and a subprotocol, of which a server here speaks none.
+const EXTENSION: &[u8] = b"sec-websocket-extensions";
+
+const SUBPROTOCOL: &[u8] = b"sec-websocket-protocol";
+
+// Whether an answer grants an extension or a subprotocol.
+fn grants_more(sent: &[u8]) -> bool {
+    sent.windows(EXTENSION.len())
+        .any(|part| part.eq_ignore_ascii_case(EXTENSION))
+        || sent
+            .windows(SUBPROTOCOL.len())
+            .any(|part| part.eq_ignore_ascii_case(SUBPROTOCOL))
+}
+
 // Whether a row of heads is answered as it says, and the link open where the handshake is taken.
 fn is_greeted<
     R: Net<Listener = TcpListener, Stream = TcpStream> + RandomSource + Clock + Copy + Send,
@@ -306,7 +327,8 @@ fn is_greeted<
     };
     let head = lines(alloc, head)?;
     let (sent, opened) = greeting(rt, alloc, network, port, &head)?;
-    Ok(has_status(&sent, status.trim()) && opened == (status.trim() == "101"))
+    let answered = has_status(&sent, status.trim()) && !grants_more(&sent);
+    Ok(answered && opened == (status.trim() == "101"))
 }
 
 // Whether a head that is no text, and one that is too long, are answered so.
@@ -319,6 +341,34 @@ fn are_refused<
     long.resize(70000, b'x')?;
     let (too_long, second) = greeting(rt, alloc, network, port, &long)?;
     Ok(has_status(&no_text, "400") && has_status(&too_long, "431") && !first && !second)
+}
+
+// Whether a head of so many fields is answered so.
+fn is_too_many<
+    R: Net<Listener = TcpListener, Stream = TcpStream> + RandomSource + Clock + Copy + Send,
+>(rt: R, alloc: Global, network: &mut SocketNetwork<R>, port: u16) -> Result<bool, Fail> {
+    let mut head = Vec::new(alloc);
+    head.extend_from_slice(b"GET /websocket HTTP/1.1\r\n")?;
+    for _ in 0..200u8 {
+        head.extend_from_slice(b"X: x\r\n")?;
+    }
+    head.extend_from_slice(KEYS)?;
+    head.extend_from_slice(b"\r\n")?;
+    let (sent, opened) = greeting(rt, alloc, network, port, &head)?;
+    Ok(has_status(&sent, "400") && !opened)
+}
+
+// What is heard of a peer that goes without a word, and leaves unread what it was sent.
+fn is_gone<R: Net<Listener = TcpListener, Stream = TcpStream> + RandomSource + Clock + Copy + Send>(
+    rt: R,
+    alloc: Global,
+    network: &mut SocketNetwork<R>,
+    port: u16,
+) -> Result<bool, Fail> {
+    let (peer, mut link) = peer(rt, network, port, REQUEST)?;
+    let opened = matches!(link.poll(), Polled::Quiet);
+    drop(peer);
+    Ok(opened && heard(alloc, &mut link)?.as_str() == "failed")
 }
 
 // Whether a peer is told so whose link is let go before it was polled.
@@ -388,9 +438,12 @@ fn wrong_rows<
     add_wrong_frames(rt, alloc, network, port, wrong)?;
     add_wrong_heads(rt, alloc, network, port, wrong)?;
     let refused = are_refused(rt, alloc, network, port)?;
+    let too_many = is_too_many(rt, alloc, network, port)?;
+    let gone = is_gone(rt, alloc, network, port)?;
     let turned_away = is_turned_away(rt, alloc, network, port)?;
     standing.bell()?.ring();
-    Ok(refused && turned_away && heard(alloc, &mut standing)?.as_str() == "[hi] failed")
+    let last = heard(alloc, &mut standing)?;
+    Ok(refused && too_many && gone && turned_away && last.as_str() == "[hi] failed")
 }
 
 fn all_are_right<

@@ -146,6 +146,52 @@ fn fails_at_silence(alloc: Global) -> bool {
     failed && reads == TRIES
 }
 
+// Whether a link tries the handshake of a peer so often that sends half a head, and then fails.
+fn fails_at_half_a_head(alloc: Global) -> bool {
+    let mut reads = 0;
+    let parts: [&[u8]; 1] = [b"GET /websocket HTTP/1.1\r\nHost: 127.0.0.1\r\n"];
+    let mut link = link(
+        alloc,
+        &parts,
+        Then::Blocks,
+        &mut reads,
+        9,
+        ErrorKind::BrokenPipe,
+    );
+    let failed = matches!(link.poll(), Polled::Failed);
+    drop(link);
+    failed && reads == TRIES + 1
+}
+
+// Whether a handshake ends whose head comes a few bytes at a time.
+fn fails_at_a_slow_head(alloc: Global) -> bool {
+    let mut reads = 0;
+    let parts: [&[u8]; 1] = [b"GET /websocket HTTP/1.1\r\n"];
+    let endless = Then::Repeats(*b"a: b\r\n");
+    let mut link = link(alloc, &parts, endless, &mut reads, 9, ErrorKind::BrokenPipe);
+    let failed = matches!(link.poll(), Polled::Failed);
+    drop(link);
+    failed && reads == READS + 1
+}
+
+// Whether a text is heard whose frame comes byte by byte.
+fn hears_bytes(alloc: Global) -> bool {
+    let mut reads = 0;
+    let parts: [&[u8]; 9] = [
+        REQUEST, b"\x81", b"\x82", b"\x00", b"\x00", b"\x00", b"\x00", b"h", b"i",
+    ];
+    let mut link = link(
+        alloc,
+        &parts,
+        Then::Blocks,
+        &mut reads,
+        9,
+        ErrorKind::BrokenPipe,
+    );
+    let opened = matches!(link.poll(), Polled::Quiet);
+    opened && matches!(link.poll(), Polled::Message(text) if text.as_str() == "hi")
+}
+
 // Whether a poll ends though its peer sends the fragments of a text without end.
 fn ends_each_poll(alloc: Global) -> bool {
     let mut reads = 0;
@@ -199,6 +245,9 @@ fn fails_to_connect(alloc: Global, then: Then, wanted: u32) -> bool {
 fn calls_end(rt: HostRuntime) {
     let alloc = rt.alloc();
     assert!(rt; fails_at_silence(alloc));
+    assert!(rt; fails_at_half_a_head(alloc));
+    assert!(rt; fails_at_a_slow_head(alloc));
+    assert!(rt; hears_bytes(alloc));
     assert!(rt; ends_each_poll(alloc));
     assert!(rt; ends_reading(alloc));
     assert!(rt; fails_to_connect(alloc, Then::Blocks, TRIES));

@@ -93,6 +93,14 @@ fn texts(alloc: Global, longest: u32) -> Result<Vec<Text>, Mem> {
     texts.push(Text::from_str(alloc, "")?)?;
     texts.push(Text::from_str(alloc, r#"{"msg":"ping"}"#)?)?;
     texts.push(Text::from_str(alloc, "z\u{df}\u{6c34}\u{1f34c}")?)?;
+    // The lengths where the form of a frame's length changes.
+    for length in [125, 126, 65535, 65536u32] {
+        let mut text = Text::new(alloc);
+        for _ in 0..length {
+            text.push_str("x")?;
+        }
+        texts.push(text)?;
+    }
     let mut long = Text::new(alloc);
     for _ in 0..longest {
         long.push_str("0123456789abcdef")?;
@@ -128,7 +136,8 @@ fn two_ends<
 
 #[test]
 fn texts_go_both_ways(rt: HostRuntime) -> Result<(), Fail> {
-    assert!(rt; two_ends(rt, rt.alloc(), 1000)?);
+    // A text of 1,000,000 bytes.
+    assert!(rt; two_ends(rt, rt.alloc(), 62500)?);
     // A text of 4,194,304 bytes.
     assert!(rt; two_ends(rt, rt.alloc(), 262144)?);
     Ok(())
