@@ -1,0 +1,5 @@
+pub mod Acts
+pub mod Watch
+pub mod Timed
+pub mod Keeping
+pub mod Times
