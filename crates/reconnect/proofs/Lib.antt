@@ -1,0 +1,6 @@
+mod Hearing
+mod Noting
+mod Parts
+mod Released
+mod Left
+mod Reviving

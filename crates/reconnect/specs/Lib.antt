@@ -1,0 +1,4 @@
+pub mod Hearing
+pub mod Giving
+pub mod Parts
+pub mod HistoryLaws
