@@ -1,5 +1,6 @@
 -- The cursors that are read of one publication publish under different names.
-use Rattle.std.specs.Prelude.{◌≡◌, ℕ, Bool, true, false, not, List, [], ◌∷◌, ◌++◌, length, codes, Option, None, Some, Ok, Err, unwrap_or, ◌||◌, refl, if◌then◌else◌}
+use Rattle.std.specs.Prelude.{◌≡◌, ℕ, Bool, true, false, not, List, [], ◌∷◌, ◌++◌, length, codes, Option, None, Some, Ok, Err, unwrap_or, ◌||◌, refl,
+    if◌then◌else◌}
 use Rattle.std.proofs.Common.{ap, sym, ◌∙◌, subst}
 use Rattle.std.specs.List.{list_any}
 use Rattle.std.specs.Str.{bytes_eq}
@@ -19,7 +20,8 @@ use Rattle.app_model.specs.declared.publication.CursorRule.{CursorRule}
 use Rattle.program_reading.specs.Faults.{Place, below, element, Reading, bad}
 use Rattle.app_model.specs.Rules.{Rules, publishes, HaveDistinctNames}
 use Rattle.program_reading.specs.Names.{has_name, is_valid_name, name_reading, if_known, known_reading}
-use Rattle.app_model.specs.Reading.{is_cursor, published_as, is_published, alias_reading, selector_of, names_reading, shown_reading, parts_reading, rule_reading, rules_behind}
+use Rattle.app_model.specs.Reading.{is_cursor, published_as, is_published, alias_reading, selector_of, names_reading, shown_reading, parts_reading,
+    rule_reading, rules_behind}
 
 flipped : (a b : List ℕ) → Decides (bytes_eq a b) (a ≡ b) → Decides (bytes_eq a b) (b ≡ a)
 flipped a b d = (λ e. sym (d.0 e), λ p. d.1 (sym p))
@@ -34,7 +36,8 @@ neither false b e = (refl, e)
 both_false : (a b : Bool) → a ≡ false → b ≡ false → (a || b) ≡ false
 both_false a b e f = ap (λ x. x || b) e ∙ f
 
-publishes-append : (rules : Rules) (rule : CursorRule) (name : List ℕ) → publishes rules name ≡ false → is_name rule.name name ≡ false → publishes (rules ++ rule ∷ []) name ≡ false
+publishes-append : (rules : Rules) (rule : CursorRule) (name : List ℕ) → publishes rules name ≡ false → is_name rule.name name ≡ false →
+    publishes (rules ++ rule ∷ []) name ≡ false
 publishes-append [] rule name before here = both_false (is_name rule.name name) false here refl
 publishes-append (r ∷ rules) rule name before here =
     let parts = neither (is_name r.name name) (publishes rules name) before in
@@ -46,7 +49,8 @@ distinct-append (r ∷ rules) rule all new =
     let parts = neither (is_name r.name rule.name) (publishes rules rule.name) new in
     (publishes-append rules rule r.name all.0 (is_name-sym rule.name r.name ∙ parts.0), distinct-append rules rule all.1 parts.1)
 
-unless_bad : {A : Type 0} (wrong : Bool) (f : Flaw) (place : Place) (r : Reading A) (a : A) → (if wrong then bad f place else r) ≡ Ok a → (wrong ≡ false) × (r ≡ Ok a)
+unless_bad : {A : Type 0} (wrong : Bool) (f : Flaw) (place : Place) (r : Reading A) (a : A) → (if wrong then bad f place else r) ≡ Ok a →
+    (wrong ≡ false) × (r ≡ Ok a)
 unless_bad true f place r a e = cc
 unless_bad false f place r a e = (refl, e)
 
@@ -68,7 +72,8 @@ known_read collections place (Some v) n e =
 ok_is : {A : Type 0} (a b : A) → let r : Reading A = Ok a in r ≡ Ok b → a ≡ b
 ok_is a b e = cc
 
-published : (collections : List (List ℕ)) (p q : Place) (own c : Option Val) (alias : Option (List ℕ)) (name : List ℕ) → alias_reading p own ≡ Ok alias → known_reading collections q c ≡ Ok name →
+published : (collections : List (List ℕ)) (p q : Place) (own c : Option Val) (alias : Option (List ℕ)) (name : List ℕ) →
+    alias_reading p own ≡ Ok alias → known_reading collections q c ≡ Ok name →
     published_as own c ≡ Some (text (unwrap_or alias name))
 published collections p q None c alias name e k =
     let none = ok_is None alias e in
@@ -97,7 +102,8 @@ parts_published collections place fs rule e =
     let by_shown = and_then-ok (shown_reading place fs) (λ shown. Ok (rule_of by_names.0 shown)) rule by_names.2 in
     named collections place fs by_names.0 by_names.1 ∙ ap (λ (r : CursorRule). Some (text r.name)) (ok_is (rule_of by_names.0 by_shown.0) rule by_shown.2)
 
-rule_fresh : (collections : List (List ℕ)) (place : Place) (rules : Rules) (v : Val) (rule : CursorRule) → rule_reading collections place rules v ≡ Ok rule → publishes rules rule.name ≡ false
+rule_fresh : (collections : List (List ℕ)) (place : Place) (rules : Rules) (v : Val) (rule : CursorRule) →
+    rule_reading collections place rules v ≡ Ok rule → publishes rules rule.name ≡ false
 rule_fresh collections place rules (object fs) rule e =
     let name = published_as (field_of fs (codes "as")) (field_of fs (codes "collection")) in
     let shaped = unless_bad (not (is_cursor fs)) flaw.BadShape place (if is_published rules name then bad flaw.DoubleName place else parts_reading collections place fs) rule e in
@@ -105,8 +111,10 @@ rule_fresh collections place rules (object fs) rule e =
     ap (λ n. is_published rules n) (sym (parts_published collections place fs rule new.1)) ∙ new.0
 rule_fresh collections place rules v rule e = cc
 
-pub rules_distinct : (collections : List (List ℕ)) (place : Place) (rules : Rules) (vs : Vals) (all : Rules) → rules_behind collections place rules vs ≡ Ok all → HaveDistinctNames rules → HaveDistinctNames all
+pub rules_distinct : (collections : List (List ℕ)) (place : Place) (rules : Rules) (vs : Vals) (all : Rules) →
+    rules_behind collections place rules vs ≡ Ok all → HaveDistinctNames rules → HaveDistinctNames all
 rules_distinct collections place rules no_vals all e d = subst HaveDistinctNames (ok_is rules all e) d
 rules_distinct collections place rules (val v vs) all e d =
     let read = and_then-ok (rule_reading collections (element place (length rules)) rules v) (λ rule. rules_behind collections place (rules ++ rule ∷ []) vs) all e in
-    rules_distinct collections place (rules ++ read.0 ∷ []) vs all read.2 (distinct-append rules read.0 d (rule_fresh collections (element place (length rules)) rules v read.0 read.1))
+    rules_distinct collections place (rules ++ read.0 ∷ []) vs all read.2
+        (distinct-append rules read.0 d (rule_fresh collections (element place (length rules)) rules v read.0 read.1))

@@ -1,6 +1,7 @@
 -- How a value is read as an application: `{"collections":[name..],"methods":{name:program..},"publications":{name:[cursor..]..},"rules":{collection:rules..}}`, where each key may be missing. A cursor is `{"collection":name,"as":name,"selector":template,"fields":{path:1|0..},"sort":[[path,1|-1]..],"limit":number}`, where all but the collection may be missing.
 -- The first fault is answered: collections, methods, publications, rules, inside by the bytes of the keys or by place, and at each part its form, its name, how many parts it has, an unknown collection and a double name, in this order.
-use Rattle.std.specs.Prelude.{ℕ, Bool, true, false, not, List, [], ◌∷◌, ◌++◌, length, codes, Option, None, Some, Ok, unwrap_or, is_some, nat_lt, nat_le, if◌then◌else◌, ◌&&◌, ◌||◌}
+use Rattle.std.specs.Prelude.{ℕ, Bool, true, false, not, List, [], ◌∷◌, ◌++◌, length, codes, Option, None, Some, Ok, unwrap_or, is_some, nat_lt,
+    nat_le, if◌then◌else◌, ◌&&◌, ◌||◌}
 use Rattle.std.specs.BTreeMap.{insert_entry}
 use Rattle.map_model.specs.Maps.{at}
 use Rattle.value_model.specs.Val.{Val, text, list, object, Vals, no_vals, val, Fields, no_fields, field, list_of}
@@ -140,11 +141,13 @@ publications_reading collections (Some v) = bad flaw.BadShape (codes "publicatio
 abbrev pub methods_put : List (List ℕ) → List (List ℕ × Program) → Fields → Reading (List (List ℕ × Program))
 methods_put collections rows no_fields = Ok rows
 methods_put collections rows (field name v fs) =
-    and_then (program_reading collections (below (codes "methods") name) name v) (λ program. methods_put collections (insert_entry text_cmp rows name program) fs)
+    and_then (program_reading collections (below (codes "methods") name) name v)
+        (λ program. methods_put collections (insert_entry text_cmp rows name program) fs)
 
 abbrev pub methods_reading : List (List ℕ) → Option Val → Reading (List (List ℕ × Program))
 methods_reading collections None = Ok []
-methods_reading collections (Some (object fs)) = if nat_lt max_methods (length (names_of fs)) then bad flaw.TooMany (codes "methods") else methods_put collections [] fs
+methods_reading collections (Some (object fs)) =
+    if nat_lt max_methods (length (names_of fs)) then bad flaw.TooMany (codes "methods") else methods_put collections [] fs
 methods_reading collections (Some v) = bad flaw.BadShape (codes "methods")
 
 -- whether a method has the name of one that the collection's rules make
@@ -152,7 +155,8 @@ abbrev pub has_method : List (List ℕ × Program) → List ℕ → Action → B
 has_method methods collection a = is_some (at text_cmp methods (method_name collection a))
 
 abbrev pub has_made_name : List (List ℕ × Program) → List ℕ → Bool
-has_made_name methods collection = has_method methods collection action.Insert || has_method methods collection action.Update || has_method methods collection action.Remove
+has_made_name methods collection =
+    has_method methods collection action.Insert || has_method methods collection action.Update || has_method methods collection action.Remove
 
 -- the rules of the collection of this name
 abbrev pub entry_reading : List (List ℕ) → List (List ℕ × Program) → Place → List ℕ → Fields → Reading WriteRules

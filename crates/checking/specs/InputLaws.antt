@@ -1,5 +1,6 @@
 -- The first lines of an input, and what follows them.
-use Rattle.std.specs.Prelude.{◌≡◌, ◌≢◌, ℕ, zero, suc, ◌+◌, ◌<◌, List, [], ◌∷◌, ◌++◌, length, take, drop, get_or, Bool, true, false, if◌then◌else◌, ◌==◌, IsUtf8, refl}
+use Rattle.std.specs.Prelude.{◌≡◌, ◌≢◌, ℕ, zero, suc, ◌+◌, ◌<◌, List, [], ◌∷◌, ◌++◌, length, take, drop, get_or, Bool, true, false, if◌then◌else◌,
+    ◌==◌, IsUtf8, refl}
 use Rattle.std.proofs.Common.{ap, sym, ◌∙◌, arith, take_all, take-append-drop}
 use Rattle.std.specs.Io.BufRead.{take_through}
 use Rattle.std.proofs.BufReadLemmas.{take_through-nil}
@@ -79,7 +80,8 @@ lines-split (b ∷ []) (suc i) less here = absurd (omega (arith, less))
 lines-split (b ∷ c ∷ cs) (suc i) less here = split-step b c cs i (lines-split (c ∷ cs) i (omega (arith, less)) here)
 
 -- the bytes up to the first line feed, or all of them
-through-cut : (xs : List ℕ) (i : ℕ) → i < length xs → ((k : ℕ) → k < i → get_or xs k 0 ≢ line_feed) → get_or xs i 0 ≡ line_feed → take (suc i) xs ≡ take_through line_feed xs
+through-cut : (xs : List ℕ) (i : ℕ) → i < length xs → ((k : ℕ) → k < i → get_or xs k 0 ≢ line_feed) → get_or xs i 0 ≡ line_feed →
+    take (suc i) xs ≡ take_through line_feed xs
 through-cut [] i less before here = absurd (omega (arith, less))
 through-cut (b ∷ bs) zero less before here = sym (ap (λ t. if t then b ∷ [] else b ∷ take_through line_feed bs) (eq-eqb b line_feed here))
 through-cut (b ∷ bs) (suc i) less before here =
@@ -98,7 +100,8 @@ take-on (suc p) k [] = let on : suc p + k ≡ suc (p + k) = omega arith in ap (�
 take-on (suc p) k (x ∷ xs) = let on : suc p + k ≡ suc (p + k) = omega arith in ap (λ n. take n (x ∷ xs)) on ∙ ap (λ l. x ∷ l) (take-on p k xs)
 
 -- the lines up to a place, where a line feed stands from there on, and where none does
-pub lines_to-cut : (xs : List ℕ) (place i : ℕ) → i < length (drop place xs) → ((k : ℕ) → k < i → get_or (drop place xs) k 0 ≢ line_feed) → get_or (drop place xs) i 0 ≡ line_feed →
+pub lines_to-cut : (xs : List ℕ) (place i : ℕ) → i < length (drop place xs) → ((k : ℕ) → k < i → get_or (drop place xs) k 0 ≢ line_feed) →
+    get_or (drop place xs) i 0 ≡ line_feed →
     take (place + suc i) xs ≡ lines_to place xs
 lines_to-cut xs place i less before here = take-on place (suc i) xs ∙ ap (λ l. take place xs ++ l) (through-cut (drop place xs) i less before here)
 

@@ -1,3 +1,9 @@
+pub mod Ids
+pub mod Updating
+pub mod Printed
+pub mod Turning
+pub mod Finishing
+pub mod Changing
 pub mod Calling
 pub mod Shown
 pub mod Told

@@ -10,7 +10,7 @@ use Rattle.ddp_messages.specs.ServerMessage as server
 use Rattle.ddp_messages.specs.ServerMessage.{ServerMessage}
 use Rattle.client_model.specs.Client.{Client, Call}
 use Rattle.client_model.specs.Taking.{message_refusal, late_refusal, early_refusal, told_message, all_changed, with_update}
-use Rattle.client_parts.specs.Numbered.{AreUpdated}
+use Rattle.client_core.specs.Numbered.{AreUpdated}
 use Rattle.client_core.specs.State.{Own}
 
 -- which rules refuse a message

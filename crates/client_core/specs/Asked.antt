@@ -76,4 +76,5 @@ IsEntered number text s old new = new ≡ record old { client = entered number t
 -- the first text that waits goes out, where there is one
 abbrev pub IsSent : Own → Own → Option (List ℕ) → Type 0
 IsSent old new None = (old.client.waiting ≡ []) × (new ≡ old)
-IsSent old new (Some text) = (old.client.waiting ≡ text ∷ new.client.waiting) × (new ≡ record old { client = record old.client { waiting = new.client.waiting } })
+IsSent old new (Some text) =
+    (old.client.waiting ≡ text ∷ new.client.waiting) × (new ≡ record old { client = record old.client { waiting = new.client.waiting } })

@@ -1,3 +1,5 @@
+pub mod Numbered
+pub mod Lines
 pub mod State
 pub mod Faults
 pub mod Asked

@@ -33,6 +33,7 @@ Hears t old new (Err Memory) = new ≡ old
 -- A text that is taken leaves the client whole, and a refused one breaks it by the number of the first rule that refuses it.
 abbrev pub Takes : {X : Type 0} → List ℕ → Own → Own → Result X TakeFault → Type 0
 Takes t old new (Ok x) = (can_take old.client ≡ true) × ((told_text old.client t).broken ≡ None) × (new ≡ record old { client = told_text old.client t })
-Takes t old new (Err (ServerSent n)) = (can_take old.client ≡ true) × ((told_text old.client t).broken ≡ Some n) × (new ≡ record old { client = breaks n old.client })
+Takes t old new (Err (ServerSent n)) =
+    (can_take old.client ≡ true) × ((told_text old.client t).broken ≡ Some n) × (new ≡ record old { client = breaks n old.client })
 Takes t old new (Err Idle) = (can_take old.client ≡ false) × (new ≡ old)
 Takes t old new (Err Memory) = new ≡ old

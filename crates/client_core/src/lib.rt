@@ -2,9 +2,14 @@
 //! (Meteor's DDP.md; Meteor's guide, "Methods").
 #![tactic(auto)]
 
+pub mod calls;
 mod client;
 mod fault;
+pub mod lines;
+pub mod numbers;
+pub mod subs;
 mod taking;
+pub mod texts;
 
 pub use client::Client;
 pub use client_model::subs::SubState;

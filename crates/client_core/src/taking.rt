@@ -11,9 +11,9 @@ ghost use Rattle.client_model.specs.Asking.{with_text};
 
 use crate::client::Client;
 use crate::fault::TakeFault;
-use client_parts::calls::{finish, outcome_by, update, updated, without_result};
-use client_parts::subs::ended_by;
-use client_parts::texts::pong;
+use crate::calls::{finish, outcome_by, update, updated, without_result};
+use crate::subs::ended_by;
+use crate::texts::pong;
 use ddp_messages::{FromServer, MsgFault};
 use ejson_value::{Fault, Mem, Names, Text, Value};
 use heard_messages::Heard;

@@ -15,7 +15,8 @@ pub record IsShown (c : Client) : Type 0 where
 
 -- each call that awaits its `updated` still holds what it held
 abbrev pub IsHeldOn : Client → Client → Type 0
-IsHeldOn c now = (k : Key) (n : ℕ) → is_among (holders key_cmp c.documents.pending k) n ≡ true → awaits_update (call_at now.calls n) ≡ true → is_among (holders key_cmp now.documents.pending k) n ≡ true
+IsHeldOn c now = (k : Key) (n : ℕ) → is_among (holders key_cmp c.documents.pending k) n ≡ true → awaits_update (call_at now.calls n) ≡ true →
+    is_among (holders key_cmp now.documents.pending k) n ≡ true
 
 -- the client once it has taken the texts, one after another
 abbrev pub all_told : Client → List (List ℕ) → Client

@@ -1,5 +1,6 @@
 -- What a client shows, whatever it takes and asks for.
-use Rattle.std.specs.Prelude.{◌≡◌, ◌⊎◌, ℕ, suc, List, [], ◌∷◌, length, Bool, true, false, cond, ◌||◌, nat_lt, Option, Some, None, Result, Ok, Err, unwrap_or, refl}
+use Rattle.std.specs.Prelude.{◌≡◌, ◌⊎◌, ℕ, suc, List, [], ◌∷◌, length, Bool, true, false, cond, ◌||◌, nat_lt, Option, Some, None, Result, Ok, Err,
+    unwrap_or, refl}
 use Rattle.std.specs.List.{list_any, list_all}
 use Rattle.std.specs.Ordering.{eq_by_cmp}
 use Rattle.std.proofs.Common.{sym, ap, ◌∙◌, true≢false, inl, inr}
@@ -22,7 +23,8 @@ use Rattle.ddp_messages.specs.declared.fault.MsgFault.TheVariants.{Parse, BadReq
 use Rattle.ddp_messages.specs.ServerMessage as server
 use Rattle.ddp_messages.specs.ServerMessage.{ServerMessage}
 use Rattle.client_model.specs.Client.{Call, Client, new_client}
-use Rattle.client_model.specs.Taking.{max_server_text, numbers_of, awaits_update, call_at, outcome_by, with_outcome, with_update, documents_in, calls_in, told_message, message_refusal, breaks, told_unless, told_answer, told_text}
+use Rattle.client_model.specs.Taking.{max_server_text, numbers_of, awaits_update, call_at, outcome_by, with_outcome, with_update, documents_in,
+    calls_in, told_message, message_refusal, breaks, told_unless, told_answer, told_text}
 use Rattle.client_model.specs.Asking.{called}
 use Rattle.client_model.specs.Showing.{IsShown, IsHeldOn, all_told}
 use Rattle.client_model.specs.HeldLaws.{updated_once, holds_too, touched_held, holds_on}
@@ -38,8 +40,10 @@ documents_view count d (server.about m) w = told_view key_order (said m).0 (take
 documents_view count d (server.updated ids) w = released_view key_order (numbers_of count ids) d w
 documents_view count d _ w = w
 
-still_awaited : (c : Client) (m : ServerMessage) → IsShown c → (k : Key) (n : ℕ) → is_among (holders key_cmp (documents_in (length c.calls) c.documents m).pending k) n ≡ true → awaits_update (call_at (calls_in c.calls m) n) ≡ true
-still_awaited c (server.finished id fault value) w k n h = still_awaits (with_outcome (outcome_by fault value)) (λ call. refl) (numbers_of (length c.calls) (id ∷ [])) c.calls n ∙ w.awaited k n h
+still_awaited : (c : Client) (m : ServerMessage) → IsShown c → (k : Key) (n : ℕ) →
+    is_among (holders key_cmp (documents_in (length c.calls) c.documents m).pending k) n ≡ true → awaits_update (call_at (calls_in c.calls m) n) ≡ true
+still_awaited c (server.finished id fault value) w k n h =
+    still_awaits (with_outcome (outcome_by fault value)) (λ call. refl) (numbers_of (length c.calls) (id ∷ [])) c.calls n ∙ w.awaited k n h
 still_awaited c (server.updated ids) w k n h =
     let ns = numbers_of (length c.calls) ids in
     let before = holds_still ns c.documents.pending k n w.view.pending h in
@@ -60,7 +64,8 @@ answer_shown c (Err (BadRequest name)) w = breaks_shown c 2 w
 answer_shown c (Err Memory) w = breaks_shown c 1 w
 
 text_shown : (c : Client) (t : List ℕ) → IsShown c → IsShown (told_text c t)
-text_shown c t w = elim (nat_lt max_server_text (length t)) as (λ b. IsShown (cond b (breaks 1 c) (told_answer c (server_answer t)))) [ true ↦ breaks_shown c 1 w | false ↦ answer_shown c (server_answer t) w ]
+text_shown c t w = elim (nat_lt max_server_text (length t)) as
+    (λ b. IsShown (cond b (breaks 1 c) (told_answer c (server_answer t)))) [ true ↦ breaks_shown c 1 w | false ↦ answer_shown c (server_answer t) w ]
 
 pub texts_shown : (c : Client) (texts : List (List ℕ)) → IsShown c → IsShown (all_told c texts)
 texts_shown c [] w = w
@@ -69,13 +74,16 @@ texts_shown c (t ∷ texts) w = texts_shown (told_text c t) texts (text_shown c 
 -- ---- a call
 
 pub called_shown : (c : Client) (method : List ℕ) (params : List Val) (view : Rows) (keys : List Key) → IsSorted key_cmp view →
-    ((q : Key) → list_any (eq_by_cmp key_cmp q) keys ≡ false → at key_cmp view q ≡ at key_cmp c.documents.view q) → IsShown c → IsShown (called method params view keys c)
+    ((q : Key) → list_any (eq_by_cmp key_cmp q) keys ≡ false → at key_cmp view q ≡ at key_cmp c.documents.view q) → IsShown c →
+        IsShown (called method params view keys c)
 called_shown c method params view keys sorted alone w = record {
   view = simulated_view key_order (suc (length c.calls)) view keys c.documents sorted alone w.view;
-  awaited = λ k n h. new_awaits c.calls (record { outcome = None; is_updated = false }) n refl (as_before k n (holds_then (suc (length c.calls)) keys c.documents.pending k n h));
+  awaited = λ k n h. new_awaits c.calls (record { outcome = None; is_updated = false }) n refl
+      (as_before k n (holds_then (suc (length c.calls)) keys c.documents.pending k n h));
 }
   where
-    as_before : (k : Key) (n : ℕ) → (n ≡ suc (length c.calls)) ⊎ (is_among (holders key_cmp c.documents.pending k) n ≡ true) → (n ≡ suc (length c.calls)) ⊎ (awaits_update (call_at c.calls n) ≡ true)
+    as_before : (k : Key) (n : ℕ) → (n ≡ suc (length c.calls)) ⊎ (is_among (holders key_cmp c.documents.pending k) n ≡ true) →
+        (n ≡ suc (length c.calls)) ⊎ (awaits_update (call_at c.calls n) ≡ true)
     as_before k n (inl e) = inl e
     as_before k n (inr e) = inr (w.awaited k n e)
 
@@ -102,7 +110,8 @@ answer_holds c (Err (BadRequest name)) w = λ k n h awaits. h
 answer_holds c (Err Memory) w = λ k n h awaits. h
 
 pub text_holds : (c : Client) (t : List ℕ) → IsShown c → IsHeldOn c (told_text c t)
-text_holds c t w = elim (nat_lt max_server_text (length t)) as (λ b. IsHeldOn c (cond b (breaks 1 c) (told_answer c (server_answer t)))) [ true ↦ λ k n h awaits. h | false ↦ answer_holds c (server_answer t) w ]
+text_holds c t w = elim (nat_lt max_server_text (length t)) as
+    (λ b. IsHeldOn c (cond b (breaks 1 c) (told_answer c (server_answer t)))) [ true ↦ λ k n h awaits. h | false ↦ answer_holds c (server_answer t) w ]
 
 pub called_holds : (c : Client) (method : List ℕ) (params : List Val) (view : Rows) (keys : List Key) → IsHeldOn c (called method params view keys c)
 called_holds c method params view keys k n h awaits = holds_too (suc (length c.calls)) keys c.documents.pending k n h
@@ -115,7 +124,8 @@ called_touches c method params view keys k t = touched_held (suc (length c.calls
 
 -- Once each call is updated, what is shown is what the server has.
 pub rest_shown : (c : Client) → IsShown c → list_all (λ (call : Call). call.is_updated) c.calls ≡ true → c.documents.view ≡ c.documents.server
-rest_shown c w all = view_is_server key_order c.documents w.view (same_maps key_order c.documents.pending [] w.view.pending (sorted-nil key_cmp) (λ q. free q (at key_cmp c.documents.pending q) refl))
+rest_shown c w all = view_is_server key_order c.documents w.view
+    (same_maps key_order c.documents.pending [] w.view.pending (sorted-nil key_cmp) (λ q. free q (at key_cmp c.documents.pending q) refl))
   where
     free : (q : Key) (x : Option (List ℕ)) → at key_cmp c.documents.pending q ≡ x → x ≡ None
     free q None e = refl
@@ -137,7 +147,8 @@ answer_breaks c (Err (BadRequest name)) n e none = λ i. record c { broken = e i
 answer_breaks c (Err Memory) n e none = λ i. record c { broken = e i }
 
 pub text_breaks : (c : Client) (t : List ℕ) (n : ℕ) → (told_text c t).broken ≡ Some n → c.broken ≡ None → told_text c t ≡ breaks n c
-text_breaks c t n e none = elim (nat_lt max_server_text (length t)) as (λ b. (cond b (breaks 1 c) (told_answer c (server_answer t))).broken ≡ Some n → cond b (breaks 1 c) (told_answer c (server_answer t)) ≡ breaks n c) [
+text_breaks c t n e none = elim (nat_lt max_server_text (length t)) as
+    (λ b. (cond b (breaks 1 c) (told_answer c (server_answer t))).broken ≡ Some n → cond b (breaks 1 c) (told_answer c (server_answer t)) ≡ breaks n c) [
   | true ↦ λ e. λ i. record c { broken = e i }
   | false ↦ λ e. answer_breaks c (server_answer t) n e none
 ] e

@@ -54,7 +54,8 @@ IsLeft _ last now = now ≡ last
 
 module _ {S L : Type 0} (look : S → Look) (does : S → Deed → S → Type 0) (steps_of : L → Call → L → Type 0) where
   -- A script that was run from the line at `begin` on over a link, up to this end; `kept` is a text that the speaker gave before.
-  pub record Ran (script : List Line) (begin : ℕ) (s : S) (link : L) (held kept : Option (List ℕ)) (line : ℕ) (s' : S) (link' : L) (held' : Option (List ℕ)) (end : ConsoleEnd) : Type 0 where
+  pub record Ran (script : List Line) (begin : ℕ) (s : S) (link : L) (held kept : Option (List ℕ)) (line : ℕ) (s' : S) (link' : L)
+      (held' : Option (List ℕ)) (end : ConsoleEnd) : Type 0 where
     -- what was done with the link, and meanwhile by the speaker, up to its last state
     pub calls : List Call
     pub leads : Leads steps_of link calls link'

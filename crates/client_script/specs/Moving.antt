@@ -24,7 +24,8 @@ use Rattle.client_script.specs.Ends.{is_link_fault, is_write_fault, Cuts, IsLeft
 abbrev pub Offers : {L : Type 0} → (L → Call → L → Type 0) → L → Option (List ℕ) → L → Option (List ℕ) → Offered → Type 0
 Offers steps link kept link' kept' offered.Nothing = (kept ≡ None) × (kept' ≡ None) × (link' ≡ link)
 Offers steps link kept link' kept' offered.Taken = (text : List ℕ) × (kept ≡ Some text) × (kept' ≡ None) × steps link (call.said text) link'
-Offers steps link kept link' kept' _ = (text : List ℕ) × (fault : SendFault) × (kept ≡ Some text) × (kept' ≡ Some text) × steps link (call.handed_back text fault) link'
+Offers steps link kept link' kept' _ =
+    (text : List ℕ) × (fault : SendFault) × (kept ≡ Some text) × (kept' ≡ Some text) × steps link (call.handed_back text fault) link'
 
 abbrev pub offer_failed : Offered → Bool
 offer_failed offered.Failed = true
@@ -82,7 +83,8 @@ module _ {S : Type 0} (look : S → Look) (does : S → Deed → S → Type 0) w
     pub same : GoesOnAs (look s) (look s')
 
   -- they are run up to one at which the script ends
-  pub record StopsAt (script : List Line) (begin : ℕ) (s : S) (held : Option (List ℕ)) (line : ℕ) (s' : S) (held' : Option (List ℕ)) (end : ConsoleEnd) : Type 0 where
+  pub record StopsAt (script : List Line) (begin : ℕ) (s : S) (held : Option (List ℕ)) (line : ℕ) (s' : S) (held' : Option (List ℕ))
+      (end : ConsoleEnd) : Type 0 where
     pub last : S
     pub mid : Option (List ℕ)
     pub runs : RunsLines script begin s held line last mid
@@ -115,7 +117,8 @@ write_failed (Ok x) = false
 
 module _ {S L : Type 0} (look : S → Look) (does : S → Deed → S → Type 0) (steps_of : L → Call → L → Type 0) where
   -- what was done with the link, and meanwhile by the speaker
-  pub record Moves (s : S) (link : L) (kept : Option (List ℕ)) (s' : S) (link' : L) (kept' : Option (List ℕ)) (lines : List Line) (bytes : List ℕ) : Type 0 where
+  pub record Moves (s : S) (link : L) (kept : Option (List ℕ)) (s' : S) (link' : L) (kept' : Option (List ℕ)) (lines : List Line)
+      (bytes : List ℕ) : Type 0 where
     pub calls : List Call
     pub leads : Leads steps_of link calls link'
     pub steps : List Step
@@ -131,7 +134,8 @@ module _ {S L : Type 0} (look : S → Look) (does : S → Deed → S → Type 0)
   Polls s link s' link' result = (answer : Polled) × steps_of link (call.heard answer) link' × Listens look does s answer s' result
 
   -- and lines of the script were run
-  pub record Stands (script : List Line) (begin : ℕ) (s : S) (link : L) (held kept : Option (List ℕ)) (line : ℕ) (s' : S) (link' : L) (held' kept' : Option (List ℕ)) : Type 0 where
+  pub record Stands (script : List Line) (begin : ℕ) (s : S) (link : L) (held kept : Option (List ℕ)) (line : ℕ) (s' : S) (link' : L)
+      (held' kept' : Option (List ℕ)) : Type 0 where
     pub ran_lines : List Line
     pub bytes : List ℕ
     pub moves : Moves s link kept s' link' kept' ran_lines bytes

@@ -82,7 +82,8 @@ abbrev pub insertion : Key → Entries → Plan
 insertion key doc = record { changes = record { key = key; before = None; after = Some doc } ∷ []; touched = key ∷ []; answer = text key.id }
 
 abbrev pub insert_plan : Rows → Key → Entries → Outcome Plan
-insert_plan rows key doc = if is_some (at key_cmp rows key) then Err fault.Duplicate else (if is_too_large doc then Err fault.TooLarge else Ok (insertion key doc))
+insert_plan rows key doc =
+    if is_some (at key_cmp rows key) then Err fault.Duplicate else (if is_too_large doc then Err fault.TooLarge else Ok (insertion key doc))
 
 -- 422, with the number of the modifier's refusal
 abbrev pub by_number : Option ℕ → OpFault
@@ -99,7 +100,8 @@ change_if_differs row doc = if same (document row.1) (document doc) then None el
 
 -- update: for each document 422, then 413
 abbrev pub updated : Modification → Row → Outcome (Option Change)
-updated modifier row = and_then (or_refused (modified modifier row.0.id row.1)) (λ doc. if is_too_large doc then Err fault.TooLarge else Ok (change_if_differs row doc))
+updated modifier row = and_then (or_refused (modified modifier row.0.id row.1))
+    (λ doc. if is_too_large doc then Err fault.TooLarge else Ok (change_if_differs row doc))
 
 abbrev pub with_change : Option Change → List Change → List Change
 with_change None changes = changes
@@ -122,7 +124,8 @@ remove_plan found = plan_for found (map removal found)
 
 -- what an operation makes of the rows of a store with these collections, where its new documents may have as many bytes as there is room
 abbrev pub applied : List (List ℕ) → Rows → Op → ℕ → Outcome Applied
-applied names rows (operation.Insert collection id doc) room = if_listed names collection (and_then (insert_plan rows (key_of collection id) doc) (λ plan. if_room rows room plan))
+applied names rows (operation.Insert collection id doc) room =
+    if_listed names collection (and_then (insert_plan rows (key_of collection id) doc) (λ plan. if_room rows room plan))
 applied names rows (operation.Update collection selector modifier all) room =
     if_listed names collection (and_then (update_plan modifier (chosen all (matching collection selector rows))) (λ plan. if_room rows room plan))
 applied names rows (operation.Remove collection selector) room = if_listed names collection (Ok (done rows (remove_plan (matching collection selector rows))))

@@ -15,7 +15,8 @@ inserted rows key doc room = and_then (insert_plan rows key doc) (λ plan. if_ro
 
 -- with the document the rows would be too many or too large, or it passes the room
 abbrev pub is_full_with : Rows → Entries → ℕ → Bool
-is_full_with rows doc room = nat_lt max_documents (length rows + 1) || nat_lt max_bytes (bytes_of rows + size (document doc)) || nat_lt room (size (document doc))
+is_full_with rows doc room =
+    nat_lt max_documents (length rows + 1) || nat_lt max_bytes (bytes_of rows + size (document doc)) || nat_lt room (size (document doc))
 
 -- there is room for the document
 pub record HasRoom (rows : Rows) (doc : Entries) (room : ℕ) : Type 0 where

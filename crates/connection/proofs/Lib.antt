@@ -1,3 +1,4 @@
+mod PrintingLemmas
 mod Moves
 mod Refusals
 mod Sides

@@ -3,14 +3,14 @@ use Rattle.std.specs.Prelude.{◌≡◌, ℕ, List, Result, Ok, Err, IsErr, refl
 use Rattle.std.proofs.lemmas.Bool.{true≢false}
 use Rattle.std.proofs.Common.{sym, subst, ◌∙◌}
 use Rattle.app_model.specs.App.{App}
-use Rattle.session_lines.specs.history_model.declared.entry.Entry.{Entry}
-use Rattle.session_lines.specs.session_laws.declared.fault.EventFault.{EventFault}
-use Rattle.session_lines.specs.session_laws.declared.fault.EventFault.TheVariants as fault
-use Rattle.session_lines.specs.core_model.declared.events.Act.{Act}
-use Rattle.session_lines.specs.core_model.declared.events.Answer.{Answer}
-use Rattle.session_lines.specs.core_model.declared.events.Answer.TheVariants as answer
-use Rattle.session_lines.specs.connection_laws.Connection.{AConnection, IsConnection}
-use Rattle.session_lines.specs.connection_laws.Acting.{Makes}
+use Rattle.connection.specs.history_model.declared.entry.Entry.{Entry}
+use Rattle.connection.specs.session_laws.declared.fault.EventFault.{EventFault}
+use Rattle.connection.specs.session_laws.declared.fault.EventFault.TheVariants as fault
+use Rattle.connection.specs.world_model.declared.events.Act.{Act}
+use Rattle.connection.specs.world_model.declared.events.Answer.{Answer}
+use Rattle.connection.specs.world_model.declared.events.Answer.TheVariants as answer
+use Rattle.connection.specs.connection_laws.Connection.{AConnection, IsConnection}
+use Rattle.connection.specs.connection_laws.Acting.{Makes}
 use Rattle.connection.specs.Answers.{Acts, Answers, IsRefusal}
 
 same_ok : {E : Type 0} (a o : Answer) → (let x : Result Answer E = Ok a in x) ≡ Ok o → a ≡ o

@@ -3,18 +3,18 @@ use Rattle.std.specs.Prelude.{◌≡◌, ℕ, List, Bool, true, false, Result, O
 use Rattle.std.proofs.Common.{ap}
 use Rattle.value_model.specs.Val.{Val}
 use Rattle.app_model.specs.App.{App}
-use Rattle.session_lines.specs.history_model.declared.entry.Entry.{Entry}
+use Rattle.connection.specs.history_model.declared.entry.Entry.{Entry}
 use Rattle.client_model.specs.Asking.{can_sub, subscribed, can_unsub, unsubscribed, can_send, with_text}
-use Rattle.session_lines.specs.client_core.declared.fault.ClientFault.{ClientFault}
-use Rattle.session_lines.specs.client_core.declared.fault.ClientFault.TheVariants as fault
-use Rattle.session_lines.specs.client_core.State.{Own}
-use Rattle.session_lines.specs.client_core.Asked.{Does as DoesOwn, Calls}
-use Rattle.session_lines.specs.session_laws.Session.{ASession}
-use Rattle.session_lines.specs.session_laws.Events.{Closes}
-use Rattle.session_lines.specs.core_model.Asks.{Ask}
-use Rattle.session_lines.specs.core_model.Asks as ask
-use Rattle.session_lines.specs.connection_laws.Connection.{AConnection, IsConnection}
-use Rattle.session_lines.specs.connection_laws.Asks.{subscribe_makes, unsubscribe_makes, call_makes, raw_makes, drop_made, gone_asked}
+use Rattle.connection.specs.client_core.declared.fault.ClientFault.{ClientFault}
+use Rattle.connection.specs.client_core.declared.fault.ClientFault.TheVariants as fault
+use Rattle.connection.specs.client_core.State.{Own}
+use Rattle.connection.specs.client_core.Asked.{Does as DoesOwn, Calls}
+use Rattle.connection.specs.session_laws.Session.{ASession}
+use Rattle.connection.specs.session_laws.Events.{Closes}
+use Rattle.connection.specs.world_model.Asks.{Ask}
+use Rattle.connection.specs.world_model.Asks as ask
+use Rattle.connection.specs.connection_laws.Connection.{AConnection, IsConnection}
+use Rattle.connection.specs.connection_laws.Asks.{subscribe_makes, unsubscribe_makes, call_makes, raw_makes, drop_made, gone_asked}
 use Rattle.connection.specs.declared.side.Side.{Side}
 use Rattle.connection.specs.Kept.{seen}
 use Rattle.connection.specs.Answers.{DoesAsked}

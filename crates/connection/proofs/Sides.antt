@@ -3,24 +3,24 @@ use Rattle.std.specs.Prelude.{◌≡◌, ℕ, suc, List, [], ◌∷◌, ◌++◌
 use Rattle.std.proofs.Common.{ap, sym, subst, ◌∙◌, arith}
 use Rattle.std.proofs.lemmas.Bool.{not-true}
 use Rattle.app_model.specs.App.{App}
-use Rattle.session_lines.specs.history_model.declared.entry.Entry.{Entry}
-use Rattle.session_lines.specs.client_core.declared.fault.TakeFault.{TakeFault}
-use Rattle.session_lines.specs.client_core.declared.fault.TakeFault.TheVariants as take_fault
-use Rattle.session_lines.specs.client_core.State.{Own}
-use Rattle.session_lines.specs.client_core.Asked.{IsSent}
-use Rattle.session_lines.specs.client_core.Taken.{Takes as Hears}
-use Rattle.session_lines.specs.journal_model.Taking.{Taken, at_once, to_queue, taken_text}
-use Rattle.session_lines.specs.session_laws.declared.fault.EventFault.{EventFault}
-use Rattle.session_lines.specs.session_laws.Session.{ASession}
-use Rattle.session_lines.specs.session_laws.Events.{IsTakenAs, Takes, Handles, Sends}
-use Rattle.session_lines.specs.core_model.declared.events.Act.TheVariants as act
-use Rattle.session_lines.specs.core_model.declared.events.Answer.{Answer}
-use Rattle.session_lines.specs.core_model.declared.events.Answer.TheVariants as answer
-use Rattle.session_lines.specs.core_model.Conn.{link_limit}
-use Rattle.session_lines.specs.connection_laws.Connection.{IsConnection}
-use Rattle.session_lines.specs.connection_laws.Acting.{with_session, gone_up, taken_in, sent_on, taken_off, IsDone}
-use Rattle.session_lines.specs.connection_laws.Links.{up_made, up_none as none_up, up_full as full_up, send_made, send_none as none_sent, send_full as full_sent, take_makes, take_none as none_taken, gone_idle}
-use Rattle.session_lines.specs.connection_laws_for_proofs.Receiving.{recv_makes, recv_idle, handle_makes}
+use Rattle.connection.specs.history_model.declared.entry.Entry.{Entry}
+use Rattle.connection.specs.client_core.declared.fault.TakeFault.{TakeFault}
+use Rattle.connection.specs.client_core.declared.fault.TakeFault.TheVariants as take_fault
+use Rattle.connection.specs.client_core.State.{Own}
+use Rattle.connection.specs.client_core.Asked.{IsSent}
+use Rattle.connection.specs.client_core.Taken.{Takes as Hears}
+use Rattle.connection.specs.session_model.Taking.{Taken, at_once, to_queue, taken_text}
+use Rattle.connection.specs.session_laws.declared.fault.EventFault.{EventFault}
+use Rattle.connection.specs.session_laws.Session.{ASession}
+use Rattle.connection.specs.session_laws.Events.{IsTakenAs, Takes, Handles, Sends}
+use Rattle.connection.specs.world_model.declared.events.Act.TheVariants as act
+use Rattle.connection.specs.world_model.declared.events.Answer.{Answer}
+use Rattle.connection.specs.world_model.declared.events.Answer.TheVariants as answer
+use Rattle.connection.specs.world_model.Conn.{link_limit}
+use Rattle.connection.specs.connection_laws.Connection.{IsConnection}
+use Rattle.connection.specs.connection_laws.Acting.{with_session, gone_up, taken_in, sent_on, taken_off, IsDone}
+use Rattle.connection.specs.connection_laws.Links.{up_made, up_none as none_up, up_full as full_up, send_made, send_none as none_sent, send_full as full_sent, take_makes, take_none as none_taken, gone_idle}
+use Rattle.connection.specs.connection_laws_for_proofs.Receiving.{recv_makes, recv_idle, handle_makes}
 use Rattle.connection.specs.declared.link.Link.{Link}
 use Rattle.connection.specs.declared.side.Side.{Side}
 use Rattle.connection.specs.Kept.{seen, IsKept}

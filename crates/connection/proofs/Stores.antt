@@ -7,32 +7,32 @@ use Rattle.ejson_value.specs.declared.change.Publish.{Publish}
 use Rattle.ejson_value.specs.Rows.{Rows}
 use Rattle.program_steps.specs.declared.outcome.Status.{Status}
 use Rattle.app_model.specs.App.{App, method}
-use Rattle.session_lines.specs.history_model.declared.entry.Entry.{Entry}
-use Rattle.session_lines.specs.history_model.History.{held_at, status_in, status_at, is_next, changes_between}
-use Rattle.session_lines.specs.store_machine.declared.fault.BeginFault.{BeginFault}
-use Rattle.session_lines.specs.store_machine.declared.fault.BeginFault.TheVariants as begin_fault
-use Rattle.session_lines.specs.store_machine.State.{MachineState, held_by, begin_answer, is_running, step_state}
-use Rattle.session_lines.specs.journal_model.Subscriptions.{cursor_of, may_load}
-use Rattle.session_lines.specs.journal_model.State.{State}
-use Rattle.session_lines.specs.session_laws.declared.fault.EventFault.{EventFault}
-use Rattle.session_lines.specs.session_laws.Session.{ASession}
-use Rattle.session_lines.specs.session_laws.Events.{Learns as LearnsIn, Refuses, Loads, Advances, Feeds, IsFeed}
-use Rattle.session_lines.specs.session_state.declared.own.Call.{Call}
-use Rattle.session_lines.specs.session_state.Own.{as_blocking}
-use Rattle.session_lines.specs.core_model.declared.events.Act.TheVariants as act
-use Rattle.session_lines.specs.core_model.declared.events.Answer.{Answer}
-use Rattle.session_lines.specs.core_model.declared.events.Answer.TheVariants as answer
-use Rattle.session_lines.specs.core_model.Store.{programs, held_in, moments}
-use Rattle.session_lines.specs.core_model.Conn.{is_at_work}
-use Rattle.session_lines.specs.core_model.Acts.{is_kept}
-use Rattle.session_lines.specs.link_laws.Session.{IsServed}
-use Rattle.session_lines.specs.connection_laws.Connection.{AConnection, as_conn, IsConnection}
-use Rattle.session_lines.specs.connection_laws.Acting.{with_session, refusal_learnt, IsDone}
-use Rattle.session_lines.specs.connection_laws.Standing.{state_is, idle_of}
-use Rattle.session_lines.specs.connection_laws.Links.{gone_idle}
-use Rattle.session_lines.specs.connection_laws.Beginning.{begin_none, begin_begun, begin_refused, begin_makes, step_makes, may_begin}
-use Rattle.session_lines.specs.connection_laws_for_proofs.Learning.{learn_makes, learn_past, learn_unbegun, refuse_makes}
-use Rattle.session_lines.specs.connection_laws_for_proofs.Showing.{load_makes, load_past, advance_makes, advance_unloaded, advance_past, feed_makes}
+use Rattle.connection.specs.history_model.declared.entry.Entry.{Entry}
+use Rattle.connection.specs.history_model.History.{held_at, status_in, status_at, is_next, changes_between}
+use Rattle.connection.specs.store_machine.declared.fault.BeginFault.{BeginFault}
+use Rattle.connection.specs.store_machine.declared.fault.BeginFault.TheVariants as begin_fault
+use Rattle.connection.specs.store_machine.State.{MachineState, held_by, begin_answer, is_running, step_state}
+use Rattle.connection.specs.session_model.Subscriptions.{cursor_of, may_load}
+use Rattle.connection.specs.session_model.State.{State}
+use Rattle.connection.specs.session_laws.declared.fault.EventFault.{EventFault}
+use Rattle.connection.specs.session_laws.Session.{ASession}
+use Rattle.connection.specs.session_laws.Events.{Learns as LearnsIn, Refuses, Loads, Advances, Feeds, IsFeed}
+use Rattle.connection.specs.session_state.declared.own.Call.{Call}
+use Rattle.connection.specs.session_state.Own.{as_blocking}
+use Rattle.connection.specs.world_model.declared.events.Act.TheVariants as act
+use Rattle.connection.specs.world_model.declared.events.Answer.{Answer}
+use Rattle.connection.specs.world_model.declared.events.Answer.TheVariants as answer
+use Rattle.connection.specs.world_model.Store.{programs, held_in, moments}
+use Rattle.connection.specs.world_model.Conn.{is_at_work}
+use Rattle.connection.specs.world_model.Acts.{is_kept}
+use Rattle.connection.specs.world_invariant_laws.Session.{IsServed}
+use Rattle.connection.specs.connection_laws.Connection.{AConnection, as_conn, IsConnection}
+use Rattle.connection.specs.connection_laws.Acting.{with_session, refusal_learnt, IsDone}
+use Rattle.connection.specs.connection_laws.Standing.{state_is, idle_of}
+use Rattle.connection.specs.connection_laws.Links.{gone_idle}
+use Rattle.connection.specs.connection_laws.Beginning.{begin_none, begin_begun, begin_refused, begin_makes, step_makes, may_begin}
+use Rattle.connection.specs.connection_laws_for_proofs.Learning.{learn_makes, learn_past, learn_unbegun, refuse_makes}
+use Rattle.connection.specs.connection_laws_for_proofs.Showing.{load_makes, load_past, advance_makes, advance_unloaded, advance_past, feed_makes}
 use Rattle.connection.specs.declared.side.Refusal.{Refusal}
 use Rattle.connection.specs.declared.side.Side.{Side}
 use Rattle.connection.specs.Kept.{as_refusal, seen, IsKept}

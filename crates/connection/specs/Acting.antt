@@ -1,15 +1,15 @@
 -- What an event does to a client with its session.
 use Rattle.ejson_value.specs.declared.memory.Mem.{Mem}
 use Rattle.std.specs.Prelude.{◌≡◌, ℕ, Bool, false, Option, None, Some, Result, Ok, Err}
-use Rattle.session_lines.specs.store_machine.State.{MachineState}
-use Rattle.session_lines.specs.core_model.declared.events.Act.{Act}
-use Rattle.session_lines.specs.core_model.declared.events.Act.TheVariants as act
-use Rattle.session_lines.specs.core_model.declared.events.Answer.{Answer}
-use Rattle.session_lines.specs.core_model.declared.events.Event.{Event}
-use Rattle.session_lines.specs.core_model.declared.events.Event.TheVariants as event
-use Rattle.session_lines.specs.core_model.Asks.{Ask}
-use Rattle.session_lines.specs.core_model.Asks as ask
-use Rattle.session_lines.specs.connection_laws.Connection.{AConnection}
+use Rattle.connection.specs.store_machine.State.{MachineState}
+use Rattle.connection.specs.world_model.declared.events.Act.{Act}
+use Rattle.connection.specs.world_model.declared.events.Act.TheVariants as act
+use Rattle.connection.specs.world_model.declared.events.Answer.{Answer}
+use Rattle.connection.specs.world_model.declared.events.Event.{Event}
+use Rattle.connection.specs.world_model.declared.events.Event.TheVariants as event
+use Rattle.connection.specs.world_model.Asks.{Ask}
+use Rattle.connection.specs.world_model.Asks as ask
+use Rattle.connection.specs.connection_laws.Connection.{AConnection}
 use Rattle.connection.specs.Answers.{Acts, Does, IsBroken}
 use Rattle.connection.specs.Storing.{Enters}
 

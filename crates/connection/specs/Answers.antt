@@ -1,18 +1,18 @@
 -- What is answered to an act and to a request, and what it leaves.
 use Rattle.std.specs.Prelude.{◌≡◌, ℕ, List, Bool, true, false, Option, None, Result, Ok, Err, IsErr}
 use Rattle.app_model.specs.App.{App}
-use Rattle.session_lines.specs.history_model.declared.entry.Entry.{Entry}
-use Rattle.session_lines.specs.session_laws.declared.fault.EventFault.{EventFault}
-use Rattle.session_lines.specs.session_laws.declared.fault.EventFault.TheVariants as fault
-use Rattle.session_lines.specs.core_model.declared.events.Act.{Act}
-use Rattle.session_lines.specs.core_model.declared.events.Act.TheVariants as act
-use Rattle.session_lines.specs.core_model.declared.events.Answer.{Answer}
-use Rattle.session_lines.specs.core_model.declared.events.Answer.TheVariants as answer
-use Rattle.session_lines.specs.core_model.Acts.{outcome}
-use Rattle.session_lines.specs.core_model.Asks.{Ask, can_ask}
-use Rattle.session_lines.specs.connection_laws.Connection.{AConnection, as_conn, IsConnection}
-use Rattle.session_lines.specs.connection_laws.Acting.{IsDone}
-use Rattle.session_lines.specs.connection_laws.Asks.{IsAsked}
+use Rattle.connection.specs.history_model.declared.entry.Entry.{Entry}
+use Rattle.connection.specs.session_laws.declared.fault.EventFault.{EventFault}
+use Rattle.connection.specs.session_laws.declared.fault.EventFault.TheVariants as fault
+use Rattle.connection.specs.world_model.declared.events.Act.{Act}
+use Rattle.connection.specs.world_model.declared.events.Act.TheVariants as act
+use Rattle.connection.specs.world_model.declared.events.Answer.{Answer}
+use Rattle.connection.specs.world_model.declared.events.Answer.TheVariants as answer
+use Rattle.connection.specs.world_model.Acts.{outcome}
+use Rattle.connection.specs.world_model.Asks.{Ask, can_ask}
+use Rattle.connection.specs.connection_laws.Connection.{AConnection, as_conn, IsConnection}
+use Rattle.connection.specs.connection_laws.Acting.{IsDone}
+use Rattle.connection.specs.connection_laws.Asks.{IsAsked}
 
 -- ---- acts
 
@@ -37,7 +37,8 @@ IsBroken new answer.Done o = new.own.client.broken ≡ o
 IsBroken new a o = o ≡ None
 
 abbrev pub Takes : {E : Type 0} → AConnection → AConnection → Result (Answer × Option ℕ) E → Type 0
-Takes old new (Ok o) = ((app : App) (name : List ℕ) (history : List Entry) → IsConnection app name history old → Acts app name history act.Take old new o.0) × IsBroken new o.0 o.1
+Takes old new (Ok o) =
+    ((app : App) (name : List ℕ) (history : List Entry) → IsConnection app name history old → Acts app name history act.Take old new o.0) × IsBroken new o.0 o.1
 Takes old new (Err e) = new ≡ old
 
 -- what an event of the session that is refused is answered

@@ -1,7 +1,7 @@
 -- Whether a client asks for anything.
 use Rattle.std.specs.Prelude.{◌==◌, ◌&&◌, length, Bool, is_none}
-use Rattle.session_lines.specs.session_work.Work.{running_from}
-use Rattle.session_lines.specs.connection_laws.Connection.{AConnection}
+use Rattle.connection.specs.session_state.Work.{running_from}
+use Rattle.connection.specs.connection_laws.Connection.{AConnection}
 
 -- none of its texts goes up, and no message waits to be handled
 abbrev pub says_nothing : AConnection → Bool

@@ -1,7 +1,7 @@
 -- What is kept of a client with its session, as contracts see it.
 use Rattle.std.specs.Prelude.{◌≡◌, ◌≤◌, length, take, drop, option_map}
-use Rattle.session_lines.specs.core_model.Conn.{Refusal as ARefusal}
-use Rattle.session_lines.specs.connection_laws.Connection.{AConnection}
+use Rattle.connection.specs.world_model.Conn.{Refusal as ARefusal}
+use Rattle.connection.specs.connection_laws.Connection.{AConnection}
 use Rattle.connection.specs.declared.side.Refusal.{Refusal}
 use Rattle.connection.specs.declared.side.Side.{Side}
 

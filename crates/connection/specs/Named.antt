@@ -1,11 +1,11 @@
 -- The act that an event names, by the length of the history and what is kept of a session.
 use Rattle.std.specs.Prelude.{ℕ, ℤ, pos, negsuc, suc, ◌-◌, List, Option, Some, None, option_map}
-use Rattle.session_lines.specs.core_model.declared.events.Act.{Act}
-use Rattle.session_lines.specs.core_model.declared.events.Act.TheVariants as act
-use Rattle.session_lines.specs.core_model.declared.events.Event.{Event}
-use Rattle.session_lines.specs.core_model.declared.events.Event.TheVariants as event
-use Rattle.session_lines.specs.core_model.Events.{number_of, count_from}
-use Rattle.session_lines.specs.journal_model.Subscriptions.{Live, sub_named, cursor_of}
+use Rattle.connection.specs.world_model.declared.events.Act.{Act}
+use Rattle.connection.specs.world_model.declared.events.Act.TheVariants as act
+use Rattle.connection.specs.world_model.declared.events.Event.{Event}
+use Rattle.connection.specs.world_model.declared.events.Event.TheVariants as event
+use Rattle.connection.specs.world_model.Events.{number_of, count_from}
+use Rattle.connection.specs.session_model.Subscriptions.{Live, sub_named, cursor_of}
 
 abbrev pub place_at : ℕ → Option ℤ → ℕ
 place_at length None = length

@@ -1,2 +1,2 @@
 -- What proofs of crates above name of `client_core`.
-pub use Rattle.session_lines.specs.client_core_for_proofs.contracts
+pub use Rattle.connection_laws.specs.client_core_for_proofs.contracts

@@ -1,6 +1,8 @@
 -- What crates above name of `connection_laws`.
-pub use Rattle.session_lines.specs.connection_laws.Acting
-pub use Rattle.session_lines.specs.connection_laws.Asks
-pub use Rattle.session_lines.specs.connection_laws.Connection
-pub use Rattle.session_lines.specs.connection_laws.Printing
-pub use Rattle.session_lines.specs.connection_laws.Standing
+pub use Rattle.connection_laws.specs.Acting
+pub use Rattle.connection_laws.specs.Asks
+pub use Rattle.connection_laws.specs.Beginning
+pub use Rattle.connection_laws.specs.Connection
+pub use Rattle.connection_laws.specs.Links
+pub use Rattle.connection_laws.specs.Printing
+pub use Rattle.connection_laws.specs.Standing

@@ -1,2 +1,2 @@
 -- What crates above name of `publication`.
-pub use Rattle.session_lines.specs.publication.Published
+pub use Rattle.session_core.specs.publication.Published

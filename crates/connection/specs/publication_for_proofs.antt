@@ -1,2 +1,2 @@
 -- What proofs of crates above name of `publication`.
-pub use Rattle.session_lines.specs.publication_for_proofs.contracts
+pub use Rattle.session_core.specs.publication_for_proofs.contracts

@@ -1,3 +1,5 @@
 -- What crates above name of `session_state`.
-pub use Rattle.session_lines.specs.session_state.Subs
-pub use Rattle.session_lines.specs.session_state.declared
+pub use Rattle.session_core.specs.session_state.Work
+pub use Rattle.session_state.specs.Own
+pub use Rattle.session_state.specs.Subs
+pub use Rattle.session_state.specs.declared

@@ -1,3 +1,3 @@
 -- What crates above name of `store_machine`.
-pub use Rattle.session_lines.specs.store_machine.State
-pub use Rattle.session_lines.specs.store_machine.declared
+pub use Rattle.connection_laws.specs.store_machine.State
+pub use Rattle.connection_laws.specs.store_machine.declared

@@ -1,15 +1,15 @@
 //! What a client and its session do by themselves.
 ghost use Rattle.std.specs.Prelude.{◌≡◌, OnErr};
-ghost use Rattle.session_lines.specs.core_model.declared.events.Act.TheVariants as act;
+ghost use Rattle.connection.specs.world_model.declared.events.Act.TheVariants as act;
 ghost use Rattle.connection.specs.Kept.{seen, IsKept};
 ghost use Rattle.connection.specs.Answers.{Answers, Takes, IsRefusal};
 
 use crate::side::Side;
 use ejson_value::Mem;
 use heard_messages::Heard;
-use session_lines::EventFault;
-use session_lines::client_core::TakeFault;
-use session_lines::core_model::Answer;
+use crate::EventFault;
+use crate::client_core::TakeFault;
+use crate::world_model::Answer;
 
 /// What an event of the session that is refused is answered.
 pub(crate) fn refused(fault: EventFault) -> Result<Answer, Mem>

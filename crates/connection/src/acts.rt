@@ -1,14 +1,14 @@
 //! Acts.
-ghost use Rattle.session_lines.specs.link_laws.Session.{IsServed};
-ghost use Rattle.session_lines.specs.connection_laws.Connection.{as_conn, IsConnection};
-ghost use Rattle.session_lines.specs.core_model.declared.events.Act.TheVariants as act;
+ghost use Rattle.connection.specs.world_invariant_laws.Session.{IsServed};
+ghost use Rattle.connection.specs.connection_laws.Connection.{as_conn, IsConnection};
+ghost use Rattle.connection.specs.world_model.declared.events.Act.TheVariants as act;
 ghost use Rattle.connection.specs.Acting.{ActsOver, TellsOver};
 
 use crate::connection::Connection;
 use ejson_value::Mem;
 use heard_messages::Heard;
-use session_lines::core_model::{Act, Answer};
-use session_lines::store_machine::Machine;
+use crate::world_model::{Act, Answer};
+use crate::store_machine::Machine;
 
 // The client takes a text.
 fn take(

@@ -1,15 +1,15 @@
 //! What is asked of a client.
 ghost use Rattle.std.specs.Prelude.{ℕ, List};
 ghost use Rattle.app_model.specs.App.{App};
-ghost use Rattle.session_lines.specs.history_model.declared.entry.Entry.{Entry};
-ghost use Rattle.session_lines.specs.core_model.Asks as ask;
-ghost use Rattle.session_lines.specs.connection_laws.Connection.{IsConnection};
+ghost use Rattle.connection.specs.history_model.declared.entry.Entry.{Entry};
+ghost use Rattle.connection.specs.world_model.Asks as ask;
+ghost use Rattle.connection.specs.connection_laws.Connection.{IsConnection};
 ghost use Rattle.connection.specs.Kept.{seen, IsKept};
 ghost use Rattle.connection.specs.Answers.{Does, DoesAsked};
 
 use crate::side::Side;
 use ejson_value::{Items, Mem, Text};
-use session_lines::client_core::ClientFault;
+use crate::client_core::ClientFault;
 
 /// The client subscribes with this id to the publication of this name. Whether it could.
 pub(crate) fn subscribe(

@@ -3,7 +3,7 @@ ghost use Rattle.connection.specs.Acting.{AsksFor};
 
 use crate::connection::Connection;
 use ejson_value::Mem;
-use session_lines::core_model::Event;
+use crate::world_model::Event;
 
 /// Asks the client for what the event says, and answers whether it could be done; an event that asks
 /// a client for nothing does nothing.

@@ -1,7 +1,7 @@
 //! The texts that go one way between a client and its session.
 ghost use Rattle.std.specs.Prelude.{◌≡◌, ◌<◌, ◌≤◌, ◌==◌, suc, [], length, drop, not, nat_lt, slice_get};
 ghost use Rattle.std.specs.Option.{option_copied};
-ghost use Rattle.session_lines.specs.core_model.Conn.{link_limit};
+ghost use Rattle.connection.specs.world_model.Conn.{link_limit};
 
 use ejson_value::Text;
 use std::alloc::Global;

@@ -1,15 +1,15 @@
 //! The act that an event names.
 ghost use Rattle.std.specs.Prelude.{◌≡◌, ◌<◌, ℕ, List, length, option_map};
 ghost use Rattle.app_model.specs.App.{App};
-ghost use Rattle.session_lines.specs.history_model.declared.entry.Entry.{Entry};
-ghost use Rattle.session_lines.specs.core_model.Events.{number_of, act_in};
-ghost use Rattle.session_lines.specs.core_model.declared.events.Act.TheVariants as act;
-ghost use Rattle.session_lines.specs.connection_laws.Connection.{as_conn, IsConnection};
+ghost use Rattle.connection.specs.history_model.declared.entry.Entry.{Entry};
+ghost use Rattle.connection.specs.world_model.Events.{number_of, act_in};
+ghost use Rattle.connection.specs.world_model.declared.events.Act.TheVariants as act;
+ghost use Rattle.connection.specs.connection_laws.Connection.{as_conn, IsConnection};
 ghost use Rattle.connection.specs.Named.{place_at, count_at, load_named, advance_named, named_at};
 
 use crate::connection::Connection;
 use ejson_value::{Text, Whole};
-use session_lines::core_model::{Act, Event};
+use crate::world_model::{Act, Event};
 
 // The number, if it isn't below 0.
 fn natural(number: Whole) -> Option<u64>

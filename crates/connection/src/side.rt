@@ -1,7 +1,7 @@
 //! What is kept of a client with its session.
 use crate::link::Link;
-use session_lines::Session;
-use session_lines::client_core::Client;
+use crate::Session;
+use crate::client_core::Client;
 use std::alloc::Global;
 
 /// A call that the store had no room for: its number, and how many entries the history had then.

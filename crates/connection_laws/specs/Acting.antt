@@ -1,14 +1,14 @@
 -- What is kept of a client after an act, and that this is the act of the world's definitions.
 use Rattle.std.specs.Prelude.{◌≡◌, ℕ, List, [], ◌∷◌, ◌++◌, true, Some, None, Ok, Err}
 use Rattle.app_model.specs.App.{App}
-use Rattle.link_laws.specs.history_model.declared.entry.Entry.{Entry}
+use Rattle.world_invariant_laws.specs.history_model.declared.entry.Entry.{Entry}
 use Rattle.client_core.specs.State.{Own}
 use Rattle.session_laws.specs.declared.fault.EventFault.TheVariants as fault
 use Rattle.session_laws.specs.Session.{ASession}
 use Rattle.session_laws.specs.Events.{Outcome}
-use Rattle.link_laws.specs.core_model.declared.events.Act.{Act}
-use Rattle.link_laws.specs.core_model.declared.events.Answer.TheVariants as answer
-use Rattle.link_laws.specs.core_model.Acts.{outcome, does as does_of}
+use Rattle.world_invariant_laws.specs.world_model.declared.events.Act.{Act}
+use Rattle.world_invariant_laws.specs.world_model.declared.events.Answer.TheVariants as answer
+use Rattle.world_invariant_laws.specs.world_model.Acts.{outcome, does as does_of}
 use Rattle.connection_laws.specs.Connection.{AConnection, as_conn, IsConnection}
 
 -- ---- what is kept then

@@ -6,7 +6,7 @@ use Rattle.value_model.specs.Val.{Val}
 use Rattle.ejson_value.specs.declared.key.Key.{Key}
 use Rattle.ejson_value.specs.Key.{key_cmp}
 use Rattle.app_model.specs.App.{App}
-use Rattle.link_laws.specs.history_model.declared.entry.Entry.{Entry}
+use Rattle.world_invariant_laws.specs.history_model.declared.entry.Entry.{Entry}
 use Rattle.stub_simulation.specs.Simulating as stub
 use Rattle.client_model.specs.Client.{Client}
 use Rattle.client_model.specs.Asking.{can_sub, subscribed, can_unsub, unsubscribed, can_call, called, can_send, with_text}
@@ -17,9 +17,9 @@ use Rattle.client_core.specs.Asked.{Does, Calls, simulation_of, called_by}
 use Rattle.session_laws.specs.Session.{ASession}
 use Rattle.session_laws.specs.Meaning.{Means}
 use Rattle.session_laws.specs.Events.{Closes}
-use Rattle.link_laws.specs.core_model.Store.{moments}
-use Rattle.link_laws.specs.core_model.Asks.{Ask, can_ask, each_once, keys_put, stub_run, calls, asked}
-use Rattle.link_laws.specs.core_model.Asks as ask
+use Rattle.world_invariant_laws.specs.world_model.Store.{moments}
+use Rattle.world_invariant_laws.specs.world_model.Asks.{Ask, can_ask, each_once, keys_put, stub_run, calls, asked}
+use Rattle.world_invariant_laws.specs.world_model.Asks as ask
 use Rattle.connection_laws.specs.Connection.{AConnection, as_conn, IsConnection}
 use Rattle.connection_laws.specs.Acting.{with_own, with_raw, gone}
 use Rattle.connection_laws.specs.Links.{own_stays}
@@ -54,7 +54,8 @@ module _ (app : App) (name : List ℕ) (history : List Entry) (old : AConnection
   may b = ap (λ d. not d && b) there
 
   module _ (own : Own) where
-    pub subscribe_makes : {X : Type 0} (id publication : List ℕ) (params : List Val) (result : Result X ClientFault) → Does (can_sub id old.own.client) (subscribed id publication params) old.own own result →
+    pub subscribe_makes : {X : Type 0} (id publication : List ℕ) (params : List Val) (result : Result X ClientFault) →
+        Does (can_sub id old.own.client) (subscribed id publication params) old.own own result →
         MakesAsked app name history (ask.subscribe id publication params) old (with_own own old) result
     subscribe_makes id publication params (Ok x) r = record {
       can = may (can_sub id old.own.client) ∙ r.0;
@@ -64,7 +65,8 @@ module _ (app : App) (name : List ℕ) (history : List Entry) (old : AConnection
     subscribe_makes id publication params (Err fault.Idle) r = may (can_sub id old.own.client) ∙ r.0
     subscribe_makes id publication params (Err fault.Memory) r = tt
 
-    pub unsubscribe_makes : {X : Type 0} (id : List ℕ) (result : Result X ClientFault) → Does (can_unsub id old.own.client) (unsubscribed id) old.own own result → MakesAsked app name history (ask.unsubscribe id) old (with_own own old) result
+    pub unsubscribe_makes : {X : Type 0} (id : List ℕ) (result : Result X ClientFault) →
+        Does (can_unsub id old.own.client) (unsubscribed id) old.own own result → MakesAsked app name history (ask.unsubscribe id) old (with_own own old) result
     unsubscribe_makes id (Ok x) r = record {
       can = may (can_unsub id old.own.client) ∙ r.0;
       does = ap (λ (o : Own). as_conn (with_own o old)) r.1;
@@ -73,7 +75,8 @@ module _ (app : App) (name : List ℕ) (history : List Entry) (old : AConnection
     unsubscribe_makes id (Err fault.Idle) r = may (can_unsub id old.own.client) ∙ r.0
     unsubscribe_makes id (Err fault.Memory) r = tt
 
-    pub raw_makes : {X : Type 0} (t : List ℕ) (result : Result X ClientFault) → Does (can_send old.own.client) (with_text t) old.own own result → MakesAsked app name history (ask.raw t) old (with_raw own old) result
+    pub raw_makes : {X : Type 0} (t : List ℕ) (result : Result X ClientFault) → Does (can_send old.own.client) (with_text t) old.own own result →
+        MakesAsked app name history (ask.raw t) old (with_raw own old) result
     raw_makes t (Ok x) r = record {
       can = may (can_send old.own.client) ∙ r.0;
       does = ap (λ (o : Own). as_conn (with_raw o old)) r.1;
@@ -85,10 +88,12 @@ module _ (app : App) (name : List ℕ) (history : List Entry) (old : AConnection
     -- what the call's stub makes of the view is the same
     call_is : (method : List ℕ) (params : List Val) → (called_by method params old.own).client ≡ calls app method params old.own.client
     call_is method params =
-        ap (λ (keys : List Key). called method params (simulation_of method params old.own).rows keys old.own.client) (same_put [] (simulation_of method params old.own).touched)
+        ap (λ (keys : List Key). called method params (simulation_of method params old.own).rows keys old.own.client)
+            (same_put [] (simulation_of method params old.own).touched)
         ∙ ap (λ (a : App). calls a method params old.own.client) p.stubs
 
-    pub call_makes : (method : List ℕ) (params : List Val) (result : Result ℕ ClientFault) → Calls method params old.own own result → MakesAsked app name history (ask.call method params) old (with_own own old) result
+    pub call_makes : (method : List ℕ) (params : List Val) (result : Result ℕ ClientFault) → Calls method params old.own own result →
+        MakesAsked app name history (ask.call method params) old (with_own own old) result
     call_makes method params (Ok number) r = record {
       can = may (can_call old.own.client) ∙ r.0;
       does = ap (λ (o : Own). as_conn (with_own o old)) r.2 ∙ ap (λ (c : Client). record (as_conn old) { client = c }) (call_is method params);

@@ -2,17 +2,17 @@
 use Rattle.std.specs.Prelude.{◌≡◌, ℕ, List, [], ◌∷◌, length, Bool, false, Option, None}
 use Rattle.ddp_messages.specs.ClientMessage.{ClientMessage}
 use Rattle.app_model.specs.App.{App}
-use Rattle.link_laws.specs.history_model.declared.entry.Entry.{Entry}
+use Rattle.world_invariant_laws.specs.history_model.declared.entry.Entry.{Entry}
 use Rattle.client_model.specs.Client.{new_client}
 use Rattle.client_core.specs.State.{Own}
-use Rattle.link_laws.specs.journal_model.Items.{Item}
-use Rattle.session_laws.specs.session_relation.declared.stored.Stored.{Stored}
-use Rattle.session_laws.specs.session_relation.Stands.{items_of}
+use Rattle.world_invariant_laws.specs.session_model.Items.{Item}
+use Rattle.session_laws.specs.session_journal_laws.declared.stored.Stored.{Stored}
+use Rattle.session_laws.specs.session_journal_laws.Stands.{items_of}
 use Rattle.session_laws.specs.Session.{ASession, new_session}
 use Rattle.session_laws.specs.Storing.{kept_as}
 use Rattle.session_laws.specs.Meaning.{Means}
-use Rattle.link_laws.specs.core_model.Store.{moments}
-use Rattle.link_laws.specs.core_model.Conn.{Waiting, Refusal, Conn}
+use Rattle.world_invariant_laws.specs.world_model.Store.{moments}
+use Rattle.world_invariant_laws.specs.world_model.Conn.{Waiting, Refusal, Conn}
 
 pub record AConnection : Type 0 where
   -- the client, with its application and its name, and whether it sent a text as it stands

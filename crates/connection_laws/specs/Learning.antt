@@ -1,5 +1,6 @@
 -- What a session learns of a call.
-use Rattle.std.specs.Prelude.{◌≡◌, ℕ, ◌≤◌, List, [], length, map, Bool, true, false, cond, ◌&&◌, ◌||◌, nat_le, Option, None, Some, IfSome, is_some, option_map, Ok, Err, refl}
+use Rattle.std.specs.Prelude.{◌≡◌, ℕ, ◌≤◌, List, [], length, map, Bool, true, false, cond, ◌&&◌, ◌||◌, nat_le, Option, None, Some, IfSome, is_some,
+    option_map, Ok, Err, refl}
 use Rattle.std.proofs.Common.{ap, ap₂, sym, subst, ◌∙◌}
 use Rattle.std.proofs.lemmas.Bool.{and_parts, le-leb, eqb-true, eq-eqb}
 use Rattle.merge_model.specs.Publishing.{apply}
@@ -7,29 +8,29 @@ use Rattle.ddp_messages.specs.ServerMessage.{ServerMessage}
 use Rattle.program_steps.specs.declared.outcome.Status.{Status}
 use Rattle.program_steps.specs.Runs.{End}
 use Rattle.app_model.specs.App.{App}
-use Rattle.link_laws.specs.history_model.declared.entry.Entry.{Entry}
-use Rattle.link_laws.specs.history_model.History.{status_at}
-use Rattle.link_laws.specs.journal_model.Items.{Item}
-use Rattle.link_laws.specs.journal_model.Items as item
-use Rattle.link_laws.specs.journal_model.Methods.{Phase, running, Blocking, is_blocked_by, phase_at, id_at}
-use Rattle.link_laws.specs.journal_model.State.{State, own_after}
-use Rattle.link_laws.specs.journal_model.Moments.{Moment, moment_at, run_at}
-use Rattle.link_laws.specs.journal_model.Out.{own_messages, result_by}
-use Rattle.link_laws.specs.journal_model.Fits.{IsRefusedAt}
-use Rattle.session_laws.specs.session_relation.Resolved.{resolved}
+use Rattle.world_invariant_laws.specs.history_model.declared.entry.Entry.{Entry}
+use Rattle.world_invariant_laws.specs.history_model.History.{status_at}
+use Rattle.world_invariant_laws.specs.session_model.Items.{Item}
+use Rattle.world_invariant_laws.specs.session_model.Items as item
+use Rattle.world_invariant_laws.specs.session_model.Methods.{Phase, running, Blocking, is_blocked_by, phase_at, id_at}
+use Rattle.world_invariant_laws.specs.session_model.State.{State, own_after}
+use Rattle.world_invariant_laws.specs.session_model.Moments.{Moment, moment_at, run_at}
+use Rattle.world_invariant_laws.specs.session_model.Out.{own_messages, result_by}
+use Rattle.world_invariant_laws.specs.session_model.Fits.{IsRefusedAt}
+use Rattle.session_laws.specs.session_journal_laws.Resolved.{resolved}
 use Rattle.session_laws.specs.Session.{ASession, is_at_work, is_running as runs, has_news, can_learn, can_refuse}
 use Rattle.session_laws.specs.Storing.{kept_as}
 use Rattle.session_laws.specs.Meaning.{Means}
 use Rattle.session_laws.specs.Events.{Outcome, HasLearnt, IsLearnt, IsStatus, Learns, Refuses}
-use Rattle.link_laws.specs.core_model.declared.events.Act.TheVariants as act
-use Rattle.link_laws.specs.core_model.declared.events.Answer.TheVariants as answer
-use Rattle.link_laws.specs.core_model.Store.{programs, moments}
-use Rattle.link_laws.specs.core_model.Conn.{Refusal, state_in, is_at_work as is_at_work_of}
-use Rattle.link_laws.specs.core_model.Acts.{with_item, is_kept, is_running, news_of, news_by, learnt, learns_item, enabled, outcome}
-use Rattle.link_laws.specs.Places.{ended_there}
-use Rattle.link_laws.specs.Moments.{run_there}
-use Rattle.link_laws.specs.Session.{IsRefusal, IsServed}
-use Rattle.link_laws.specs.Begun.{runs_of}
+use Rattle.world_invariant_laws.specs.world_model.declared.events.Act.TheVariants as act
+use Rattle.world_invariant_laws.specs.world_model.declared.events.Answer.TheVariants as answer
+use Rattle.world_invariant_laws.specs.world_model.Store.{programs, moments}
+use Rattle.world_invariant_laws.specs.world_model.Conn.{Refusal, state_in, is_at_work as is_at_work_of}
+use Rattle.world_invariant_laws.specs.world_model.Acts.{with_item, is_kept, is_running, news_of, news_by, learnt, learns_item, enabled, outcome}
+use Rattle.world_invariant_laws.specs.Places.{ended_there}
+use Rattle.world_invariant_laws.specs.Moments.{run_there}
+use Rattle.world_invariant_laws.specs.Session.{IsRefusal, IsServed}
+use Rattle.world_invariant_laws.specs.Begun.{runs_of}
 use Rattle.connection_laws.specs.Connection.{AConnection, waiting_of, as_conn, IsConnection}
 use Rattle.connection_laws.specs.Acting.{with_session, refusal_learnt, Makes}
 use Rattle.connection_laws.specs.Standing.{state_is, at_work_is, idle_of, IsMade, made}
@@ -45,16 +46,19 @@ either_none false = refl
 
 -- ---- an item of no text
 
-module _ (app : App) (name : List ℕ) (history : List Entry) (old : AConnection) (p : IsConnection app name history old) (s : ASession) (i : Item) (words : List ServerMessage) (reads : resolved old.session.carried.app old.session.carried.number old.received (kept_as 0 i) ≡ i)
+module _ (app : App) (name : List ℕ) (history : List Entry) (old : AConnection) (p : IsConnection app name history old) (s : ASession) (i : Item)
+    (words : List ServerMessage) (reads : resolved old.session.carried.app old.session.carried.number old.received (kept_as 0 i) ≡ i)
     (l : HasLearnt i words old.session s) (m : Means old.received (moments app old.session.carried.number history) old.sent s) where
   learnt_one : HasOne app history old.received 0 i old s
   learnt_one = has_one app history old.received 0 i old s None (apply 0 []) (own_after old.session.carried.own i) words l.added refl reads m
 
   learnt_does : (kept : Option Refusal) → as_conn (record old { session = s; kept = kept }) ≡ with_item app history (record (as_conn old) { kept = kept }) i
-  learnt_does kept = one_more app name history old.received 0 i old s p learnt_one old.upward (as_conn old).queue kept (ap₂ waiting_of l.waits.waiting l.waits.bytes)
+  learnt_does kept = one_more app name history old.received 0 i old s p learnt_one old.upward (as_conn old).queue kept
+      (ap₂ waiting_of l.waits.waiting l.waits.bytes)
 
   learnt_stays : (kept : Option Refusal) → IsConnection app name history (record old { session = s; kept = kept })
-  learnt_stays kept = one_stays app name history old.received 0 i old s p learnt_one old.upward kept (ap length l.waits.bytes ∙ (p.bytes ∙ ap length (sym l.waits.waiting)))
+  learnt_stays kept = one_stays app name history old.received 0 i old s p learnt_one old.upward kept
+      (ap length l.waits.bytes ∙ (p.bytes ∙ ap length (sym l.waits.waiting)))
 
 -- ---- no refusal of the call is kept
 
@@ -63,36 +67,47 @@ same_running None = refl
 same_running (Some running) = refl
 same_running (Some p) = refl
 
-ended_news : (st : State) (k : ℕ) (unblocked : Bool) (o : Option End) → is_some (news_of st k unblocked o) ≡ (is_some o || (unblocked && is_blocked_by k st.blocking))
+ended_news : (st : State) (k : ℕ) (unblocked : Bool) (o : Option End) →
+    is_some (news_of st k unblocked o) ≡ (is_some o || (unblocked && is_blocked_by k st.blocking))
 ended_news st k unblocked (Some end) = refl
-ended_news st k unblocked None = elim (unblocked && is_blocked_by k st.blocking) as (λ b. is_some (cond b (Some (item.unblocked k)) None) ≡ b) [ true ↦ refl | false ↦ refl ]
+ended_news st k unblocked None =
+    elim (unblocked && is_blocked_by k st.blocking) as (λ b. is_some (cond b (Some (item.unblocked k)) None) ≡ b) [ true ↦ refl | false ↦ refl ]
 
-some_news : (st : State) (k : ℕ) (status : Status) → is_some (news_by st k (Some status)) ≡ (runs (phase_at k st.methods) && has_news status (is_blocked_by k st.blocking))
+some_news : (st : State) (k : ℕ) (status : Status) →
+    is_some (news_by st k (Some status)) ≡ (runs (phase_at k st.methods) && has_news status (is_blocked_by k st.blocking))
 some_news st k status =
     ap (λ b. is_some (cond b (news_of st k status.unblocked status.ended) None)) (same_running (phase_at k st.methods))
-    ∙ elim (runs (phase_at k st.methods)) as (λ b. is_some (cond b (news_of st k status.unblocked status.ended) None) ≡ (b && has_news status (is_blocked_by k st.blocking))) [
+    ∙ elim (runs (phase_at k st.methods)) as
+        (λ b. is_some (cond b (news_of st k status.unblocked status.ended) None) ≡ (b && has_news status (is_blocked_by k st.blocking))) [
       | true ↦ ended_news st k status.unblocked status.ended
       | false ↦ refl
     ]
 
-module _ (app : App) (name : List ℕ) (history : List Entry) (old : AConnection) (p : IsConnection app name history old) (k place : ℕ) (other : is_kept k old.kept ≡ false) where
+module _ (app : App) (name : List ℕ) (history : List Entry) (old : AConnection) (p : IsConnection app name history old) (k place : ℕ)
+    (other : is_kept k old.kept ≡ false) where
   -- what there is to learn where no refusal of the call is kept
-  by_status : learnt app history (as_conn old) k place ≡ cond (nat_le place (length history)) (news_by (state_in (as_conn old)) k (status_at (programs app) history place old.session.carried.number k)) None
+  by_status : learnt app history (as_conn old) k place ≡ cond (nat_le place (length history))
+      (news_by (state_in (as_conn old)) k (status_at (programs app) history place old.session.carried.number k)) None
   by_status =
       ap (λ b. cond b (option_map (λ (r : Refusal). item.refused k r.at) old.kept)
       (cond (nat_le place (length history)) (news_by (state_in (as_conn old)) k (status_at (programs app) history place old.session.carried.number k)) None)) other
 
   nothing_learnt : learnt app history (as_conn old) k place ≡ None → outcome app history (as_conn old) (act.Learn k place) ≡ answer.Idle
-  nothing_learnt e = idle_of app history (as_conn old) (act.Learn k place) (ap (λ (o : Option Item). is_at_work_of (as_conn old) && is_some o) e ∙ right_false (is_at_work_of (as_conn old)))
+  nothing_learnt e = idle_of app history (as_conn old) (act.Learn k place)
+      (ap (λ (o : Option Item). is_at_work_of (as_conn old) && is_some o) e ∙ right_false (is_at_work_of (as_conn old)))
 
   -- none at a place behind the history's end, nor of a run that was not begun
   pub learn_past : nat_le place (length history) ≡ false → outcome app history (as_conn old) (act.Learn k place) ≡ answer.Idle
-  learn_past past = nothing_learnt (by_status ∙ ap (λ b. cond b (news_by (state_in (as_conn old)) k (status_at (programs app) history place old.session.carried.number k)) None) past)
+  learn_past past = nothing_learnt
+      (by_status ∙ ap (λ b. cond b (news_by (state_in (as_conn old)) k (status_at (programs app) history place old.session.carried.number k)) None) past)
 
-  pub learn_unbegun : status_at (programs app) history place old.session.carried.number k ≡ None → outcome app history (as_conn old) (act.Learn k place) ≡ answer.Idle
-  learn_unbegun none = nothing_learnt (by_status ∙ (ap (λ (o : Option Status). cond (nat_le place (length history)) (news_by (state_in (as_conn old)) k o) None) none ∙ either_none (nat_le place (length history))))
+  pub learn_unbegun : status_at (programs app) history place old.session.carried.number k ≡ None →
+      outcome app history (as_conn old) (act.Learn k place) ≡ answer.Idle
+  learn_unbegun none = nothing_learnt
+      (by_status ∙ (ap (λ (o : Option Status). cond (nat_le place (length history)) (news_by (state_in (as_conn old)) k o) None) none ∙ either_none (nat_le place (length history))))
 
-  module _ (status : Status) (le : place ≤ length history) (is : status_at (programs app) history place old.session.carried.number k ≡ Some status) (s : ASession) where
+  module _ (status : Status) (le : place ≤ length history) (is : status_at (programs app) history place old.session.carried.number k ≡ Some status)
+      (s : ASession) where
     there_is : learnt app history (as_conn old) k place ≡ news_by old.session.carried.own k (Some status)
     there_is =
         by_status
@@ -112,8 +127,10 @@ module _ (app : App) (name : List ℕ) (history : List Entry) (old : AConnection
             let there = ended_there (programs app) history place old.session.carried.number k status end is e in
             run_there app old.session.carried.number history end.at k there.0 ∙ there.1
 
-    learns_made : (i : Item) (words : List ServerMessage) → resolved old.session.carried.app old.session.carried.number old.received (kept_as 0 i) ≡ i → HasLearnt i words old.session s →
-        Means old.received (moments app old.session.carried.number history) old.sent s → learnt app history (as_conn old) k place ≡ Some i → IsMade app name history (act.Learn k place) old (with_session s old)
+    learns_made : (i : Item) (words : List ServerMessage) → resolved old.session.carried.app old.session.carried.number old.received (kept_as 0 i) ≡ i →
+        HasLearnt i words old.session s →
+        Means old.received (moments app old.session.carried.number history) old.sent s → learnt app history (as_conn old) k place ≡ Some i →
+            IsMade app name history (act.Learn k place) old (with_session s old)
     learns_made i words reads l m e = record {
       does =
           learnt_does app name history old p s i words reads l m old.kept
@@ -121,7 +138,8 @@ module _ (app : App) (name : List ℕ) (history : List Entry) (old : AConnection
       stays = learnt_stays app name history old p s i words reads l m old.kept;
     }
 
-    learnt_made : runs (phase_at k old.session.carried.own.methods) ≡ true → has_news status (is_blocked_by k old.session.carried.own.blocking) ≡ true → (o : Option End) → status.ended ≡ o → IsLearnt k o old.session s →
+    learnt_made : runs (phase_at k old.session.carried.own.methods) ≡ true → has_news status (is_blocked_by k old.session.carried.own.blocking) ≡ true →
+        (o : Option End) → status.ended ≡ o → IsLearnt k o old.session s →
         Means old.received (moments app old.session.carried.number history) old.sent s → IsMade app name history (act.Learn k place) old (with_session s old)
     learnt_made run news (Some end) ends l m =
         learns_made (item.finished k end.at) (map (result_by end.outcome) (id_at k old.session.carried.own.methods)) refl l m
@@ -139,7 +157,8 @@ module _ (app : App) (name : List ℕ) (history : List Entry) (old : AConnection
         let both = and_parts (runs (phase_at k old.session.carried.own.methods)) (has_news status (is_blocked_by k old.session.carried.own.blocking)) parts.1 in
         made app name history (act.Learn k place) old (with_session s old) p (can_learn k status old.session) learn_enabled refl refl (Ok u) r.enabled tt
         (learnt_made both.0 both.1 status.ended refl r.done (r.keeps old.received C old.sent p.means status_known))
-    learn_makes (Err e) r = made app name history (act.Learn k place) old (with_session s old) p (can_learn k status old.session) learn_enabled refl refl (Err e) tt r.cause tt
+    learn_makes (Err e) r = made app name history (act.Learn k place) old (with_session s old) p
+        (can_learn k status old.session) learn_enabled refl refl (Err e) tt r.cause tt
 
 -- ---- a refusal of the call is kept
 
@@ -148,7 +167,8 @@ blocks_by None j k b r e = absurd r
 blocks_by (Some m) j k None r e = absurd r
 blocks_by (Some m) j k (Some b) r e = eq-eqb k b.k (e ∙ sym r.number)
 
-module _ (app : App) (name : List ℕ) (history : List Entry) (old : AConnection) (p : IsConnection app name history old) (k place : ℕ) (r : Refusal) (is : old.kept ≡ Some r) (its : is_kept k (Some r) ≡ true)
+module _ (app : App) (name : List ℕ) (history : List Entry) (old : AConnection) (p : IsConnection app name history old) (k place : ℕ) (r : Refusal)
+    (is : old.kept ≡ Some r) (its : is_kept k (Some r) ≡ true)
     (known : IsServed app history (as_conn old)) (s : ASession) where
   refused_is : learnt app history (as_conn old) k place ≡ Some (item.refused k r.at)
   refused_is =
@@ -177,7 +197,9 @@ module _ (app : App) (name : List ℕ) (history : List Entry) (old : AConnection
       made app name history (act.Learn k place) old (refusal_learnt s old) p (can_refuse k old.session) refuse_enabled refl refl (Ok u) q.enabled tt (record {
         does =
             learnt_does app name history old p s i words refl q.done m None
-            ∙ ap₂ (λ (b : Bool) (o : Option Item). learns_item app history (record (as_conn old) { kept = cond b None old.kept }) o) (sym (ap (is_kept k) is ∙ its)) (sym refused_is);
+            ∙ ap₂ (λ (b : Bool) (o : Option Item). learns_item app history (record (as_conn old) { kept = cond b None old.kept }) o)
+                (sym (ap (is_kept k) is ∙ its)) (sym refused_is);
         stays = learnt_stays app name history old p s i words refl q.done m None;
       })
-  refuse_makes (Err e) q = made app name history (act.Learn k place) old (refusal_learnt s old) p (can_refuse k old.session) refuse_enabled refl refl (Err e) tt q.cause tt
+  refuse_makes (Err e) q = made app name history (act.Learn k place) old (refusal_learnt s old) p (can_refuse k old.session) refuse_enabled refl refl
+      (Err e) tt q.cause tt

@@ -12,19 +12,16 @@ pub mod Printing
 -- what lies below, for the crates above
 pub mod client_core
 pub mod client_core_for_proofs
-pub mod client_parts
-pub mod client_parts_for_proofs
-pub mod core_model
-pub mod core_model_for_proofs
+pub mod world_model
+pub mod world_model_for_proofs
 pub mod history_model
 pub mod history_model_for_proofs
-pub mod journal_laws
-pub mod journal_model
-pub mod link_laws
-pub mod link_laws_for_proofs
+pub mod session_journal_laws
+pub mod session_model
+pub mod world_invariant_laws
+pub mod world_invariant_laws_for_proofs
 pub mod live_observer
 pub mod publication
 pub mod session_laws
-pub mod session_relation
 pub mod store_machine
 pub mod store_machine_for_proofs

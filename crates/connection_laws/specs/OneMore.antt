@@ -7,27 +7,28 @@ use Rattle.value_model.specs.Val.{Entries}
 use Rattle.ejson_value.specs.declared.key.Key.{Key}
 use Rattle.ddp_messages.specs.ServerMessage.{ServerMessage}
 use Rattle.app_model.specs.App.{App}
-use Rattle.link_laws.specs.history_model.declared.entry.Entry.{Entry}
-use Rattle.link_laws.specs.journal_model.Items.{Item}
-use Rattle.link_laws.specs.journal_model.State.{State}
-use Rattle.link_laws.specs.journal_model.Out.{out_texts}
-use Rattle.link_laws.specs.journal_laws.Appending.{out_texts-append}
-use Rattle.session_laws.specs.session_relation.declared.stored.Stored.{Stored}
-use Rattle.session_laws.specs.session_relation.Resolved.{resolved}
-use Rattle.session_laws.specs.session_relation.Stands.{items_of}
+use Rattle.world_invariant_laws.specs.history_model.declared.entry.Entry.{Entry}
+use Rattle.world_invariant_laws.specs.session_model.Items.{Item}
+use Rattle.world_invariant_laws.specs.session_model.State.{State}
+use Rattle.world_invariant_laws.specs.session_model.Out.{out_texts}
+use Rattle.world_invariant_laws.specs.session_journal_laws.Appending.{out_texts-append}
+use Rattle.session_laws.specs.session_journal_laws.declared.stored.Stored.{Stored}
+use Rattle.session_laws.specs.session_journal_laws.Resolved.{resolved}
+use Rattle.session_laws.specs.session_journal_laws.Stands.{items_of}
 use Rattle.session_laws.specs.Session.{ASession}
 use Rattle.session_laws.specs.Adding.{HasAdded}
 use Rattle.session_laws.specs.Storing.{kept_as}
 use Rattle.session_laws.specs.Meaning.{Means}
 use Rattle.session_laws.specs.Keeping.{items_added}
-use Rattle.link_laws.specs.core_model.Store.{moments}
-use Rattle.link_laws.specs.core_model.Conn.{Waiting, Refusal}
-use Rattle.link_laws.specs.core_model.Acts.{item_texts, with_item}
+use Rattle.world_invariant_laws.specs.world_model.Store.{moments}
+use Rattle.world_invariant_laws.specs.world_model.Conn.{Waiting, Refusal}
+use Rattle.world_invariant_laws.specs.world_model.Acts.{item_texts, with_item}
 use Rattle.connection_laws.specs.Connection.{AConnection, waiting_of, as_conn, IsKeptOf, AreKeptOf, IsConnection}
 
 -- ---- the item is kept as it is
 
-pub kept-append : (ss : List Stored) (items : List Item) (s : Stored) (i : Item) → AreKeptOf ss items → IsKeptOf s i → AreKeptOf (ss ++ s ∷ []) (items ++ i ∷ [])
+pub kept-append : (ss : List Stored) (items : List Item) (s : Stored) (i : Item) → AreKeptOf ss items → IsKeptOf s i →
+    AreKeptOf (ss ++ s ∷ []) (items ++ i ∷ [])
 kept-append [] [] s i k one = (one, tt)
 kept-append [] (j ∷ items) s i k one = absurd k
 kept-append (r ∷ ss) [] s i k one = absurd k
@@ -45,9 +46,11 @@ pub record HasOne (app : App) (history : List Entry) (received : List (List ℕ)
   pub means : Means received (moments app old.session.carried.number history) old.sent s
 
 -- an item that is added, and reads back
-pub has_one : (app : App) (history : List Entry) (received : List (List ℕ)) (place : ℕ) (i : Item) (old : AConnection) (s : ASession) (id : Option (List ℕ)) (call : Call Key Entries) (state : State) (words : List ServerMessage) →
+pub has_one : (app : App) (history : List Entry) (received : List (List ℕ)) (place : ℕ) (i : Item) (old : AConnection) (s : ASession)
+    (id : Option (List ℕ)) (call : Call Key Entries) (state : State) (words : List ServerMessage) →
     HasAdded (kept_as place i) id call state words old.session s → items_of received old.session.carried ≡ items_of old.received old.session.carried →
-    resolved old.session.carried.app old.session.carried.number received (kept_as place i) ≡ i → Means received (moments app old.session.carried.number history) old.sent s → HasOne app history received place i old s
+    resolved old.session.carried.app old.session.carried.number received (kept_as place i) ≡ i →
+        Means received (moments app old.session.carried.number history) old.sent s → HasOne app history received place i old s
 has_one app history received place i old s id call state words a same reads m = record {
   served = a.added.app;
   number = a.added.number;
@@ -59,7 +62,8 @@ has_one app history received place i old s id call state words a same reads m = 
   means = m;
 }
 
-module _ (app : App) (name : List ℕ) (history : List Entry) (received : List (List ℕ)) (place : ℕ) (i : Item) (old : AConnection) (s : ASession) (p : IsConnection app name history old) (o : HasOne app history received place i old s) where
+module _ (app : App) (name : List ℕ) (history : List Entry) (received : List (List ℕ)) (place : ℕ) (i : Item) (old : AConnection) (s : ASession)
+    (p : IsConnection app name history old) (o : HasOne app history received place i old s) where
   -- what was sent and is to be sent are the texts of the journal, before and now
   pub outbox_is : s.carried.outbox ≡ old.session.carried.outbox ++ item_texts app history (as_conn old) i
   outbox_is =
@@ -75,7 +79,8 @@ module _ (app : App) (name : List ℕ) (history : List Entry) (received : List (
 
   -- so it is the world's session with the item
   pub one_more : (upward : List (List ℕ)) (queue : List Waiting) (kept : Option Refusal) → waiting_of s.carried.waiting s.bytes ≡ queue →
-      as_conn (record old { upward = upward; session = s; received = received; kept = kept }) ≡ with_item app history (record (as_conn old) { upward = upward; received = received; queue = queue; kept = kept }) i
+      as_conn (record old { upward = upward; session = s; received = received; kept = kept }) ≡ with_item app history
+          (record (as_conn old) { upward = upward; received = received; queue = queue; kept = kept }) i
   one_more upward queue kept waits = λ j. record (as_conn old) {
     upward = upward;
     number = o.number j;
@@ -86,7 +91,8 @@ module _ (app : App) (name : List ℕ) (history : List Entry) (received : List (
     kept = kept;
   }
 
-  pub one_stays : (upward : List (List ℕ)) (kept : Option Refusal) → length s.bytes ≡ length s.carried.waiting → IsConnection app name history (record old { upward = upward; session = s; received = received; kept = kept })
+  pub one_stays : (upward : List (List ℕ)) (kept : Option Refusal) → length s.bytes ≡ length s.carried.waiting →
+      IsConnection app name history (record old { upward = upward; session = s; received = received; kept = kept })
   one_stays upward kept bytes = record {
     stubs = p.stubs;
     named = p.named;

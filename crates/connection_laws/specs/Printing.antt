@@ -5,27 +5,28 @@ use Rattle.value_model.specs.Val.{Val, text}
 use Rattle.ddp_messages.specs.ServerMessage.{ServerMessage}
 use Rattle.program_steps.specs.Runs.{Outcome, done, failed}
 use Rattle.app_model.specs.App.{App}
-use Rattle.link_laws.specs.history_model.declared.entry.Entry.{Entry}
-use Rattle.link_laws.specs.history_log.Lines.{worded, number, doc_value}
+use Rattle.world_invariant_laws.specs.history_model.declared.entry.Entry.{Entry}
+use Rattle.world_invariant_laws.specs.history_model.Lines.{worded, number, doc_value}
 use Rattle.client_model.specs.declared.subs.SubState.{SubState}
 use Rattle.client_model.specs.declared.subs.SubState.TheVariants as sub_state
 use Rattle.client_model.specs.Client.{Sub, Call}
 use Rattle.client_model.specs.Asking.{outcome_in}
-use Rattle.client_parts.specs.Lines as parts
+use Rattle.client_core.specs.Lines as parts
 use Rattle.client_core.specs.State.{show_lines}
-use Rattle.link_laws.specs.journal_model.Texts.{server_text}
-use Rattle.link_laws.specs.journal_model.Items.{Item}
-use Rattle.link_laws.specs.journal_model.Items as item
-use Rattle.link_laws.specs.journal_model.State.{State, started, after}
-use Rattle.link_laws.specs.journal_model.Moments.{Moment}
-use Rattle.link_laws.specs.journal_model.Shown.{Calls, call_of}
-use Rattle.link_laws.specs.journal_model.Out.{session_name, messages_of, out_from, counts_from}
-use Rattle.session_laws.specs.session_relation.declared.stored.Stored.{Stored}
-use Rattle.session_laws.specs.session_relation.declared.stored.Stored.TheVariants as stored
-use Rattle.session_laws.specs.session_relation.Stands.{items_of}
+use Rattle.world_invariant_laws.specs.session_model.Texts.{server_text}
+use Rattle.world_invariant_laws.specs.session_model.Items.{Item}
+use Rattle.world_invariant_laws.specs.session_model.Items as item
+use Rattle.world_invariant_laws.specs.session_model.State.{State, started, after}
+use Rattle.world_invariant_laws.specs.session_model.Moments.{Moment}
+use Rattle.world_invariant_laws.specs.session_model.Shown.{Calls, call_of}
+use Rattle.world_invariant_laws.specs.session_model.Out.{session_name, messages_of, out_from, counts_from}
+use Rattle.session_laws.specs.session_journal_laws.declared.stored.Stored.{Stored}
+use Rattle.session_laws.specs.session_journal_laws.declared.stored.Stored.TheVariants as stored
+use Rattle.session_laws.specs.session_journal_laws.Stands.{items_of}
 use Rattle.session_laws.specs.Storing.{kept_as, shown_id}
-use Rattle.link_laws.specs.core_model.Store.{moments}
-use Rattle.link_laws.specs.core_model.Lines.{state_words, outcome_words, sub_value, method_values, show_values, Line, value_line, out_line, item_value, items_lines, journal_lines, texts_of}
+use Rattle.world_invariant_laws.specs.world_model.Store.{moments}
+use Rattle.world_invariant_laws.specs.world_model.Lines.{state_words, outcome_words, sub_value, method_values, show_values, Line, value_line,
+    out_line, item_value, items_lines, journal_lines, texts_of}
 use Rattle.connection_laws.specs.Connection.{AConnection, as_conn, AreKeptOf, IsConnection}
 
 -- ---- what a session did
@@ -62,7 +63,9 @@ kept_lines ss ids counts texts = []
 -- the texts are those that were sent, and then those that are to be
 abbrev pub kept_journal : AConnection → List Line
 kept_journal x =
-    let s = x.session in value_line (worded (codes "journal") (text (session_name s.carried.number) ∷ [])) ∷ kept_lines s.carried.journal s.ids s.carried.counts (x.sent ++ s.carried.outbox)
+    let s = x.session in value_line
+        (worded (codes "journal") (text (session_name s.carried.number) ∷ [])) ∷ kept_lines s.carried.journal s.ids s.carried.counts
+        (x.sent ++ s.carried.outbox)
 
 value_is : (place : ℕ) (i : Item) → kept_value (kept_as place i) (shown_id i) ≡ item_value i
 value_is place item.connect = refl
@@ -104,7 +107,8 @@ lines_are C n past st (s ∷ ss) (i ∷ items) k =
     (ap (kept_lines ss (map shown_id items) (counts_from C n (call_of C st i ∷ past) (after st i) items)) (texts_left ms rest) ∙ lines_are C n (call_of C st i ∷ past) (after st i) ss items k.1)
 
 -- what is printed from what is kept are the lines of the session's journal
-pub journal_is : (app : App) (name : List ℕ) (history : List Entry) (x : AConnection) → IsConnection app name history x → kept_journal x ≡ journal_lines app history (as_conn x)
+pub journal_is : (app : App) (name : List ℕ) (history : List Entry) (x : AConnection) → IsConnection app name history x →
+    kept_journal x ≡ journal_lines app history (as_conn x)
 journal_is app name history x p =
     let s = x.session in
     let n = s.carried.number in
@@ -136,10 +140,12 @@ same_subs (sub ∷ subs) = ap₂ (λ (words : List Val) (vs : List Val). worded 
 
 same_methods : (n : ℕ) (calls : List Call) → parts.method_lines n calls ≡ method_values n calls
 same_methods n [] = refl
-same_methods n (call ∷ calls) = ap₂ (λ (words : List Val) (vs : List Val). worded (codes "method") (text (decimal n) ∷ words) ∷ vs) (same_outcome (outcome_in (Some call))) (same_methods (suc n) calls)
+same_methods n (call ∷ calls) = ap₂ (λ (words : List Val) (vs : List Val). worded (codes "method") (text (decimal n) ∷ words) ∷ vs)
+    (same_outcome (outcome_in (Some call))) (same_methods (suc n) calls)
 
 -- what the client prints are the lines of its name
-pub show_is : (app : App) (name : List ℕ) (history : List Entry) (x : AConnection) → IsConnection app name history x → parts.line_texts (show_lines x.own) ≡ texts_of (show_values name (as_conn x).client)
+pub show_is : (app : App) (name : List ℕ) (history : List Entry) (x : AConnection) → IsConnection app name history x →
+    parts.line_texts (show_lines x.own) ≡ texts_of (show_values name (as_conn x).client)
 show_is app name history x p =
     let c = x.own.client in
     ap texts_of

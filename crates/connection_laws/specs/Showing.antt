@@ -1,5 +1,6 @@
 -- A subscription that is loaded, and one that goes on.
-use Rattle.std.specs.Prelude.{◌≡◌, ℕ, zero, suc, ◌+◌, ◌<◌, ◌≤◌, ◌==◌, List, [], ◌∷◌, length, take, Bool, true, false, cond, ◌&&◌, ◌||◌, nat_lt, nat_le, Option, None, Some, is_some, Ok, Err, refl}
+use Rattle.std.specs.Prelude.{◌≡◌, ℕ, zero, suc, ◌+◌, ◌<◌, ◌≤◌, ◌==◌, List, [], ◌∷◌, length, take, Bool, true, false, cond, ◌&&◌, ◌||◌, nat_lt,
+    nat_le, Option, None, Some, is_some, Ok, Err, refl}
 use Rattle.std.proofs.Common.{ap, ap₂, sym, subst, ◌∙◌, arith}
 use Rattle.std.proofs.lemmas.Bool.{ne_eqb, le-leb, lt-leb, lt-ltb}
 use Rattle.map_model.specs.Changes.{Leads}
@@ -12,32 +13,32 @@ use Rattle.ejson_value.specs.declared.change.Change.{Change}
 use Rattle.ejson_value.specs.Rows.{Rows}
 use Rattle.ejson_value.specs.Changes.{changes_of, news_of}
 use Rattle.app_model.specs.App.{App}
-use Rattle.link_laws.specs.history_model.declared.entry.Entry.{Entry}
-use Rattle.link_laws.specs.history_model.History.{held_at, changes_between}
-use Rattle.link_laws.specs.history_model.HistoryLaws.{sorted_held, between_leads}
-use Rattle.link_laws.specs.journal_model.Publication.{queried}
-use Rattle.link_laws.specs.journal_model.Items.{Item}
-use Rattle.link_laws.specs.journal_model.Items as item
-use Rattle.link_laws.specs.journal_model.Subscriptions.{Live, cursor_of, may_load}
-use Rattle.link_laws.specs.journal_model.State.{State, started, own_after}
-use Rattle.link_laws.specs.journal_model.Moments.{Moment, rows_of, rows_at}
-use Rattle.link_laws.specs.journal_model.Out.{own_messages}
+use Rattle.world_invariant_laws.specs.history_model.declared.entry.Entry.{Entry}
+use Rattle.world_invariant_laws.specs.history_model.History.{held_at, changes_between}
+use Rattle.world_invariant_laws.specs.history_model.HistoryLaws.{sorted_held, between_leads}
+use Rattle.world_invariant_laws.specs.session_model.Publication.{queried}
+use Rattle.world_invariant_laws.specs.session_model.Items.{Item}
+use Rattle.world_invariant_laws.specs.session_model.Items as item
+use Rattle.world_invariant_laws.specs.session_model.Subscriptions.{Live, cursor_of, may_load}
+use Rattle.world_invariant_laws.specs.session_model.State.{State, started, own_after}
+use Rattle.world_invariant_laws.specs.session_model.Moments.{Moment, rows_of, rows_at}
+use Rattle.world_invariant_laws.specs.session_model.Out.{own_messages}
 use Rattle.session_laws.specs.Session.{ASession, is_at_work, place_on, can_load, can_advance}
-use Rattle.session_laws.specs.session_relation.Resolved.{resolved}
+use Rattle.session_laws.specs.session_journal_laws.Resolved.{resolved}
 use Rattle.session_laws.specs.Storing.{kept_as, shown_id}
 use Rattle.session_laws.specs.Meaning.{Means}
 use Rattle.session_laws.specs.Events.{Outcome, HasDone, Waits, IsSnapshot, Loads, IsBatch, Advances, IsFeed, Feeds, cursors_at}
-use Rattle.link_laws.specs.core_model.declared.events.Act.{Act}
-use Rattle.link_laws.specs.core_model.declared.events.Act.TheVariants as act
-use Rattle.link_laws.specs.core_model.declared.events.Answer.TheVariants as answer
-use Rattle.link_laws.specs.core_model.Store.{programs, moments}
-use Rattle.link_laws.specs.core_model.Conn.{state_in, is_at_work as is_at_work_of}
-use Rattle.link_laws.specs.core_model.Acts.{with_item, may_advance, enabled, outcome, does as does_of}
-use Rattle.link_laws.specs.Moments.{moments_length, moment_there}
-use Rattle.link_laws.specs.publication.Published.{published}
+use Rattle.world_invariant_laws.specs.world_model.declared.events.Act.{Act}
+use Rattle.world_invariant_laws.specs.world_model.declared.events.Act.TheVariants as act
+use Rattle.world_invariant_laws.specs.world_model.declared.events.Answer.TheVariants as answer
+use Rattle.world_invariant_laws.specs.world_model.Store.{programs, moments}
+use Rattle.world_invariant_laws.specs.world_model.Conn.{state_in, is_at_work as is_at_work_of}
+use Rattle.world_invariant_laws.specs.world_model.Acts.{with_item, may_advance, enabled, outcome, does as does_of}
+use Rattle.world_invariant_laws.specs.Moments.{moments_length, moment_there}
+use Rattle.world_invariant_laws.specs.publication.Published.{published}
 use Rattle.session_laws.specs.live_observer.Observing.{IsDifference, HaveNoLimit}
-use Rattle.link_laws.specs.journal_laws.Longer.{IsPlace, AreWithin, within_from}
-use Rattle.session_laws.specs.session_relation.Stands.{items_of}
+use Rattle.world_invariant_laws.specs.session_journal_laws.Longer.{IsPlace, AreWithin, within_from}
+use Rattle.session_laws.specs.session_journal_laws.Stands.{items_of}
 use Rattle.session_laws.specs.Differences.{difference_leads}
 use Rattle.connection_laws.specs.Connection.{AConnection, waiting_of, as_conn, IsConnection}
 use Rattle.connection_laws.specs.Acting.{with_session, Makes}
@@ -54,7 +55,8 @@ true_right false = refl
 
 -- ---- what isn't enabled
 
-pub load_past : (app : App) (history : List Entry) (old : AConnection) (sub place : ℕ) → nat_le place (length history) ≡ false → outcome app history (as_conn old) (act.Load sub place) ≡ answer.Idle
+pub load_past : (app : App) (history : List Entry) (old : AConnection) (sub place : ℕ) → nat_le place (length history) ≡ false →
+    outcome app history (as_conn old) (act.Load sub place) ≡ answer.Idle
 load_past app history old sub place past =
     idle_of app history (as_conn old) (act.Load sub place)
     (ap (λ b. is_at_work_of (as_conn old) && b && may_load sub place (state_in (as_conn old)).subs) past
@@ -66,7 +68,8 @@ module _ (app : App) (name : List ℕ) (history : List Entry) (old : AConnection
       idle_of app history (as_conn old) (act.Advance sub count)
       (ap (λ (o : Option ℕ). is_at_work_of (as_conn old) && may_advance (length history) count o) (ap (λ (st : State). cursor_of sub st.subs) (state_is app name history old p) ∙ none) ∙ right_false (is_at_work_of (as_conn old)))
 
-  pub advance_past : (start : ℕ) → cursor_of sub old.session.carried.own.subs ≡ Some start → nat_le (start + count) (length history) ≡ false → outcome app history (as_conn old) (act.Advance sub count) ≡ answer.Idle
+  pub advance_past : (start : ℕ) → cursor_of sub old.session.carried.own.subs ≡ Some start → nat_le (start + count) (length history) ≡ false →
+      outcome app history (as_conn old) (act.Advance sub count) ≡ answer.Idle
   advance_past start is past =
       idle_of app history (as_conn old) (act.Advance sub count)
       (ap (λ (o : Option ℕ). is_at_work_of (as_conn old) && may_advance (length history) count o) (ap (λ (st : State). cursor_of sub st.subs) (state_is app name history old p) ∙ is)
@@ -80,12 +83,15 @@ module _ (app : App) (name : List ℕ) (history : List Entry) (old : AConnection
   C = moments app old.session.carried.number history
 
   -- an item that answers no message
-  shown_made : (a : Act) (i : Item) (call : Call Key Entries) → resolved old.session.carried.app old.session.carried.number old.received (kept_as 0 i) ≡ i → does_of app history (as_conn old) a ≡ with_item app history (as_conn old) i →
+  shown_made : (a : Act) (i : Item) (call : Call Key Entries) →
+      resolved old.session.carried.app old.session.carried.number old.received (kept_as 0 i) ≡ i →
+      does_of app history (as_conn old) a ≡ with_item app history (as_conn old) i →
       HasDone 0 i call old.session s → Waits old.session s → Means old.received C old.sent s → IsMade app name history a old (with_session s old)
   shown_made a i call reads is done waits m =
       let one : HasOne app history old.received 0 i old s = has_one app history old.received 0 i old s (shown_id i) call (own_after old.session.carried.own i) (own_messages [] old.session.carried.number old.session.carried.own i) done refl reads m in
       record {
-        does = one_more app name history old.received 0 i old s p one old.upward (as_conn old).queue old.kept (ap₂ waiting_of waits.waiting waits.bytes) ∙ sym is;
+        does = one_more app name history old.received 0 i old s p one old.upward (as_conn old).queue old.kept
+            (ap₂ waiting_of waits.waiting waits.bytes) ∙ sym is;
         stays = one_stays app name history old.received 0 i old s p one old.upward old.kept (ap length waits.bytes ∙ (p.bytes ∙ ap length (sym waits.waiting)));
       }
 
@@ -93,7 +99,8 @@ module _ (app : App) (name : List ℕ) (history : List Entry) (old : AConnection
     load_enabled : place ≤ length history → enabled app history (as_conn old) (act.Load sub place) ≡ can_load sub place old.session
     load_enabled le =
         ap₂ (λ (x : Bool) (st : State). x && may_load sub place st.subs)
-        (ap₂ (λ (w b : Bool). w && b) (at_work_is app name history old p) (le-leb place (length history) le) ∙ true_right (is_at_work old.session)) (state_is app name history old p)
+        (ap₂ (λ (w b : Bool). w && b) (at_work_is app name history old p) (le-leb place (length history) le) ∙ true_right (is_at_work old.session))
+            (state_is app name history old p)
 
     -- the documents of a place are those that the first entries lead to
     snapshot : (rows : Rows) → place ≤ length history → rows ≡ (held_at (programs app) history place).rows → IsSnapshot C place rows
@@ -102,33 +109,40 @@ module _ (app : App) (name : List ℕ) (history : List Entry) (old : AConnection
       documents = is ∙ sym (ap rows_of (moment_there app old.session.carried.number history place le));
     }
 
-    pub load_makes : (rows : Rows) → place ≤ length history → rows ≡ (held_at (programs app) history place).rows → (result : Outcome) → Loads sub place rows old.session s result → Makes app name history (act.Load sub place) old (with_session s old) result
+    pub load_makes : (rows : Rows) → place ≤ length history → rows ≡ (held_at (programs app) history place).rows → (result : Outcome) →
+        Loads sub place rows old.session s result → Makes app name history (act.Load sub place) old (with_session s old) result
     load_makes rows le is (Ok u) r =
         made app name history (act.Load sub place) old (with_session s old) p (can_load sub place old.session) (load_enabled le) refl refl (Ok u) r.enabled tt
         (shown_made (act.Load sub place) (item.load sub place) (apply sub (news_of r.done.answer)) refl refl r.done.done r.done.waits (r.keeps old.received C old.sent p.means (snapshot rows le is)))
-    load_makes rows le is (Err e) r = made app name history (act.Load sub place) old (with_session s old) p (can_load sub place old.session) (load_enabled le) refl refl (Err e) tt r.cause tt
+    load_makes rows le is (Err e) r = made app name history (act.Load sub place) old (with_session s old) p (can_load sub place old.session)
+        (load_enabled le) refl refl (Err e) tt r.cause tt
 
   -- so many entries on from where it is loaded, which the history has; a history's length is a number of 64 bits
-  goes_on : (start count : ℕ) → start + count ≤ length history → length history < 18446744073709551616 → may_advance (length history) count (Some start) ≡ is_some (place_on (Some start) count)
+  goes_on : (start count : ℕ) → start + count ≤ length history → length history < 18446744073709551616 →
+      may_advance (length history) count (Some start) ≡ is_some (place_on (Some start) count)
   goes_on start zero le few = refl
   goes_on start (suc n) le few =
       ap₂ (λ (a b : Bool). a && b) (lt-ltb 0 (suc n) (omega arith)) (le-leb (start + suc n) (length history) le)
-      ∙ ap₂ (λ (a b : Bool). is_some (cond (a || b) None (Some (start + suc n)))) (sym (ne_eqb (suc n) 0 (λ is. omega (arith, is)))) (sym (lt-leb 18446744073709551616 (start + suc n) (omega (arith, le, few))))
+      ∙ ap₂ (λ (a b : Bool). is_some (cond (a || b) None (Some (start + suc n)))) (sym (ne_eqb (suc n) 0 (λ is. omega (arith, is))))
+          (sym (lt-leb 18446744073709551616 (start + suc n) (omega (arith, le, few))))
 
   at_work_on : (w : Bool) (o : Option ℕ) → (w && is_some o) ≡ is_some (cond w o None)
   at_work_on true o = refl
   at_work_on false o = refl
 
   module _ (sub count : ℕ) where
-    advance_enabled : (start : ℕ) → cursor_of sub old.session.carried.own.subs ≡ Some start → start + count ≤ length history → length history < 18446744073709551616 → enabled app history (as_conn old) (act.Advance sub count) ≡ can_advance sub count old.session
+    advance_enabled : (start : ℕ) → cursor_of sub old.session.carried.own.subs ≡ Some start → start + count ≤ length history →
+        length history < 18446744073709551616 → enabled app history (as_conn old) (act.Advance sub count) ≡ can_advance sub count old.session
     advance_enabled start is le few =
-        ap₂ (λ (w : Bool) (o : Option ℕ). w && may_advance (length history) count o) (at_work_is app name history old p) (ap (λ (st : State). cursor_of sub st.subs) (state_is app name history old p) ∙ is)
+        ap₂ (λ (w : Bool) (o : Option ℕ). w && may_advance (length history) count o) (at_work_is app name history old p)
+            (ap (λ (st : State). cursor_of sub st.subs) (state_is app name history old p) ∙ is)
         ∙ (ap (λ b. is_at_work old.session && b) (goes_on start count le few)
         ∙ (at_work_on (is_at_work old.session) (place_on (Some start) count)
         ∙ ap (λ (o : Option ℕ). is_some (cond (is_at_work old.session) (place_on o count) None)) (sym is)))
 
     -- the changes of so many entries behind the cursor's lead on
-    batch : (start : ℕ) (changes : List Change) → cursor_of sub old.session.carried.own.subs ≡ Some start → start + count ≤ length history → changes ≡ changes_between (programs app) history start count →
+    batch : (start : ℕ) (changes : List Change) → cursor_of sub old.session.carried.own.subs ≡ Some start → start + count ≤ length history →
+        changes ≡ changes_between (programs app) history start count →
         IsBatch C (cursor_of sub old.session.carried.own.subs) start count changes
     batch start changes is le made_by =
         let n = old.session.carried.number in
@@ -143,24 +157,31 @@ module _ (app : App) (name : List ℕ) (history : List Entry) (old : AConnection
               (subst (λ (rows : Rows). Leads key_cmp (changes_of (changes_between (programs app) history start count)) (held_at (programs app) history start).rows rows) (sym later) (between_leads (programs app) history start count)));
         }
 
-    pub advance_makes : (start : ℕ) (changes : List Change) → cursor_of sub old.session.carried.own.subs ≡ Some start → start + count ≤ length history → length history < 18446744073709551616 →
-        changes ≡ changes_between (programs app) history start count → (result : Outcome) → Advances sub start count changes old.session s result → Makes app name history (act.Advance sub count) old (with_session s old) result
+    pub advance_makes : (start : ℕ) (changes : List Change) → cursor_of sub old.session.carried.own.subs ≡ Some start → start + count ≤ length history →
+        length history < 18446744073709551616 →
+        changes ≡ changes_between (programs app) history start count → (result : Outcome) → Advances sub start count changes old.session s result →
+            Makes app name history (act.Advance sub count) old (with_session s old) result
     advance_makes start changes is le few made_by (Ok u) r =
-        made app name history (act.Advance sub count) old (with_session s old) p (can_advance sub count old.session) (advance_enabled start is le few) refl refl (Ok u) r.enabled tt
+        made app name history (act.Advance sub count) old (with_session s old) p (can_advance sub count old.session)
+            (advance_enabled start is le few) refl refl (Ok u) r.enabled tt
         (shown_made (act.Advance sub count) (item.advance sub count) (apply sub (news_of r.done.news)) refl refl r.done.done r.done.waits (r.keeps old.received C old.sent p.means (batch start changes is le made_by)))
     advance_makes start changes is le few made_by (Err e) r =
-        made app name history (act.Advance sub count) old (with_session s old) p (can_advance sub count old.session) (advance_enabled start is le few) refl refl (Err e) tt r.cause tt
+        made app name history (act.Advance sub count) old (with_session s old) p (can_advance sub count old.session)
+            (advance_enabled start is le few) refl refl (Err e) tt r.cause tt
 
     fed_within : {news : List Publish} → (f : IsFeed C sub count news old.session) → f.from + count ≤ length history
     fed_within f = omega (arith, f.within, moments_length app old.session.carried.number history)
 
     -- it is fed
-    pub feed_makes : (news : List Publish) → (f : IsFeed C sub count news old.session) → length history < 18446744073709551616 → (result : Outcome) → Feeds sub count news old.session s result → Makes app name history (act.Advance sub count) old (with_session s old) result
+    pub feed_makes : (news : List Publish) → (f : IsFeed C sub count news old.session) → length history < 18446744073709551616 → (result : Outcome) →
+        Feeds sub count news old.session s result → Makes app name history (act.Advance sub count) old (with_session s old) result
     feed_makes news f few (Ok u) r =
-        made app name history (act.Advance sub count) old (with_session s old) p (can_advance sub count old.session) (advance_enabled f.from f.loaded (fed_within f) few) refl refl (Ok u) r.enabled tt
+        made app name history (act.Advance sub count) old (with_session s old) p (can_advance sub count old.session)
+            (advance_enabled f.from f.loaded (fed_within f) few) refl refl (Ok u) r.enabled tt
         (shown_made (act.Advance sub count) (item.advance sub count) (apply sub (news_of news)) refl refl r.done.done r.done.waits (r.keeps old.received C old.sent p.means f))
     feed_makes news f few (Err e) r =
-        made app name history (act.Advance sub count) old (with_session s old) p (can_advance sub count old.session) (advance_enabled f.from f.loaded (fed_within f) few) refl refl (Err e) tt r.cause tt
+        made app name history (act.Advance sub count) old (with_session s old) p (can_advance sub count old.session)
+            (advance_enabled f.from f.loaded (fed_within f) few) refl refl (Err e) tt r.cause tt
 
 -- ---- where it is, and what it may be fed with
 
@@ -172,7 +193,8 @@ place_within n s place (l ∷ ls) w e =
       | false ↦ λ c. place_within n s place ls w.1 c
     ] e
 
-module _ (app : App) (name : List ℕ) (history : List Entry) (old : AConnection) (p : IsConnection app name history old) (sub start : ℕ) (is : cursor_of sub old.session.carried.own.subs ≡ Some start) where
+module _ (app : App) (name : List ℕ) (history : List Entry) (old : AConnection) (p : IsConnection app name history old) (sub start : ℕ)
+    (is : cursor_of sub old.session.carried.own.subs ≡ Some start) where
   -- a subscription is loaded at a place of the history
   pub cursor_within : start ≤ length history
   cursor_within =
@@ -184,7 +206,8 @@ module _ (app : App) (name : List ℕ) (history : List Entry) (old : AConnection
 
   -- News with which what its cursors publish there becomes what they publish so many entries on feed it, where none of them has a limit.
   pub leading_feeds : (count : ℕ) (news : List Publish) → start + count ≤ length history → HaveNoLimit (cursors_at sub old.session) →
-      renewed key_cmp (queried (cursors_at sub old.session) (held_at (programs app) history start).rows) (news_of news) ≡ queried (cursors_at sub old.session) (held_at (programs app) history (start + count)).rows →
+      renewed key_cmp (queried (cursors_at sub old.session) (held_at (programs app) history start).rows) (news_of news) ≡ queried
+          (cursors_at sub old.session) (held_at (programs app) history (start + count)).rows →
       IsFeed (moments app old.session.carried.number history) sub count news old.session
   leading_feeds count news le none leads =
       let n = old.session.carried.number in
@@ -197,12 +220,14 @@ module _ (app : App) (name : List ℕ) (history : List Entry) (old : AConnection
         loaded = is;
         within = omega (arith, le, moments_length app n history);
         no_limit = none;
-        leads = ap (λ (rows : Rows). renewed key_cmp (queried cursors rows) (news_of news)) before ∙ (leads ∙ sym (ap (λ (rows : Rows). queried cursors rows) later));
+        leads = ap (λ (rows : Rows). renewed key_cmp (queried cursors rows) (news_of news)) before
+            ∙ (leads ∙ sym (ap (λ (rows : Rows). queried cursors rows) later));
       }
 
   -- So does the difference of what they publish there and so many entries on.
   pub difference_feeds : (count : ℕ) (news : List Publish) → start + count ≤ length history → HaveNoLimit (cursors_at sub old.session) →
-      IsDifference (published (cursors_at sub old.session) (held_at (programs app) history start).rows) (published (cursors_at sub old.session) (held_at (programs app) history (start + count)).rows) (news_of news) →
+      IsDifference (published (cursors_at sub old.session) (held_at (programs app) history start).rows)
+          (published (cursors_at sub old.session) (held_at (programs app) history (start + count)).rows) (news_of news) →
       IsFeed (moments app old.session.carried.number history) sub count news old.session
   difference_feeds count news le none d =
       leading_feeds count news le none

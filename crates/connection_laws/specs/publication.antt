@@ -1,4 +1,4 @@
 -- What crates above name of `publication`.
-pub use Rattle.link_laws.specs.publication.Cursors
-pub use Rattle.link_laws.specs.publication.Published
-pub use Rattle.link_laws.specs.publication.declared
+pub use Rattle.world_invariant_laws.specs.publication.Cursors
+pub use Rattle.world_invariant_laws.specs.publication.Published
+pub use Rattle.world_invariant_laws.specs.publication.declared

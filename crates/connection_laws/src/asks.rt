@@ -2,15 +2,15 @@
 ghost use Rattle.std.specs.Prelude.{◌≡◌, ℕ, List, Result, true, false};
 ghost use Rattle.value_model.specs.Val.{Val};
 ghost use Rattle.app_model.specs.App.{App};
-ghost use Rattle.link_laws.specs.history_model.declared.entry.Entry.{Entry};
+ghost use Rattle.world_invariant_laws.specs.history_model.declared.entry.Entry.{Entry};
 ghost use Rattle.client_model.specs.Asking.{can_sub, subscribed, can_unsub, unsubscribed, can_send, with_text};
 ghost use Rattle.client_core.specs.declared.fault.ClientFault.{ClientFault};
 ghost use Rattle.client_core.specs.State.{Own};
 ghost use Rattle.client_core.specs.Asked.{Does, Calls};
 ghost use Rattle.session_laws.specs.Session.{ASession};
 ghost use Rattle.session_laws.specs.Events.{Closes};
-ghost use Rattle.link_laws.specs.core_model.Asks.{Ask, can_ask};
-ghost use Rattle.link_laws.specs.core_model.Asks as ask;
+ghost use Rattle.world_invariant_laws.specs.world_model.Asks.{Ask, can_ask};
+ghost use Rattle.world_invariant_laws.specs.world_model.Asks as ask;
 ghost use Rattle.connection_laws.specs.Connection.{AConnection, as_conn, IsConnection};
 ghost use Rattle.connection_laws.specs.Acting.{with_own, with_raw, gone};
 ghost use Rattle.connection_laws.specs.Asks.{IsAsked, MakesAsked};

@@ -3,12 +3,12 @@ ghost use Rattle.std.specs.Prelude.{◌≡◌, ℕ, List, ◌++◌};
 ghost use Rattle.ejson_value.specs.declared.value.Value.{Value as AValue};
 ghost use Rattle.ejson_value.specs.View.{view};
 ghost use Rattle.app_model.specs.App.{App};
-ghost use Rattle.link_laws.specs.history_model.declared.entry.Entry.{Entry};
-ghost use Rattle.client_parts.specs.Lines.{line_texts};
+ghost use Rattle.world_invariant_laws.specs.history_model.declared.entry.Entry.{Entry};
+ghost use Rattle.client_core.specs.Lines.{line_texts};
 ghost use Rattle.client_core.specs.State.{show_lines};
-ghost use Rattle.link_laws.specs.core_model.Store.{value_of};
-ghost use Rattle.link_laws.specs.core_model.Conn.{new_conn, state_in};
-ghost use Rattle.link_laws.specs.core_model.Lines.{show_values, journal_lines, texts_of};
+ghost use Rattle.world_invariant_laws.specs.world_model.Store.{value_of};
+ghost use Rattle.world_invariant_laws.specs.world_model.Conn.{new_conn, state_in};
+ghost use Rattle.world_invariant_laws.specs.world_model.Lines.{show_values, journal_lines, texts_of};
 ghost use Rattle.connection_laws.specs.Connection.{AConnection, new_connection, as_conn, IsConnection};
 ghost use Rattle.connection_laws.specs.Printing.{kept_journal};
 

@@ -8,7 +8,7 @@ use Rattle.duct.specs.Polls.{has_closed}
 use Rattle.app_model.specs.App.{App}
 use Rattle.client_model.specs.Client.{new_client}
 use Rattle.client_model.specs.Asking.{is_connected, is_settled}
-use Rattle.client_parts.specs.Lines.{line_texts}
+use Rattle.client_core.specs.Lines.{line_texts}
 use Rattle.client_core.specs.State.{Own, show_lines}
 use Rattle.client_script.specs.declared.line.Line.{Line}
 use Rattle.client_script.specs.declared.line.Line.TheVariants as line
@@ -59,7 +59,8 @@ HasDone ended.Done own script line back = (line ≡ length script) × (is_connec
 HasDone _ own script line back = Unit {0}
 
 module _ {L : Type 0} (steps_of : L → Call → L → Type 0) where
-  pub record Consoles (app : App) (script : List Line) (link : L) (held : Option (List ℕ)) (link' : L) (held' : Option (List ℕ)) (end : ConsoleEnd) : Type 0 where
+  pub record Consoles (app : App) (script : List Line) (link : L) (held : Option (List ℕ)) (link' : L) (held' : Option (List ℕ))
+      (end : ConsoleEnd) : Type 0 where
     -- what was done with the link
     pub calls : List Call
     pub leads : Leads steps_of link calls link'

@@ -2,7 +2,7 @@
 use Rattle.std.specs.Prelude.{◌≡◌, ℕ, List, ◌∷◌, Bool, true, false, Result, Ok, Err}
 use Rattle.client_model.specs.Taking.{told_text}
 use Rattle.client_model.specs.Asking.{is_connected, is_settled, can_sub, subscribed, can_unsub, unsubscribed, can_call}
-use Rattle.client_parts.specs.Lines.{line_texts}
+use Rattle.client_core.specs.Lines.{line_texts}
 use Rattle.client_core.specs.State.{Own, show_lines}
 use Rattle.client_core.specs.Asked.{called_by}
 use Rattle.client_core.specs.declared.fault.ClientFault.{ClientFault}
@@ -41,7 +41,8 @@ look_of own = record {
 abbrev pub Does : Own → Deed → Own → Type 0
 Does own (deed.heard text) own' = own' ≡ told text own
 Does own (deed.asked ask) own' = own' ≡ asked ask own
-Does own (deed.said text) own' = (own.client.waiting ≡ text ∷ own'.client.waiting) × (own' ≡ record own { client = record own.client { waiting = own'.client.waiting } })
+Does own (deed.said text) own' =
+    (own.client.waiting ≡ text ∷ own'.client.waiting) × (own' ≡ record own { client = record own.client { waiting = own'.client.waiting } })
 
 -- it is done exactly where it can be
 abbrev pub IsAsked : {X : Type 0} → Own → Ask → Own → Result X ClientFault → Type 0

@@ -45,11 +45,13 @@ server_answer_only input m h = ap server_tree h.1 ∙ ap₂ if_object h.2 (ap (o
 
 -- ---- what a call gives
 
-pub found_from : {A M : Type 0} (view : A → M) (P : M → Type 0) (r : Result A MsgFault) (answer : Result M MsgFault) → GivesMessage view r answer → ((m : M) → answer ≡ Ok m → P m) → IfOk r (λ a. P (view a))
+pub found_from : {A M : Type 0} (view : A → M) (P : M → Type 0) (r : Result A MsgFault) (answer : Result M MsgFault) → GivesMessage view r answer →
+    ((m : M) → answer ≡ Ok m → P m) → IfOk r (λ a. P (view a))
 found_from view P (Ok a) answer is ok = ok (view a) is
 found_from view P (Err e) answer is ok = tt
 
-pub only_from : {A M : Type 0} (view : A → M) (r : Result A MsgFault) (answer : Result M MsgFault) (m : M) → GivesMessage view r answer → answer ≡ Ok m → GivesMessage view r (Ok m)
+pub only_from : {A M : Type 0} (view : A → M) (r : Result A MsgFault) (answer : Result M MsgFault) (m : M) → GivesMessage view r answer →
+    answer ≡ Ok m → GivesMessage view r (Ok m)
 only_from view (Ok a) answer m is known = sym known ∙ is
 only_from view (Err Parse) answer m is known = sym known ∙ is
 only_from view (Err (BadRequest name)) answer m is known = sym known ∙ is

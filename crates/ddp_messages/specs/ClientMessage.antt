@@ -27,12 +27,13 @@ client_view (shape.Sub id name params) = sub id name params
 client_view (shape.Unsub id) = unsub id
 client_view (shape.Method id name params seed) = method id name params (option_map view seed)
 
--- Which message a JSON object is, by its fields. Other fields are ignored, `session` of `connect` among them.
+-- Which message a JSON object is, by its fields. Other fields are ignored, `session_core` of `connect` among them.
 abbrev pub ClientReads : Data → ClientMessage → Type 0
 ClientReads d (connect version support) = IsNamed (codes "connect") d × Has (codes "version") as_str d version × MayHave (codes "support") texts_of d support
 ClientReads d (ping id) = IsNamed (codes "ping") d × MayHave (codes "id") as_str d id
 ClientReads d (pong id) = IsNamed (codes "pong") d × MayHave (codes "id") as_str d id
-ClientReads d (sub id name params) = IsNamed (codes "sub") d × Has (codes "id") id_of d id × Has (codes "name") as_str d name × HasOr [] (codes "params") values_of d params
+ClientReads d (sub id name params) =
+    IsNamed (codes "sub") d × Has (codes "id") id_of d id × Has (codes "name") as_str d name × HasOr [] (codes "params") values_of d params
 ClientReads d (unsub id) = IsNamed (codes "unsub") d × Has (codes "id") id_of d id
 ClientReads d (method id name params seed) =
     IsNamed (codes "method") d × Has (codes "id") id_of d id × Has (codes "method") as_str d name × HasOr [] (codes "params") values_of d params
@@ -57,7 +58,8 @@ unsub_reading d = option_map unsub (needed id_of (codes "id") d)
 
 abbrev pub method_reading : Data → Option ClientMessage
 method_reading d =
-    map₄ method (needed id_of (codes "id") d) (needed as_str (codes "method") d) (defaulted [] values_of (codes "params") d) (optional value_of (codes "randomSeed") d)
+    map₄ method (needed id_of (codes "id") d) (needed as_str (codes "method") d) (defaulted [] values_of (codes "params") d)
+        (optional value_of (codes "randomSeed") d)
 
 abbrev pub client_named : Data → List ℕ → Option ClientMessage
 client_named d name =

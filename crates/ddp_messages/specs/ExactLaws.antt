@@ -19,7 +19,8 @@ use Rattle.ddp_messages.specs.TextLaws.{Each, if_mapped}
 use Rattle.ddp_messages.specs.Written.{Table, with_member, present, text_items, unless_empty, texts_tree, document_tree, fault_written}
 use Rattle.ddp_messages.specs.Written.{client_table, client_written, data_table, data_members, server_table, server_written}
 
-with_exact : (key : List ℕ) (o : Option Data) (ms : Members) → IfSome o HasExactNumbers → MembersHaveExactNumbers ms → MembersHaveExactNumbers (with_member key o ms)
+with_exact : (key : List ℕ) (o : Option Data) (ms : Members) → IfSome o HasExactNumbers → MembersHaveExactNumbers ms →
+    MembersHaveExactNumbers (with_member key o ms)
 with_exact key None ms h rest = rest
 with_exact key (Some d) ms h rest = (h, rest)
 
@@ -53,7 +54,8 @@ cleared_exact [] = tt
 cleared_exact (s ∷ ss) = texts_exact (s ∷ ss)
 
 pub client_exact : (m : ClientMessage) → ClientHasValues m → HasExactNumbers (client_written m)
-client_exact (client.connect version support) h = present_exact (client_table (client.connect version support)) (tt, (if_mapped HasExactNumbers (λ ss. array (text_items ss)) support texts_exact, (tt, tt)))
+client_exact (client.connect version support) h = present_exact (client_table (client.connect version support))
+    (tt, (if_mapped HasExactNumbers (λ ss. array (text_items ss)) support texts_exact, (tt, tt)))
 client_exact (client.ping id) h = present_exact (client_table (client.ping id)) (text_exact id, (tt, tt))
 client_exact (client.pong id) h = present_exact (client_table (client.pong id)) (text_exact id, (tt, tt))
 client_exact (client.sub id name params) h = present_exact (client_table (client.sub id name params)) (tt, (tt, (tt, (exact_items (vals_of params) h, tt))))
@@ -63,7 +65,8 @@ client_exact (client.method id name params seed) h =
 
 data_exact : (m : DataMsg) → DataHasValues m → MembersHaveExactNumbers (data_members m)
 data_exact (Added key fields) h = present_exact (data_table (Added key fields)) (tt, (document_exact fields h, (tt, (tt, tt))))
-data_exact (Changed key fields cleared) h = present_exact (data_table (Changed key fields cleared)) (cleared_exact cleared, (tt, (fields_exact fields h, (tt, (tt, tt)))))
+data_exact (Changed key fields cleared) h =
+    present_exact (data_table (Changed key fields cleared)) (cleared_exact cleared, (tt, (fields_exact fields h, (tt, (tt, tt)))))
 data_exact (Removed key) h = (tt, (tt, (tt, tt)))
 
 pub server_exact : (m : ServerMessage) → ServerHasValues m → HasExactNumbers (server_written m)
@@ -71,11 +74,13 @@ server_exact (server.connected session) h = (tt, (tt, tt))
 server_exact (server.failed version) h = (tt, (tt, tt))
 server_exact (server.ping id) h = present_exact (server_table (server.ping id)) (text_exact id, (tt, tt))
 server_exact (server.pong id) h = present_exact (server_table (server.pong id)) (text_exact id, (tt, tt))
-server_exact (server.nosub id fault) h = present_exact (server_table (server.nosub id fault)) (if_mapped HasExactNumbers fault_written fault fault_exact, (tt, (tt, tt)))
+server_exact (server.nosub id fault) h =
+    present_exact (server_table (server.nosub id fault)) (if_mapped HasExactNumbers fault_written fault fault_exact, (tt, (tt, tt)))
 server_exact (server.ready subs) h = (tt, (texts_exact subs, tt))
 server_exact (server.about message) h = data_exact message h
 server_exact (server.finished id fault value) h =
-    present_exact (server_table (server.finished id fault value)) (if_mapped HasExactNumbers fault_written fault fault_exact, (tt, (tt, (value_exact value h, tt))))
+    present_exact (server_table (server.finished id fault value))
+        (if_mapped HasExactNumbers fault_written fault fault_exact, (tt, (tt, (value_exact value h, tt))))
 server_exact (server.updated methods) h = (texts_exact methods, (tt, tt))
 server_exact (server.refused reason offending) h = present_exact (server_table (server.refused reason offending)) (tt, (value_exact offending h, (tt, tt)))
 server_exact server.unknown h = tt

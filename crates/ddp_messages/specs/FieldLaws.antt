@@ -28,7 +28,8 @@ pub and_then_some : {A M : Type 0} (f : A → Option M) (x : Option A) (m : M) �
 and_then_some f None m h = absurd (cc h)
 and_then_some f (Some a) m h = (a, refl, h)
 
-pub map₂_some : {A B M : Type 0} (f : A → B → M) (x : Option A) (y : Option B) (m : M) → map₂ f x y ≡ Some m → (a : A) × (b : B) × (x ≡ Some a) × (y ≡ Some b) × (f a b ≡ m)
+pub map₂_some : {A B M : Type 0} (f : A → B → M) (x : Option A) (y : Option B) (m : M) → map₂ f x y ≡ Some m →
+    (a : A) × (b : B) × (x ≡ Some a) × (y ≡ Some b) × (f a b ≡ m)
 map₂_some f None y m h = absurd (cc h)
 map₂_some f (Some a) y m h = let p = map_some (f a) y m h in (a, p.0, refl, p.1, p.2)
 
@@ -43,7 +44,8 @@ map₄_some f None y z w m h = absurd (cc h)
 map₄_some f (Some a) y z w m h = let p = map₃_some (f a) y z w m h in (a, p.0, p.1, p.2, refl, p.3, p.4, p.5, p.6)
 
 -- one test of many
-pub by_test : {M P : Type 0} (b : Bool) (x y : Option M) (m : M) → (b ≡ true → x ≡ Some m → P) → (b ≡ false → y ≡ Some m → P) → (if b then x else y) ≡ Some m → P
+pub by_test : {M P : Type 0} (b : Bool) (x y : Option M) (m : M) → (b ≡ true → x ≡ Some m → P) → (b ≡ false → y ≡ Some m → P) →
+    (if b then x else y) ≡ Some m → P
 by_test true x y m p q h = p refl h
 by_test false x y m p q h = q refl h
 
@@ -52,7 +54,8 @@ by_test false x y m p q h = q refl h
 pub map₂_from : {A B M : Type 0} (f : A → B → M) (x : Option A) (y : Option B) (a : A) (b : B) → x ≡ Some a → y ≡ Some b → map₂ f x y ≡ Some (f a b)
 map₂_from {A = A} f x y a b hx hy = ap (λ (o : Option A). map₂ f o y) hx ∙ ap (option_map (f a)) hy
 
-pub map₃_from : {A B C M : Type 0} (f : A → B → C → M) (x : Option A) (y : Option B) (z : Option C) (a : A) (b : B) (c : C) → x ≡ Some a → y ≡ Some b → z ≡ Some c
+pub map₃_from : {A B C M : Type 0} (f : A → B → C → M) (x : Option A) (y : Option B) (z : Option C) (a : A) (b : B) (c : C) → x ≡ Some a → y ≡ Some b →
+    z ≡ Some c
     → map₃ f x y z ≡ Some (f a b c)
 map₃_from {A = A} f x y z a b c hx hy hz = ap (λ (o : Option A). map₃ f o y z) hx ∙ map₂_from (f a) y z b c hy hz
 
@@ -72,7 +75,8 @@ texts_back (s ∷ ss) = ap (option_map (λ (more : List (List ℕ)). s ∷ more)
 pub ids_back : (ids : List (List ℕ)) → AreShort ids → each_of id_of (text_items ids) ≡ Some ids
 ids_back [] h = refl
 ids_back (id ∷ ids) h =
-    ap (λ (o : Option (List ℕ)). with_first o (each_of id_of (text_items ids))) (id_back id h.0) ∙ ap (option_map (λ (more : List (List ℕ)). id ∷ more)) (ids_back ids h.1)
+    ap (λ (o : Option (List ℕ)). with_first o (each_of id_of (text_items ids))) (id_back id h.0)
+        ∙ ap (option_map (λ (more : List (List ℕ)). id ∷ more)) (ids_back ids h.1)
 
 pub value_back : (v : Val) → IsValue v → IsShallow v → value_of (written v) ≡ Some v
 value_back v is shallow = ap ok_of (reads_only max_levels (written v) v (reads_written v is) shallow)

@@ -1,3 +1,5 @@
+pub mod ReadTreeLaws
+pub mod MessageLaws
 pub mod Wire
 pub mod WireLaws
 pub mod Faults

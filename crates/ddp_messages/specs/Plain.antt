@@ -133,7 +133,8 @@ abbrev pub method_with : Option Val → List ℕ → List ℕ → List Val → C
 method_with seed id name params = method id name params seed
 
 abbrev pub method_in : Lookup → Option ClientMessage
-method_in find = map₃ (method_with (find (codes "randomSeed"))) (needed_in id_in (codes "id") find) (needed_in text_in (codes "method") find) (defaulted_in [] values_in (codes "params") find)
+method_in find = map₃ (method_with (find (codes "randomSeed"))) (needed_in id_in (codes "id") find) (needed_in text_in (codes "method") find)
+    (defaulted_in [] values_in (codes "params") find)
 
 abbrev pub client_named_in : Lookup → List ℕ → Option ClientMessage
 client_named_in find name =

@@ -23,7 +23,8 @@ use Rattle.ddp_messages.specs.ClientMessage.{ClientMessage}
 use Rattle.ddp_messages.specs.ClientMessage as client
 use Rattle.ddp_messages.specs.ServerMessage.{ServerMessage}
 use Rattle.ddp_messages.specs.ServerMessage as server
-use Rattle.ddp_messages.specs.Written.{Table, with_member, present, text_items, unless_empty, texts_tree, document_tree, fault_table, fault_written, client_table, client_written, data_table, server_table, server_written}
+use Rattle.ddp_messages.specs.Written.{Table, with_member, present, text_items, unless_empty, texts_tree, document_tree, fault_table, fault_written,
+    client_table, client_written, data_table, server_table, server_written}
 use Rattle.ddp_messages.specs.Limits.{ClientHasValues, DataHasValues, ServerHasValues}
 use Rattle.ddp_messages.specs.TextLaws.{Each, if_mapped}
 
@@ -44,13 +45,15 @@ less Less h = refl
 less Equal h = absurd (cc h)
 less Greater h = absurd (cc h)
 
-below_all : (key : List ℕ) (keys : List (List ℕ)) → list_all (λ later. is_less (text_cmp key later)) keys ≡ true → AllByRecursion (λ later. text_cmp key later ≡ Less) keys
+below_all : (key : List ℕ) (keys : List (List ℕ)) → list_all (λ later. is_less (text_cmp key later)) keys ≡ true →
+    AllByRecursion (λ later. text_cmp key later ≡ Less) keys
 below_all key [] h = tt
 below_all key (later ∷ keys) h =
     let p = and_parts (is_less (text_cmp key later)) (list_all (λ (x : List ℕ). is_less (text_cmp key x)) keys) h in
     (less (text_cmp key later) p.0, below_all key keys p.1)
 
-all_with : (P : List ℕ → Type 0) (key : List ℕ) (o : Option Data) (fs : Table) → P key → AllByRecursion P (keys_of_members (present fs)) → AllByRecursion P (keys_of_members (with_member key o (present fs)))
+all_with : (P : List ℕ → Type 0) (key : List ℕ) (o : Option Data) (fs : Table) → P key → AllByRecursion P (keys_of_members (present fs)) →
+    AllByRecursion P (keys_of_members (with_member key o (present fs)))
 all_with P key None fs here rest = rest
 all_with P key (Some d) fs here rest = (here, rest)
 
@@ -76,7 +79,8 @@ sorted_present (f ∷ fs) h =
 
 -- ---- what stands at them
 
-rising_with : (key : List ℕ) (o : Option Data) (fs : Table) → IfSome o HasRisingKeys → MembersHaveRisingKeys (present fs) → MembersHaveRisingKeys (with_member key o (present fs))
+rising_with : (key : List ℕ) (o : Option Data) (fs : Table) → IfSome o HasRisingKeys → MembersHaveRisingKeys (present fs) →
+    MembersHaveRisingKeys (with_member key o (present fs))
 rising_with key None fs h rest = rest
 rising_with key (Some d) fs h rest = (h, rest)
 
@@ -136,11 +140,13 @@ server_rising (server.connected session) h = of_table (server_table (server.conn
 server_rising (server.failed version) h = of_table (server_table (server.failed version)) refl (tt, (tt, tt))
 server_rising (server.ping id) h = of_table (server_table (server.ping id)) refl (rising_text_option id, (tt, tt))
 server_rising (server.pong id) h = of_table (server_table (server.pong id)) refl (rising_text_option id, (tt, tt))
-server_rising (server.nosub id fault) h = of_table (server_table (server.nosub id fault)) refl (if_mapped HasRisingKeys fault_written fault rising_fault, (tt, (tt, tt)))
+server_rising (server.nosub id fault) h =
+    of_table (server_table (server.nosub id fault)) refl (if_mapped HasRisingKeys fault_written fault rising_fault, (tt, (tt, tt)))
 server_rising (server.ready subs) h = of_table (server_table (server.ready subs)) refl (tt, (rising_texts subs, tt))
 server_rising (server.about message) h = data_rising message h
 server_rising (server.finished id fault value) h =
-    of_table (server_table (server.finished id fault value)) refl (if_mapped HasRisingKeys fault_written fault rising_fault, (tt, (tt, (rising_optional value h, tt))))
+    of_table (server_table (server.finished id fault value)) refl
+        (if_mapped HasRisingKeys fault_written fault rising_fault, (tt, (tt, (rising_optional value h, tt))))
 server_rising (server.updated methods) h = of_table (server_table (server.updated methods)) refl (rising_texts methods, (tt, tt))
 server_rising (server.refused reason offending) h = of_table (server_table (server.refused reason offending)) refl (tt, (rising_optional offending h, (tt, tt)))
 server_rising server.unknown h = of_table [] refl tt

@@ -18,7 +18,8 @@ use Rattle.ddp_messages.specs.ClientMessage.{ClientMessage}
 use Rattle.ddp_messages.specs.ClientMessage as client
 use Rattle.ddp_messages.specs.ServerMessage.{ServerMessage}
 use Rattle.ddp_messages.specs.ServerMessage as server
-use Rattle.ddp_messages.specs.Written.{Table, with_member, present, text_items, unless_empty, texts_tree, document_tree, fault_written, client_table, client_members, client_written, data_table, data_members, server_table, server_members, server_written}
+use Rattle.ddp_messages.specs.Written.{Table, with_member, present, text_items, unless_empty, texts_tree, document_tree, fault_written, client_table,
+    client_members, client_written, data_table, data_members, server_table, server_members, server_written}
 use Rattle.ddp_messages.specs.Limits.{IsShallow, AreShallow, ClientKeepsLimits, DataKeepsLimits, ServerKeepsLimits}
 
 -- each tree of the table that is there is such
@@ -35,7 +36,8 @@ if_mapped P tree (Some a) all = all a
 abbrev NoFloat : Data → Type 0
 NoFloat d = has_float d ≡ false
 
-with_no_float : (key : List ℕ) (o : Option Data) (ms : Members) → IfSome o NoFloat → members_have_float ms ≡ false → members_have_float (with_member key o ms) ≡ false
+with_no_float : (key : List ℕ) (o : Option Data) (ms : Members) → IfSome o NoFloat → members_have_float ms ≡ false →
+    members_have_float (with_member key o ms) ≡ false
 with_no_float key None ms h rest = rest
 with_no_float key (Some d) ms h rest = or_from (has_float d) (members_have_float ms) h rest
 
@@ -57,12 +59,14 @@ document_no_float : (es : Entries) → NoFloat (written (value.object (fields_of
 document_no_float es = has_float-written (value.object (fields_of es))
 
 pub client_no_float : (m : ClientMessage) → has_float (client_written m) ≡ false
-client_no_float (client.connect version support) = present_no_float (client_table (client.connect version support)) (refl, (if_mapped NoFloat (λ ss. array (text_items ss)) support texts_no_float, (refl, tt)))
+client_no_float (client.connect version support) = present_no_float (client_table (client.connect version support))
+    (refl, (if_mapped NoFloat (λ ss. array (text_items ss)) support texts_no_float, (refl, tt)))
 client_no_float (client.ping id) = present_no_float (client_table (client.ping id)) (if_mapped NoFloat string id (λ s. refl), (refl, tt))
 client_no_float (client.pong id) = present_no_float (client_table (client.pong id)) (if_mapped NoFloat string id (λ s. refl), (refl, tt))
 client_no_float (client.sub id name params) = present_no_float (client_table (client.sub id name params)) (refl, (refl, (refl, (values_no_float params, tt))))
 client_no_float (client.unsub id) = refl
-client_no_float (client.method id name params seed) = present_no_float (client_table (client.method id name params seed)) (refl, (refl, (refl, (values_no_float params, (if_mapped NoFloat written seed has_float-written, tt)))))
+client_no_float (client.method id name params seed) = present_no_float (client_table (client.method id name params seed))
+    (refl, (refl, (refl, (values_no_float params, (if_mapped NoFloat written seed has_float-written, tt)))))
 
 cleared_no_float : (ss : List (List ℕ)) → IfSome (unless_empty texts_tree ss) NoFloat
 cleared_no_float [] = tt
@@ -74,7 +78,8 @@ fields_no_float (e ∷ es) = document_no_float (e ∷ es)
 
 data_no_float : (m : DataMsg) → has_float (object (data_members m)) ≡ false
 data_no_float (Added key fields) = present_no_float (data_table (Added key fields)) (refl, (document_no_float fields, (refl, (refl, tt))))
-data_no_float (Changed key fields cleared) = present_no_float (data_table (Changed key fields cleared)) (cleared_no_float cleared, (refl, (fields_no_float fields, (refl, (refl, tt)))))
+data_no_float (Changed key fields cleared) =
+    present_no_float (data_table (Changed key fields cleared)) (cleared_no_float cleared, (refl, (fields_no_float fields, (refl, (refl, tt)))))
 data_no_float (Removed key) = refl
 
 pub server_no_float : (m : ServerMessage) → has_float (server_written m) ≡ false
@@ -82,13 +87,16 @@ server_no_float (server.connected session) = refl
 server_no_float (server.failed version) = refl
 server_no_float (server.ping id) = present_no_float (server_table (server.ping id)) (if_mapped NoFloat string id (λ s. refl), (refl, tt))
 server_no_float (server.pong id) = present_no_float (server_table (server.pong id)) (if_mapped NoFloat string id (λ s. refl), (refl, tt))
-server_no_float (server.nosub id fault) = present_no_float (server_table (server.nosub id fault)) (if_mapped NoFloat fault_written fault fault_no_float, (refl, (refl, tt)))
+server_no_float (server.nosub id fault) =
+    present_no_float (server_table (server.nosub id fault)) (if_mapped NoFloat fault_written fault fault_no_float, (refl, (refl, tt)))
 server_no_float (server.ready subs) = present_no_float (server_table (server.ready subs)) (refl, (texts_no_float subs, tt))
 server_no_float (server.about message) = data_no_float message
 server_no_float (server.finished id fault value) =
-    present_no_float (server_table (server.finished id fault value)) (if_mapped NoFloat fault_written fault fault_no_float, (refl, (refl, (if_mapped NoFloat written value has_float-written, tt))))
+    present_no_float (server_table (server.finished id fault value))
+        (if_mapped NoFloat fault_written fault fault_no_float, (refl, (refl, (if_mapped NoFloat written value has_float-written, tt))))
 server_no_float (server.updated methods) = present_no_float (server_table (server.updated methods)) (texts_no_float methods, (refl, tt))
-server_no_float (server.refused reason offending) = present_no_float (server_table (server.refused reason offending)) (refl, (if_mapped NoFloat written offending has_float-written, (refl, tt)))
+server_no_float (server.refused reason offending) =
+    present_no_float (server_table (server.refused reason offending)) (refl, (if_mapped NoFloat written offending has_float-written, (refl, tt)))
 server_no_float server.unknown = refl
 
 -- ---- depth: twice the levels of a value and one more, for the deepest list of values
@@ -138,12 +146,15 @@ within_json : (ms : Members) → members_depth ms ≤ most → depth (object ms)
 within_json ms h = omega (arith, h)
 
 client_low : (m : ClientMessage) → ClientKeepsLimits m → members_depth (client_members m) ≤ most
-client_low (client.connect version support) h = present_low (client_table (client.connect version support)) (low_text [], (if_mapped Low (λ ss. array (text_items ss)) support low_texts, (low_text version, tt)))
+client_low (client.connect version support) h = present_low (client_table (client.connect version support))
+    (low_text [], (if_mapped Low (λ ss. array (text_items ss)) support low_texts, (low_text version, tt)))
 client_low (client.ping id) h = present_low (client_table (client.ping id)) (if_mapped Low string id low_text, (low_text [], tt))
 client_low (client.pong id) h = present_low (client_table (client.pong id)) (if_mapped Low string id low_text, (low_text [], tt))
-client_low (client.sub id name params) h = present_low (client_table (client.sub id name params)) (low_text id, (low_text [], (low_text name, (low_values params h.1, tt))))
+client_low (client.sub id name params) h =
+    present_low (client_table (client.sub id name params)) (low_text id, (low_text [], (low_text name, (low_values params h.1, tt))))
 client_low (client.unsub id) h = present_low (client_table (client.unsub id)) (low_text id, (low_text [], tt))
-client_low (client.method id name params seed) h = present_low (client_table (client.method id name params seed)) (low_text id, (low_text name, (low_text [], (low_values params h.1, (low_optional seed h.2, tt)))))
+client_low (client.method id name params seed) h = present_low (client_table (client.method id name params seed))
+    (low_text id, (low_text name, (low_text [], (low_values params h.1, (low_optional seed h.2, tt)))))
 
 pub client_depth : (m : ClientMessage) → ClientKeepsLimits m → depth (client_written m) ≤ json.max_depth
 client_depth m h = within_json (client_members m) (client_low m h)
@@ -157,8 +168,10 @@ low_fields [] h = tt
 low_fields (e ∷ es) h = low_value (value.object (fields_of (e ∷ es))) h
 
 data_low : (m : DataMsg) → DataKeepsLimits m → members_depth (data_members m) ≤ most
-data_low (Added key fields) h = present_low (data_table (Added key fields)) (low_text key.collection, (low_value (value.object (fields_of fields)) h.1, (low_text [], (low_text [], tt))))
-data_low (Changed key fields cleared) h = present_low (data_table (Changed key fields cleared)) (low_cleared cleared, (low_text key.collection, (low_fields fields h.1, (low_text [], (low_text [], tt)))))
+data_low (Added key fields) h = present_low (data_table (Added key fields))
+    (low_text key.collection, (low_value (value.object (fields_of fields)) h.1, (low_text [], (low_text [], tt))))
+data_low (Changed key fields cleared) h = present_low (data_table (Changed key fields cleared))
+    (low_cleared cleared, (low_text key.collection, (low_fields fields h.1, (low_text [], (low_text [], tt)))))
 data_low (Removed key) h = present_low (data_table (Removed key)) (low_text key.collection, (low_text [], (low_text [], tt)))
 
 server_low : (m : ServerMessage) → ServerKeepsLimits m → members_depth (server_members m) ≤ most
@@ -166,12 +179,15 @@ server_low (server.connected session) h = present_low (server_table (server.conn
 server_low (server.failed version) h = present_low (server_table (server.failed version)) (low_text [], (low_text version, tt))
 server_low (server.ping id) h = present_low (server_table (server.ping id)) (if_mapped Low string id low_text, (low_text [], tt))
 server_low (server.pong id) h = present_low (server_table (server.pong id)) (if_mapped Low string id low_text, (low_text [], tt))
-server_low (server.nosub id fault) h = present_low (server_table (server.nosub id fault)) (if_mapped Low fault_written fault low_fault, (low_text id, (low_text [], tt)))
+server_low (server.nosub id fault) h =
+    present_low (server_table (server.nosub id fault)) (if_mapped Low fault_written fault low_fault, (low_text id, (low_text [], tt)))
 server_low (server.ready subs) h = present_low (server_table (server.ready subs)) (low_text [], (low_texts subs, tt))
 server_low (server.about message) h = data_low message h
-server_low (server.finished id fault value) h = present_low (server_table (server.finished id fault value)) (if_mapped Low fault_written fault low_fault, (low_text id, (low_text [], (low_optional value h.1, tt))))
+server_low (server.finished id fault value) h = present_low (server_table (server.finished id fault value))
+    (if_mapped Low fault_written fault low_fault, (low_text id, (low_text [], (low_optional value h.1, tt))))
 server_low (server.updated methods) h = present_low (server_table (server.updated methods)) (low_texts methods, (low_text [], tt))
-server_low (server.refused reason offending) h = present_low (server_table (server.refused reason offending)) (low_text [], (low_optional offending h, (low_text reason, tt)))
+server_low (server.refused reason offending) h =
+    present_low (server_table (server.refused reason offending)) (low_text [], (low_optional offending h, (low_text reason, tt)))
 server_low server.unknown h = omega arith
 
 pub server_depth : (m : ServerMessage) → ServerKeepsLimits m → depth (server_written m) ≤ json.max_depth

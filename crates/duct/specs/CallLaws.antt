@@ -89,11 +89,14 @@ behind_answer a b calls answer blocked polls = rw (blocked, polls, has_closed-ap
 step_blocked : (a b : Told) (call : Call) (calls : List Call) → Tells a call b
     → (b.blocked || blocks (has_closed b.polls) calls) ≡ (a.blocked || blocks (has_closed a.polls) (call ∷ calls))
 step_blocked a b (heard Memory) calls p = rw (same_told b _ p, or-false (has_closed a.polls)) refl
-step_blocked a b (heard Failed) calls p = behind_answer a b calls Failed (ap (λ (t : Told). t.blocked) (same_told b _ p)) (ap (λ (t : Told). t.polls) (same_told b _ p))
+step_blocked a b (heard Failed) calls p =
+    behind_answer a b calls Failed (ap (λ (t : Told). t.blocked) (same_told b _ p)) (ap (λ (t : Told). t.polls) (same_told b _ p))
 step_blocked a b (heard (Message text)) calls p =
     behind_answer a b calls (Message text) (ap (λ (t : Told). t.blocked) (same_told b _ p.1)) (ap (λ (t : Told). t.polls) (same_told b _ p.1))
-step_blocked a b (heard Quiet) calls p = behind_answer a b calls Quiet (ap (λ (t : Told). t.blocked) (same_told b _ p.1)) (ap (λ (t : Told). t.polls) (same_told b _ p.1))
-step_blocked a b (heard Closed) calls p = behind_answer a b calls Closed (ap (λ (t : Told). t.blocked) (same_told b _ p.1)) (ap (λ (t : Told). t.polls) (same_told b _ p.1))
+step_blocked a b (heard Quiet) calls p =
+    behind_answer a b calls Quiet (ap (λ (t : Told). t.blocked) (same_told b _ p.1)) (ap (λ (t : Told). t.polls) (same_told b _ p.1))
+step_blocked a b (heard Closed) calls p =
+    behind_answer a b calls Closed (ap (λ (t : Told). t.blocked) (same_told b _ p.1)) (ap (λ (t : Told). t.polls) (same_told b _ p.1))
 step_blocked a b (said text) calls p = rw (same_told b _ p.2) refl
 step_blocked a b (handed_back text fault) calls p = rw (same_told b _ p.1) (or_assoc a.blocked (not (has_closed a.polls)) (blocks (has_closed a.polls) calls))
 
@@ -129,7 +132,8 @@ next_text (t ∷ texts) closed text is = ap (λ x. x ∷ texts) (sym (message_te
 next_text [] true text is = absurd (grind (arith, is))
 next_text [] false text is = absurd (grind (arith, is))
 
-nothing_next : (texts : List (List ℕ)) (closed : Bool) (answer : Polled) → answer ≡ next_of texts closed → heard_in (heard answer ∷ []) ≡ [] → texts ≡ drop 1 texts
+nothing_next : (texts : List (List ℕ)) (closed : Bool) (answer : Polled) → answer ≡ next_of texts closed → heard_in (heard answer ∷ []) ≡ [] →
+    texts ≡ drop 1 texts
 nothing_next [] closed answer is none = refl
 nothing_next (t ∷ texts) closed answer is none = absurd (grind (arith, none))
 
@@ -167,7 +171,8 @@ step_ring a b (heard Closed) p = (ap (λ (e : RingEnd). e.sent) p.1 ∙ sym (app
 step_ring a b (heard Failed) p = absurd p
 step_ring a b (heard Memory) p = absurd p
 step_ring a b (said text) p = (ap (λ (e : RingEnd). e.sent) p.2, ap (λ (e : RingEnd). e.taken) p.2 ∙ sym (append-nil a.taken))
-step_ring a b (handed_back text fault) p = (ap (λ (e : RingEnd). e.sent) p.2 ∙ sym (append-nil a.sent), ap (λ (e : RingEnd). e.taken) p.2 ∙ sym (append-nil a.taken))
+step_ring a b (handed_back text fault) p =
+    (ap (λ (e : RingEnd). e.sent) p.2 ∙ sym (append-nil a.sent), ap (λ (e : RingEnd). e.taken) p.2 ∙ sym (append-nil a.taken))
 
 -- an end of a ring: the texts sent and the texts taken, behind those before
 pub ring_sent : (a b : RingEnd) (calls : List Call) → Leads RingMakes a calls b → b.sent ≡ a.sent ++ said_in calls

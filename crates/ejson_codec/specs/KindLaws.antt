@@ -9,7 +9,8 @@ use Rattle.value_model.specs.ValLaws.{list_of-vals_of}
 use Rattle.ejson_value.specs.ResultLaws.{made-ok}
 use Rattle.ejson_codec.specs.Shape.{keys_of_members, shape_of, first_of}
 use Rattle.ejson_codec.specs.Base64.{bytes_of}
-use Rattle.ejson_codec.specs.Reading.{reading, items_reading, members_reading, number_reading, date_reading, bytes_reading, binary_reading, name_reading, user_made, object_made, by_shape, below, escape_reading, user_reading}
+use Rattle.ejson_codec.specs.Reading.{reading, items_reading, members_reading, number_reading, date_reading, bytes_reading, binary_reading,
+    name_reading, user_made, object_made, by_shape, below, escape_reading, user_reading}
 use Rattle.ejson_codec.specs.declared.fault.EjsonFault.{EjsonFault}
 use Rattle.ejson_codec.specs.declared.shape.Shape.{Shape}
 use Rattle.ejson_codec.specs.declared.shape.Shape.TheVariants.{Plain, Date, Binary, Escape, User, Unsupported}
@@ -65,7 +66,8 @@ user_is levels (member key named no_members) v h = absurd (cc h)
 user_is zero (member key named (member other d ms)) v h = absurd (cc h)
 user_is (suc levels) (member key named (member other d ms)) v h = user_made_is (name_reading named) (reading levels d) v h
 
-shape_is : (shape : Shape) (a b c d e : Result Val EjsonFault) (v : Val) → (a ≡ Ok v → IsMade v) → (b ≡ Ok v → IsMade v) → (c ≡ Ok v → IsMade v) → (d ≡ Ok v → IsMade v) → (e ≡ Ok v → IsMade v)
+shape_is : (shape : Shape) (a b c d e : Result Val EjsonFault) (v : Val) → (a ≡ Ok v → IsMade v) → (b ≡ Ok v → IsMade v) → (c ≡ Ok v → IsMade v) →
+    (d ≡ Ok v → IsMade v) → (e ≡ Ok v → IsMade v)
     → by_shape shape a b c d e ≡ Ok v → IsMade v
 shape_is Plain a b c d e v p q r s t h = p h
 shape_is Date a b c d e v p q r s t h = q h
@@ -76,8 +78,10 @@ shape_is Unsupported a b c d e v p q r s t h = absurd (cc h)
 
 made_is : (levels : ℕ) (ms : Members) (v : Val) → reading levels (json.object ms) ≡ Ok v → IsMade v
 made_is levels ms v h =
-    shape_is (shape_of (keys_of_members ms)) (object_made (below levels (λ left. members_reading left ms))) (date_reading (first_of ms)) (binary_reading (first_of ms)) (escape_reading levels ms) (user_reading levels ms) v
-    (λ is. object_is (below levels (λ left. members_reading left ms)) v is) (λ is. date_is (first_of ms) v is) (λ is. binary_is (first_of ms) v is) (λ is. escape_is levels ms v is) (λ is. user_is levels ms v is) h
+    shape_is (shape_of (keys_of_members ms)) (object_made (below levels (λ left. members_reading left ms))) (date_reading (first_of ms))
+        (binary_reading (first_of ms)) (escape_reading levels ms) (user_reading levels ms) v
+    (λ is. object_is (below levels (λ left. members_reading left ms)) v is) (λ is. date_is (first_of ms) v is) (λ is. binary_is (first_of ms) v is)
+        (λ is. escape_is levels ms v is) (λ is. user_is levels ms v is) h
 
 -- ---- texts and lists
 
@@ -87,7 +91,8 @@ text_is levels json.null s h = absurd (cc h)
 text_is levels (json.boolean b) s h = absurd (cc h)
 text_is levels (json.number n) s h = let p = made-ok int (number_reading n) (text s) h in absurd (cc p.2)
 text_is levels (json.string t) s h = let same : t ≡ s = cc h in ap (λ (x : List ℕ). Some x) same
-text_is levels (json.array ds) s h = let p = made-ok (λ (vs : List Val). list (vals_of vs)) (below levels (λ left. items_reading left ds)) (text s) h in absurd (cc p.2)
+text_is levels (json.array ds) s h =
+    let p = made-ok (λ (vs : List Val). list (vals_of vs)) (below levels (λ left. items_reading left ds)) (text s) h in absurd (cc p.2)
 text_is levels (json.object ms) s h = absurd (made_is levels ms (text s) h)
 
 in_below : {A : Type 0} (levels : ℕ) (f : ℕ → Result A EjsonFault) (a : A) → below levels f ≡ Ok a → (left : ℕ) × (left ≤ levels) × (f left ≡ Ok a)
@@ -95,7 +100,8 @@ in_below zero f a h = absurd (cc h)
 in_below (suc left) f a h = (left, omega arith, h)
 
 -- a tree that reads as a list is an array, whose elements read as those of the list
-pub list_is : (levels : ℕ) (d : Data) (vs : Vals) → reading levels d ≡ Ok (list vs) → (ds : Items) × (left : ℕ) × (as_array d ≡ Some ds) × (left ≤ levels) × (items_reading left ds ≡ Ok (list_of vs))
+pub list_is : (levels : ℕ) (d : Data) (vs : Vals) → reading levels d ≡ Ok (list vs) →
+    (ds : Items) × (left : ℕ) × (as_array d ≡ Some ds) × (left ≤ levels) × (items_reading left ds ≡ Ok (list_of vs))
 list_is levels json.null vs h = absurd (cc h)
 list_is levels (json.boolean b) vs h = absurd (cc h)
 list_is levels (json.number n) vs h = let p = made-ok int (number_reading n) (list vs) h in absurd (cc p.2)

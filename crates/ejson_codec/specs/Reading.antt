@@ -1,5 +1,6 @@
 -- What reading a JSON tree answers: its value, or its first fault in depth-first order, the elements of a list in order and the members of an object by key.
-use Rattle.std.specs.Prelude.{◌≡◌, ℕ, zero, suc, ℤ, pos, neg_ℤ, int_le, Bool, ◌&&◌, nat_lt, nat_le, length, List, [], ◌∷◌, Option, Some, None, Result, Ok, Err, if◌then◌else◌}
+use Rattle.std.specs.Prelude.{◌≡◌, ℕ, zero, suc, ℤ, pos, neg_ℤ, int_le, Bool, ◌&&◌, nat_lt, nat_le, length, List, [], ◌∷◌, Option, Some, None, Result,
+    Ok, Err, if◌then◌else◌}
 use Rattle.serde_json.specs.Data.{Num, Data, Items, no_items, item, Members, no_members, member}
 use Rattle.serde_json.specs.Data as json
 use Rattle.serde_json.specs.Find.{as_integer}
@@ -77,7 +78,8 @@ with_field key (Ok v) rest = made (λ es. (key, v) ∷ es) rest
 with_field key (Err e) rest = Err e
 
 -- the answer for what the object stands for
-abbrev pub by_shape : Shape → Result Val EjsonFault → Result Val EjsonFault → Result Val EjsonFault → Result Val EjsonFault → Result Val EjsonFault → Result Val EjsonFault
+abbrev pub by_shape : Shape → Result Val EjsonFault → Result Val EjsonFault → Result Val EjsonFault → Result Val EjsonFault → Result Val EjsonFault →
+    Result Val EjsonFault
 by_shape Plain on_plain on_date on_binary on_escape on_user = on_plain
 by_shape Date on_plain on_date on_binary on_escape on_user = on_date
 by_shape Binary on_plain on_date on_binary on_escape on_user = on_binary

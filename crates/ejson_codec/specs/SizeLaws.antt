@@ -1,5 +1,6 @@
 -- A value's size is the length of its text.
-use Rattle.std.specs.Prelude.{◌≡◌, ℕ, suc, ◌+◌, ◌*◌, ◌/◌, ◌%◌, ◌<◌, max, ℤ, pos, negsuc, Bool, true, false, ◌==◌, nat_lt, List, [], ◌∷◌, ◌++◌, All, length, slice_index, sum_by, replicate, codes, refl}
+use Rattle.std.specs.Prelude.{◌≡◌, ℕ, suc, ◌+◌, ◌*◌, ◌/◌, ◌%◌, ◌<◌, max, ℤ, pos, negsuc, Bool, true, false, ◌==◌, nat_lt, List, [], ◌∷◌, ◌++◌, All,
+    length, slice_index, sum_by, replicate, codes, refl}
 use Rattle.std.proofs.Common.{sym, ◌∙◌, arith, cond, inl, inr, zero}
 use Rattle.std.proofs.lemmas.Bool.{cases_Bool, eqb-true, cases_eq, ne_eqb}
 use Rattle.std.proofs.lemmas.List.{length-append}
@@ -139,7 +140,8 @@ user_size name d =
     let whole = length-append (quoted (codes "$type")) (58 ∷ (quoted name ++ behind)) in
     omega (arith, value, second, named, whole, quoted_size (codes "$type"), quoted_size (codes "$value"), quoted_size name)
 
-escaped_size : (special : Bool) (ms : Members) (n : ℕ) → length (compact_text (json.object ms)) ≡ n → length (compact_text (escaped_if special ms)) ≡ cond special 12 0 + n
+escaped_size : (special : Bool) (ms : Members) (n : ℕ) → length (compact_text (json.object ms)) ≡ n →
+    length (compact_text (escaped_if special ms)) ≡ cond special 12 0 + n
 escaped_size true ms n is = alone_size (codes "$escape") (json.object ms) ∙ omega (arith, is)
 escaped_size false ms n is = is ∙ omega arith
 

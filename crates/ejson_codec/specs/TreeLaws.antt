@@ -17,7 +17,8 @@ use Rattle.value_model.specs.Size.{names_of, is_special}
 use Rattle.ejson_codec.specs.Shape.{keys_of_members}
 use Rattle.ejson_codec.specs.Written.{escaped_if, written, items_written, members_written}
 use Rattle.ejson_codec.specs.WrittenLaws.{keys_of_members-members_written, plain_names}
-use Rattle.ejson_codec.specs.Trees.{IsHeldOnce, HoldsNumbersOnce, ItemsHoldNumbersOnce, MembersHoldNumbersOnce, IsTree, HasRisingKeys, ItemsHaveRisingKeys, MembersHaveRisingKeys, IsEscapedExactly, ItemsAreEscapedExactly, MembersAreEscapedExactly}
+use Rattle.ejson_codec.specs.Trees.{IsHeldOnce, HoldsNumbersOnce, ItemsHoldNumbersOnce, MembersHoldNumbersOnce, IsTree, HasRisingKeys,
+    ItemsHaveRisingKeys, MembersHaveRisingKeys, IsEscapedExactly, ItemsAreEscapedExactly, MembersAreEscapedExactly}
 
 -- ---- numbers
 
@@ -66,7 +67,8 @@ user_keys_rise : IsStrictlySortedBy text_cmp (codes "$type" ∷ codes "$value" �
 unfolding IsStrictlySortedBy
 user_keys_rise = ((refl, tt), (tt, tt))
 
-escaped_rises : (special : Bool) (ms : Members) → IsStrictlySortedBy text_cmp (keys_of_members ms) → MembersHaveRisingKeys ms → HasRisingKeys (escaped_if special ms)
+escaped_rises : (special : Bool) (ms : Members) → IsStrictlySortedBy text_cmp (keys_of_members ms) → MembersHaveRisingKeys ms →
+    HasRisingKeys (escaped_if special ms)
 escaped_rises true ms keys h = (one_rises (codes "$escape"), ((keys, h), tt))
 escaped_rises false ms keys h = (keys, h)
 
@@ -97,7 +99,8 @@ IsTree-written v h = record { numbers = holds_written v; keys = rising_written v
 
 -- ---- `$escape`
 
-escaped_exactly : (special : Bool) (ms : Members) → is_special (keys_of_members ms) ≡ special → MembersAreEscapedExactly ms → IsEscapedExactly (escaped_if special ms)
+escaped_exactly : (special : Bool) (ms : Members) → is_special (keys_of_members ms) ≡ special → MembersAreEscapedExactly ms →
+    IsEscapedExactly (escaped_if special ms)
 escaped_exactly true ms is h = (is, h)
 escaped_exactly false ms is h = rw (plain_names (keys_of_members ms) is) h
 
@@ -150,7 +153,8 @@ mutual
 
   members_float_written : (fs : Fields) → members_have_float (members_written fs) ≡ false
   members_float_written no_fields = refl
-  members_float_written (field name v fs) = or_from (has_float (written v)) (members_have_float (members_written fs)) (has_float-written v) (members_float_written fs)
+  members_float_written (field name v fs) =
+      or_from (has_float (written v)) (members_have_float (members_written fs)) (has_float-written v) (members_float_written fs)
 
 -- ---- depth
 

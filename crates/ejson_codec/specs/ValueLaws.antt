@@ -56,8 +56,10 @@ members_keys : (ms : Members) (es : Entries) → MembersRead ms es → keys_of_m
 members_keys no_members es h = sym (ap keys_of h)
 members_keys (member key d ms) es h = ap (λ ks. key ∷ ks) (members_keys ms h.1 h.3) ∙ sym (ap keys_of h.4)
 
-object_valid : (ms : Members) (es : Entries) → MembersRead ms es → IsStrictlySortedBy text_cmp (keys_of_members ms) → HaveValues (fields_of es) → IsValue (object (fields_of es))
-object_valid ms es h sorted values = (subst HasRisingNames (sym (entries_of-fields_of es)) (subst (IsStrictlySortedBy text_cmp) (members_keys ms es h) sorted), values)
+object_valid : (ms : Members) (es : Entries) → MembersRead ms es → IsStrictlySortedBy text_cmp (keys_of_members ms) → HaveValues (fields_of es) →
+    IsValue (object (fields_of es))
+object_valid ms es h sorted values =
+    (subst HasRisingNames (sym (entries_of-fields_of es)) (subst (IsStrictlySortedBy text_cmp) (members_keys ms es h) sorted), values)
 
 mutual
   pub reads_valid : (d : Data) (v : Val) → Reads d v → HasRisingKeys d → IsValue v
@@ -67,7 +69,8 @@ mutual
   reads_valid (tree.string s) v h k = subst IsValue (sym h) tt
   reads_valid (tree.array ds) v h k = subst IsValue (sym h.2) (items_valid ds h.0 h.1 k)
   reads_valid (tree.object ms) v h k =
-      by_shape (shape_of (keys_of_members ms)) ((es : Entries) × MembersRead ms es × (v ≡ object (fields_of es))) (IsDate (first_of ms) v) (IsBinary (first_of ms) v) (EscapeReads ms v) (UserReads ms v) (IsValue v)
+      by_shape (shape_of (keys_of_members ms)) ((es : Entries) × MembersRead ms es × (v ≡ object (fields_of es))) (IsDate (first_of ms) v)
+          (IsBinary (first_of ms) v) (EscapeReads ms v) (UserReads ms v) (IsValue v)
       (λ p. subst IsValue (sym p.2) (object_valid ms p.0 p.1 k.0 (fields_valid ms p.0 p.1 k.1)))
       (date_valid (first_of ms) v)
       (binary_valid (first_of ms) v)

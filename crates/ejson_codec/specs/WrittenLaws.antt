@@ -7,7 +7,8 @@ use Rattle.std.proofs.lemmas.Int.{ints}
 use Rattle.serde_json.specs.Data.{Num, unsigned, negative, float, Data, Items, no_items, item, Members, no_members, member}
 use Rattle.serde_json.specs.Data as json
 use Rattle.serde_json.specs.Find.{of_integer}
-use Rattle.value_model.specs.Val.{Val, null, boolean, int, text, date, bytes, list, object, user, Vals, no_vals, val, Fields, no_fields, field, vals_of, list_of, Entries, fields_of, entries_of}
+use Rattle.value_model.specs.Val.{Val, null, boolean, int, text, date, bytes, list, object, user, Vals, no_vals, val, Fields, no_fields, field,
+    vals_of, list_of, Entries, fields_of, entries_of}
 use Rattle.value_model.specs.ValLaws.{vals_of-list_of, fields_of-entries_of}
 use Rattle.value_model.specs.TruthLaws.{both_true}
 use Rattle.value_model.specs.Valid.{IsWhole, IsValue, AreValues, HaveValues}
@@ -15,7 +16,8 @@ use Rattle.value_model.specs.Size.{is_name, names_of, is_special}
 use Rattle.ejson_codec.specs.Shape.{keys_of_members, shape_of, shape_of_one, shape_of_two, first_of}
 use Rattle.ejson_codec.specs.Reads.{IsAccepted, IsDate, IsBinary, IsNamed, ByShape, Reads, ItemsRead, MembersRead, EscapeReads, UserReads}
 use Rattle.ejson_codec.specs.Written.{alone, escaped_if, user_object, written, items_written, members_written}
-use Rattle.ejson_codec.specs.Trees.{IsHeldOnce, HoldsNumbersOnce, ItemsHoldNumbersOnce, MembersHoldNumbersOnce, IsEscapedExactly, ItemsAreEscapedExactly, MembersAreEscapedExactly, EscapesSpecial}
+use Rattle.ejson_codec.specs.Trees.{IsHeldOnce, HoldsNumbersOnce, ItemsHoldNumbersOnce, MembersHoldNumbersOnce, IsEscapedExactly,
+    ItemsAreEscapedExactly, MembersAreEscapedExactly, EscapesSpecial}
 use Rattle.ejson_codec.specs.declared.shape.Shape.{Shape}
 use Rattle.ejson_codec.specs.declared.shape.Shape.TheVariants.{Plain, Date, Binary, Escape, User, Unsupported}
 
@@ -49,7 +51,8 @@ plain_names (a ∷ b ∷ []) h = plain_two a b h
 plain_names (a ∷ b ∷ c ∷ names) h = refl
 
 -- an object reads so under its own keys, or under `$escape`
-escaped_reads : (special : Bool) (ms : Members) (es : Entries) (v : Val) → (special ≡ false → shape_of (keys_of_members ms) ≡ Plain) → MembersRead ms es → v ≡ object (fields_of es)
+escaped_reads : (special : Bool) (ms : Members) (es : Entries) (v : Val) → (special ≡ false → shape_of (keys_of_members ms) ≡ Plain) →
+    MembersRead ms es → v ≡ object (fields_of es)
     → Reads (escaped_if special ms) v
 escaped_reads true ms es v plain inside is = (es, inside, is)
 escaped_reads false ms es v plain inside is = rw (plain refl) (es, inside, is)
@@ -97,7 +100,8 @@ OneKey Escape a = a ≡ codes "$escape"
 OneKey User a = ⊥
 OneKey Unsupported a = Unit {0}
 
-one_key_at : (a : List ℕ) (d b e i : Bool) → is_name a (codes "$date") ≡ d → is_name a (codes "$binary") ≡ b → is_name a (codes "$escape") ≡ e → is_name a (codes "$InfNaN") ≡ i
+one_key_at : (a : List ℕ) (d b e i : Bool) → is_name a (codes "$date") ≡ d → is_name a (codes "$binary") ≡ b → is_name a (codes "$escape") ≡ e →
+    is_name a (codes "$InfNaN") ≡ i
     → OneKey (shape_of_one a) a
 one_key_at a true b e i hd hb he hi = rw hd (name_is a (codes "$date") hd)
 one_key_at a false true e i hd hb he hi = rw (hd, hb) (name_is a (codes "$binary") hb)
@@ -128,7 +132,8 @@ key_set_one Escape a h = ap (λ (k : List ℕ). k ∷ []) h
 key_set_one User a h = absurd h
 key_set_one Unsupported a h = tt
 
-key_set_two : (a b : List ℕ) (r t : Bool) → (is_name a (codes "$flags") && is_name b (codes "$regexp")) ≡ r → (is_name a (codes "$type") && is_name b (codes "$value")) ≡ t
+key_set_two : (a b : List ℕ) (r t : Bool) → (is_name a (codes "$flags") && is_name b (codes "$regexp")) ≡ r →
+    (is_name a (codes "$type") && is_name b (codes "$value")) ≡ t
     → KeySet (shape_of_two a b) (a ∷ b ∷ [])
 key_set_two a b true t hr ht = rw hr tt
 key_set_two a b false true hr ht =
@@ -150,7 +155,8 @@ key_set (a ∷ b ∷ c ∷ names) = refl
 not_below : (n : ℕ) → pos n <ℤ pos 0 → ⊥
 not_below n h = omega (arith, ints, h)
 
-by_shape_cases : (shape : Shape) (P Q R S T X : Type 0) → (shape ≡ Plain → P → X) → (shape ≡ Date → Q → X) → (shape ≡ Binary → R → X) → (shape ≡ Escape → S → X) → (shape ≡ User → T → X)
+by_shape_cases : (shape : Shape) (P Q R S T X : Type 0) → (shape ≡ Plain → P → X) → (shape ≡ Date → Q → X) → (shape ≡ Binary → R → X) →
+    (shape ≡ Escape → S → X) → (shape ≡ User → T → X)
     → ByShape shape P Q R S T → X
 by_shape_cases Plain P Q R S T X p q r s t h = p refl h
 by_shape_cases Date P Q R S T X p q r s t h = q refl h
@@ -169,7 +175,8 @@ number_only (float x) z h once = absurd h
 date_only : (ms : Members) (v : Val) → keys_of_members ms ≡ codes "$date" ∷ [] → IsDate (first_of ms) v → MembersHoldNumbersOnce ms → json.object ms ≡ written v
 date_only ms v keys is once = only_date (first_of ms) v ms (only_member ms (codes "$date") keys) is once
   where
-    only_date : (d : Data) (v : Val) (ms : Members) → ms ≡ member (codes "$date") d no_members → IsDate d v → MembersHoldNumbersOnce ms → json.object ms ≡ written v
+    only_date : (d : Data) (v : Val) (ms : Members) → ms ≡ member (codes "$date") d no_members → IsDate d v → MembersHoldNumbersOnce ms →
+        json.object ms ≡ written v
     only_date (json.number n) v ms whole is once =
         let held = rw whole at once in
         ap json.object whole ∙ ap (λ (m : Num). alone (codes "$date") (json.number m)) (number_only n is.0 is.1 held.0) ∙ ap written (sym is.2)
@@ -192,17 +199,20 @@ binary_only ms v keys is = only_binary (first_of ms) v ms (only_member ms (codes
     only_binary (json.object inner) v ms whole is = absurd is
 
 -- an object under its own keys
-plain_only : (ms : Members) (v : Val) (es : Entries) → v ≡ object (fields_of es) → ms ≡ members_written (fields_of es) → is_special (keys_of_members ms) ≡ false → json.object ms ≡ written v
+plain_only : (ms : Members) (v : Val) (es : Entries) → v ≡ object (fields_of es) → ms ≡ members_written (fields_of es) →
+    is_special (keys_of_members ms) ≡ false → json.object ms ≡ written v
 plain_only ms v es is same plain =
     let names : is_special (names_of (fields_of es)) ≡ false = ap is_special (sym (keys_of_members-members_written (fields_of es)) ∙ ap keys_of_members (sym same)) ∙ plain in
     ap json.object same ∙ sym (ap (λ (b : Bool). escaped_if b (members_written (fields_of es))) names) ∙ ap written (sym is)
 
 -- an object under `$escape`
-escape_only : (ms inner : Members) (v : Val) (es : Entries) → ms ≡ member (codes "$escape") (json.object inner) no_members → v ≡ object (fields_of es) → inner ≡ members_written (fields_of es)
+escape_only : (ms inner : Members) (v : Val) (es : Entries) → ms ≡ member (codes "$escape") (json.object inner) no_members → v ≡ object (fields_of es) →
+    inner ≡ members_written (fields_of es)
     → is_special (keys_of_members inner) ≡ true → json.object ms ≡ written v
 escape_only ms inner v es whole is same special =
     let names : is_special (names_of (fields_of es)) ≡ true = ap is_special (sym (keys_of_members-members_written (fields_of es)) ∙ ap keys_of_members (sym same)) ∙ special in
-    ap json.object whole ∙ ap (λ (x : Members). alone (codes "$escape") (json.object x)) same ∙ sym (ap (λ (b : Bool). escaped_if b (members_written (fields_of es))) names) ∙ ap written (sym is)
+    ap json.object whole ∙ ap (λ (x : Members). alone (codes "$escape") (json.object x)) same
+        ∙ sym (ap (λ (b : Bool). escaped_if b (members_written (fields_of es))) names) ∙ ap written (sym is)
 
 no_keys : (ms : Members) → keys_of_members ms ≡ [] → ms ≡ no_members
 no_keys no_members h = refl
@@ -234,7 +244,8 @@ mutual
   only_written (json.string s) v h once exact = ap written (sym h)
   only_written (json.array ds) v h once exact = ap json.array (items_only_written ds h.0 h.1 once exact) ∙ ap written (sym h.2)
   only_written (json.object ms) v h once exact =
-      by_shape_cases (shape_of (keys_of_members ms)) ((es : Entries) × MembersRead ms es × (v ≡ object (fields_of es))) (IsDate (first_of ms) v) (IsBinary (first_of ms) v) (EscapeReads ms v) (UserReads ms v) (json.object ms ≡ written v)
+      by_shape_cases (shape_of (keys_of_members ms)) ((es : Entries) × MembersRead ms es × (v ≡ object (fields_of es))) (IsDate (first_of ms) v)
+          (IsBinary (first_of ms) v) (EscapeReads ms v) (UserReads ms v) (json.object ms ≡ written v)
       (λ shape r.
       let inside : MembersAreEscapedExactly ms = subst (λ (s : Shape). ByShape s (MembersAreEscapedExactly ms) (Unit {0}) (Unit {0}) (EscapesSpecial ms) (MembersAreEscapedExactly ms)) shape exact in
       let plain : is_special (keys_of_members ms) ≡ false = subst (λ (s : Shape). KeySet s (keys_of_members ms)) shape (key_set (keys_of_members ms)) in
@@ -249,17 +260,22 @@ mutual
       (subst (λ (s : Shape). ByShape s (MembersAreEscapedExactly ms) (Unit {0}) (Unit {0}) (EscapesSpecial ms) (MembersAreEscapedExactly ms)) shape exact))
       h
 
-  pub items_only_written : (ds : Items) (vs : List Val) → ItemsRead ds vs → ItemsHoldNumbersOnce ds → ItemsAreEscapedExactly ds → ds ≡ items_written (vals_of vs)
+  pub items_only_written : (ds : Items) (vs : List Val) → ItemsRead ds vs → ItemsHoldNumbersOnce ds → ItemsAreEscapedExactly ds →
+      ds ≡ items_written (vals_of vs)
   items_only_written no_items vs h once exact = ap (λ (ws : List Val). items_written (vals_of ws)) (sym h)
   items_only_written (item d ds) vs h once exact =
-      ap₂ item (only_written d h.0 h.2 once.0 exact.0) (items_only_written ds h.1 h.3 once.1 exact.1) ∙ ap (λ (ws : List Val). items_written (vals_of ws)) (sym h.4)
+      ap₂ item (only_written d h.0 h.2 once.0 exact.0) (items_only_written ds h.1 h.3 once.1 exact.1)
+          ∙ ap (λ (ws : List Val). items_written (vals_of ws)) (sym h.4)
 
-  pub members_only_written : (ms : Members) (es : Entries) → MembersRead ms es → MembersHoldNumbersOnce ms → MembersAreEscapedExactly ms → ms ≡ members_written (fields_of es)
+  pub members_only_written : (ms : Members) (es : Entries) → MembersRead ms es → MembersHoldNumbersOnce ms → MembersAreEscapedExactly ms →
+      ms ≡ members_written (fields_of es)
   members_only_written no_members es h once exact = ap (λ (fs : Entries). members_written (fields_of fs)) (sym h)
   members_only_written (member key d ms) es h once exact =
-      ap₂ (member key) (only_written d h.0 h.2 once.0 exact.0) (members_only_written ms h.1 h.3 once.1 exact.1) ∙ ap (λ (fs : Entries). members_written (fields_of fs)) (sym h.4)
+      ap₂ (member key) (only_written d h.0 h.2 once.0 exact.0) (members_only_written ms h.1 h.3 once.1 exact.1)
+          ∙ ap (λ (fs : Entries). members_written (fields_of fs)) (sym h.4)
 
-  escape_only_written : (ms : Members) (v : Val) → keys_of_members ms ≡ codes "$escape" ∷ [] → EscapeReads ms v → MembersHoldNumbersOnce ms → EscapesSpecial ms → json.object ms ≡ written v
+  escape_only_written : (ms : Members) (v : Val) → keys_of_members ms ≡ codes "$escape" ∷ [] → EscapeReads ms v → MembersHoldNumbersOnce ms →
+      EscapesSpecial ms → json.object ms ≡ written v
   escape_only_written no_members v keys h once exact = absurd h
   escape_only_written (member key json.null ms) v keys h once exact = absurd h
   escape_only_written (member key (json.boolean b) ms) v keys h once exact = absurd h
@@ -270,7 +286,8 @@ mutual
       escape_only (member key (json.object inner) ms) inner v h.0 (only_member (member key (json.object inner) ms) (codes "$escape") keys) h.2
       (members_only_written inner h.0 h.1 once.0 exact.1) exact.0
 
-  user_only_written : (ms : Members) (v : Val) → keys_of_members ms ≡ codes "$type" ∷ codes "$value" ∷ [] → UserReads ms v → MembersHoldNumbersOnce ms → MembersAreEscapedExactly ms → json.object ms ≡ written v
+  user_only_written : (ms : Members) (v : Val) → keys_of_members ms ≡ codes "$type" ∷ codes "$value" ∷ [] → UserReads ms v → MembersHoldNumbersOnce ms →
+      MembersAreEscapedExactly ms → json.object ms ≡ written v
   user_only_written no_members v keys h once exact = absurd h
   user_only_written (member key named no_members) v keys h once exact = absurd h
   user_only_written (member key named (member other d ms)) v keys h once exact =

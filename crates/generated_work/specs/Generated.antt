@@ -49,7 +49,8 @@ wait_line i = row (client_name i ∷ word (codes "wait") ∷ [])
 
 -- call i, for which x was drawn: `["g0","call","inc",["c14",7]]`
 abbrev pub call_line : ℕ → ℕ → Val
-call_line i x = row (client_name (i % 8) ∷ word (codes "call") ∷ word (codes "inc") ∷ row (counter_name (x / 2 ^ 16 % 16) ∷ int (pos (x / 2 ^ 24 % 9 + 1)) ∷ []) ∷ [])
+call_line i x = row
+    (client_name (i % 8) ∷ word (codes "call") ∷ word (codes "inc") ∷ row (counter_name (x / 2 ^ 16 % 16) ∷ int (pos (x / 2 ^ 24 % 9 + 1)) ∷ []) ∷ [])
 
 -- the lines of each number below n, in order
 abbrev pub lines_below : (ℕ → List Val) → ℕ → List Val

@@ -1,13 +1,13 @@
 pub mod Values
 pub mod Worlds
 -- what lies below, for the crates above
-pub mod core_model
+pub mod world_model
 pub mod history_model
-pub mod journal_laws
-pub mod journal_laws_for_proofs
-pub mod journal_model
-pub mod link_laws
-pub mod link_laws_for_proofs
+pub mod session_journal_laws
+pub mod session_journal_laws_for_proofs
+pub mod session_model
+pub mod world_invariant_laws
+pub mod world_invariant_laws_for_proofs
 pub mod program_model
-pub mod stored_values
-pub mod stored_values_for_proofs
+pub mod world_values_laws
+pub mod world_values_laws_for_proofs

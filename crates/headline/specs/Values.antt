@@ -7,22 +7,22 @@ use Rattle.ddp_messages.specs.ClientMessage.{ClientMessage}
 use Rattle.ddp_messages.specs.ClientMessage as client
 use Rattle.ddp_messages.specs.Limits.{ClientHasValues}
 use Rattle.app_model.specs.App.{App}
-use Rattle.link_laws.specs.history_model.declared.entry.Entry.{Entry}
-use Rattle.link_laws.specs.history_model.History.{status_in}
-use Rattle.link_laws.specs.journal_model.Items.{Item, params_of, handled_by, handled}
-use Rattle.link_laws.specs.journal_model.Items as item
-use Rattle.link_laws.specs.journal_model.Methods.{Blocking}
-use Rattle.link_laws.specs.journal_model.Taking.{Taken, at_once, to_queue, taken_text, connects, message_of, queued_from}
-use Rattle.link_laws.specs.journal_model.Answering.{Answers}
-use Rattle.stored_values.specs.Values.{AreEntries}
-use Rattle.stored_values.specs.TakenValues.{IsTaken, taken_is}
-use Rattle.link_laws.specs.core_model.declared.events.Act.{Act}
-use Rattle.link_laws.specs.core_model.declared.events.Act.TheVariants as act
-use Rattle.link_laws.specs.core_model.Store.{held_in}
-use Rattle.link_laws.specs.core_model.Conn.{Conn, state_in}
-use Rattle.link_laws.specs.core_model.Acts.{without_run, unbegun, is_refused, begin_entry, begun, is_kept, entries}
-use Rattle.link_laws.specs.core_model.Headline.{calls_in}
-use Rattle.link_laws.specs.Session.{IsServed}
+use Rattle.world_invariant_laws.specs.history_model.declared.entry.Entry.{Entry}
+use Rattle.world_invariant_laws.specs.history_model.History.{status_in}
+use Rattle.world_invariant_laws.specs.session_model.Items.{Item, params_of, handled_by, handled}
+use Rattle.world_invariant_laws.specs.session_model.Items as item
+use Rattle.world_invariant_laws.specs.session_model.Methods.{Blocking}
+use Rattle.world_invariant_laws.specs.session_model.Taking.{Taken, at_once, to_queue, taken_text, connects, message_of, queued_from}
+use Rattle.world_invariant_laws.specs.session_model.Answering.{Answers}
+use Rattle.world_values_laws.specs.Values.{AreEntries}
+use Rattle.world_values_laws.specs.TakenValues.{IsTaken, taken_is}
+use Rattle.world_invariant_laws.specs.world_model.declared.events.Act.{Act}
+use Rattle.world_invariant_laws.specs.world_model.declared.events.Act.TheVariants as act
+use Rattle.world_invariant_laws.specs.world_model.Store.{held_in}
+use Rattle.world_invariant_laws.specs.world_model.Conn.{Conn, state_in}
+use Rattle.world_invariant_laws.specs.world_model.Acts.{without_run, unbegun, is_refused, begin_entry, begun, is_kept, entries}
+use Rattle.world_invariant_laws.specs.world_model.Headline.{calls_in}
+use Rattle.world_invariant_laws.specs.Session.{IsServed}
 
 -- ---- messages
 

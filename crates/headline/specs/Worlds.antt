@@ -2,21 +2,21 @@
 use Rattle.std.specs.Prelude.{◌≡◌, ℕ, List, [], ◌∷◌, Option, Some, None, IfSome, refl}
 use Rattle.std.proofs.Common.{sym, subst}
 use Rattle.app_model.specs.App.{App}
-use Rattle.link_laws.specs.history_model.declared.entry.Entry.{Entry}
-use Rattle.link_laws.specs.history_model.declared.entry.Entry.TheVariants as entry
-use Rattle.link_laws.specs.history_model.History.{IsLegal}
-use Rattle.stored_values.specs.Values.{HasValues, AreEntries}
-use Rattle.stored_values.specs.MomentValues.{moments_are_kept}
-use Rattle.link_laws.specs.core_model.declared.events.Event.{Event}
-use Rattle.link_laws.specs.core_model.Store.{programs}
-use Rattle.link_laws.specs.core_model.Conn.{Conn}
-use Rattle.link_laws.specs.core_model.World.{World, start, conn_of}
-use Rattle.link_laws.specs.core_model.Events.{run, AreEvents}
-use Rattle.link_laws.specs.core_model.Headline.{IsTrueSession, IsQuiescent, IsWhole, IsTrueWorld}
-use Rattle.link_laws.specs.Lift.{IsKept, Holds, every_world}
-use Rattle.link_laws.specs.Links.{IsLinked, links_kept}
-use Rattle.link_laws.specs.Sessions.{session_is_true}
-use Rattle.link_laws.specs.Whole.{quiescent_is_whole}
+use Rattle.world_invariant_laws.specs.history_model.declared.entry.Entry.{Entry}
+use Rattle.world_invariant_laws.specs.history_model.declared.entry.Entry.TheVariants as entry
+use Rattle.world_invariant_laws.specs.history_model.History.{IsLegal}
+use Rattle.world_values_laws.specs.Values.{HasValues, AreEntries}
+use Rattle.world_values_laws.specs.MomentValues.{moments_are_kept}
+use Rattle.world_invariant_laws.specs.world_model.declared.events.Event.{Event}
+use Rattle.world_invariant_laws.specs.world_model.Store.{programs}
+use Rattle.world_invariant_laws.specs.world_model.Conn.{Conn}
+use Rattle.world_invariant_laws.specs.world_model.World.{World, start, conn_of}
+use Rattle.world_invariant_laws.specs.world_model.Events.{run, AreEvents}
+use Rattle.world_invariant_laws.specs.world_model.Headline.{IsTrueSession, IsQuiescent, IsWhole, IsTrueWorld}
+use Rattle.world_invariant_laws.specs.Lift.{IsKept, Holds, every_world}
+use Rattle.world_invariant_laws.specs.Links.{IsLinked, links_kept}
+use Rattle.world_invariant_laws.specs.Sessions.{session_is_true}
+use Rattle.world_invariant_laws.specs.Whole.{quiescent_is_whole}
 use Rattle.headline.specs.Values.{entries_more, act_valued}
 
 -- it is this application's, legal and made of values
@@ -36,7 +36,8 @@ sound_kept first = record {
 }
 
 true_world : (first : App) (w : World) → HasValues (programs first) → Holds (IsSound first) IsLinked (sound_kept first) w → IsTrueWorld w
-true_world first w good l = record { legal = l.history.legal; sessions = λ name. each name (conn_of w name) refl; whole = λ name. by name (conn_of w name) refl }
+true_world first w good l =
+    record { legal = l.history.legal; sessions = λ name. each name (conn_of w name) refl; whole = λ name. by name (conn_of w name) refl }
   where
     values : HasValues (programs w.app)
     values = subst (λ (a : App). HasValues (programs a)) (sym l.history.same) good

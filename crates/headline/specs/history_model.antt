@@ -1,7 +1,7 @@
 -- What crates above name of `history_model`.
-pub use Rattle.link_laws.specs.history_model.Bounds
-pub use Rattle.link_laws.specs.history_model.History
-pub use Rattle.link_laws.specs.history_model.HistoryLaws
-pub use Rattle.link_laws.specs.history_model.Operations
-pub use Rattle.link_laws.specs.history_model.RunsLaws
-pub use Rattle.link_laws.specs.history_model.declared
+pub use Rattle.world_invariant_laws.specs.history_model.Bounds
+pub use Rattle.world_invariant_laws.specs.history_model.History
+pub use Rattle.world_invariant_laws.specs.history_model.HistoryLaws
+pub use Rattle.world_invariant_laws.specs.history_model.Operations
+pub use Rattle.world_invariant_laws.specs.history_model.RunsLaws
+pub use Rattle.world_invariant_laws.specs.history_model.declared

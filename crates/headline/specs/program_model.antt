@@ -1,3 +1,3 @@
 -- What crates above name of `program_model`.
-pub use Rattle.link_laws.specs.program_model.Run
-pub use Rattle.link_laws.specs.program_model.Steps
+pub use Rattle.world_invariant_laws.specs.program_model.Run
+pub use Rattle.world_invariant_laws.specs.program_model.Steps

@@ -9,7 +9,7 @@ use Rattle.history_model.specs.ViewLaws.{value_back}
 use Rattle.history_log.specs.declared.kept_entry.Form.{Form}
 use Rattle.history_log.specs.declared.kept_entry.Form.TheVariants as form
 use Rattle.history_log.specs.Entries.{words_in, begin_in, admin_in, entry_of, Says, Keeps}
-use Rattle.history_log.specs.Lines.{entry_value, line_of}
+use Rattle.history_model.specs.Lines.{entry_value, line_of}
 
 -- a line that reads as its entry again is the one that is printed of what it reads as
 line_kept : (f : Form) (e : Entry) (line : List ℕ) → entry_of f ≡ e → line ≡ line_of (entry_value e) → line ≡ line_of (entry_value (entry_of f))

@@ -7,7 +7,7 @@ use Rattle.serde_json.proofs.Texts.{print-outline}
 use Rattle.value_model.specs.Val.{Val}
 use Rattle.ejson_codec.specs.Tokens.{tree_tokens}
 use Rattle.ejson_codec.specs.Written.{written}
-use Rattle.history_log.specs.Lines.{line_of}
+use Rattle.history_model.specs.Lines.{line_of}
 
 print_is : (v : Val) (first all : List Token) → first ≡ [] → all ≡ first ++ tree_tokens (written v) → print all ≡ line_of v
 print_is v first all none put = ap print (put ∙ ap (λ ts. ts ++ tree_tokens (written v)) none) ∙ print-outline (written v)

@@ -19,7 +19,7 @@ use Rattle.ejson_codec.specs.Written.{written}
 use Rattle.ejson_codec.proofs.TextLaws.{parsed_back}
 use Rattle.history_model.specs.declared.entry.Entry.TheVariants as entry
 use Rattle.history_log.specs.Entries.{is_shallow, IsReadBack, Says}
-use Rattle.history_log.specs.Lines.{entry_value, line_of}
+use Rattle.history_model.specs.Lines.{entry_value, line_of}
 
 pub says : (v : Val) (line : List ℕ) → IsReadBack v → line ≡ line_of v → Says line v
 says v line back printed =

@@ -10,7 +10,7 @@ use Rattle.ejson_value.specs.Key.{key_cmp}
 use Rattle.ejson_value.specs.Rows.{Rows}
 use Rattle.history_log.specs.declared.log.Logged.{Logged}
 use Rattle.history_log.specs.Log.{changes_in, settled}
-use Rattle.history_log.specs.Lines.{line_of}
+use Rattle.history_model.specs.Lines.{line_of}
 
 -- the changes of one entry more are made
 pub made_more : (rows : Rows) (l : Logged) (rest : List Logged) →

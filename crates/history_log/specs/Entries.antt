@@ -10,7 +10,7 @@ use Rattle.history_model.specs.declared.entry.Entry.TheVariants as entry
 use Rattle.history_model.specs.ViewLaws.{value_of}
 use Rattle.history_log.specs.declared.kept_entry.Form.{Form}
 use Rattle.history_log.specs.declared.kept_entry.Form.TheVariants as form
-use Rattle.history_log.specs.Lines.{entry_value, line_of}
+use Rattle.history_model.specs.Lines.{entry_value, line_of}
 
 -- ---- what a line says
 

@@ -1,5 +1,5 @@
+pub mod Rows
 pub mod Log
 pub mod LogLaws
-pub mod Lines
 pub mod Entries
 pub mod ToldLaws

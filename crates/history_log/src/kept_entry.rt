@@ -4,7 +4,7 @@ ghost use Rattle.std.specs.List.{list_all};
 ghost use Rattle.ejson_value.specs.View.{view, views};
 ghost use Rattle.history_model.specs.declared.entry.Entry.TheVariants.{Begin, Admin};
 ghost use Rattle.history_log.specs.Entries.{items_in, operation_among, told_operation, is_shallow, IsReadBack, Says, Keeps};
-ghost use Rattle.history_log.specs.Lines.{entry_value, line_of};
+ghost use Rattle.history_model.specs.Lines.{entry_value, line_of};
 
 use crate::lines::{entry_line, step_line};
 use ejson_codec::{ParseFault, parse};

@@ -6,7 +6,7 @@ ghost use Rattle.ejson_codec.specs.Written.{written};
 ghost use Rattle.ejson_value.specs.View.{view};
 ghost use Rattle.history_model.specs.declared.entry.Entry.TheVariants.{Begin, Step, Admin};
 ghost use Rattle.history_log.specs.Log.{entries_in};
-ghost use Rattle.history_log.specs.Lines.{worded, number, session_text, doc_value, entry_value, line_of};
+ghost use Rattle.history_model.specs.Lines.{worded, number, session_text, doc_value, entry_value, line_of};
 
 use crate::log::Logged;
 use ejson_codec::{Lines, TextWriter, put_document, put_items, put_value};

@@ -3,7 +3,7 @@ ghost use Rattle.std.specs.Prelude.{◌≡◌, ◌+◌, ◌≤◌, ◌<◌, ◌+
 ghost use Rattle.history_model.specs.declared.entry.Entry.TheVariants.{Admin};
 ghost use Rattle.history_log.specs.Entries.{told_operation};
 ghost use Rattle.history_log.specs.Log.{entries_in, changes_behind, rows_after, without_last, settled};
-ghost use Rattle.history_log.specs.Lines.{store_lines, history_lines};
+ghost use Rattle.history_model.specs.Lines.{store_lines, history_lines};
 
 use crate::batch::Batch;
 use crate::changes::{joined, made};

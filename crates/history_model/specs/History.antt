@@ -1,5 +1,6 @@
 -- The history of a store: what was done to it, oldest first. Its documents, and how far each run is, are the fold of it.
-use Rattle.std.specs.Prelude.{◌<◌, ℕ, suc, ◌+◌, ◌-◌, ◌==◌, List, [], ◌∷◌, ◌++◌, length, take, drop, sum_by, Bool, true, false, not, ◌&&◌, ◌||◌, nat_lt, Option, None, Some, is_some, option_map, Ok, Err, IsTrue, if◌then◌else◌}
+use Rattle.std.specs.Prelude.{◌<◌, ℕ, suc, ◌+◌, ◌-◌, ◌==◌, List, [], ◌∷◌, ◌++◌, length, take, drop, sum_by, Bool, true, false, not, ◌&&◌, ◌||◌,
+    nat_lt, Option, None, Some, is_some, option_map, Ok, Err, IsTrue, if◌then◌else◌}
 use Rattle.std.specs.List.{list_all}
 use Rattle.std.specs.declared.cmp.Ordering.{Ordering}
 use Rattle.std.specs.Ordering.{eq_by_cmp, nat_cmp, ordering_then}
@@ -217,7 +218,8 @@ is_made app h (Some op) = is_answered (applied app.collections h.rows op (room_i
 
 -- The entry can be made there: a call of a method, whose number is greater than those before it and for which there is room; a step of a run that goes on; an operation that is not refused.
 abbrev pub can_follow : Programs → Held → Entry → Bool
-can_follow app h (entry.Begin session k method params seed) = is_some (app.method method) && is_next session k h.runs && not (is_full app h method params (view seed))
+can_follow app h (entry.Begin session k method params seed) =
+    is_some (app.method method) && is_next session k h.runs && not (is_full app h method params (view seed))
 can_follow app h (entry.Step session k) = goes_on (at run_cmp h.runs (session, k))
 can_follow app h (entry.Admin op) = not (is_full_for_operation h) && is_made app h (operation_in op)
 

@@ -1,5 +1,6 @@
 -- Laws of histories.
-use Rattle.std.specs.Prelude.{◌≡◌, ℕ, zero, suc, ◌+◌, ◌≤◌, List, [], ◌∷◌, ◌++◌, length, take, drop, Bool, true, false, cond, Option, None, Some, IsTrue, Ok, Err, refl}
+use Rattle.std.specs.Prelude.{◌≡◌, ℕ, zero, suc, ◌+◌, ◌≤◌, List, [], ◌∷◌, ◌++◌, length, take, drop, Bool, true, false, cond, Option, None, Some,
+    IsTrue, Ok, Err, refl}
 use Rattle.std.specs.declared.cmp.Ordering.TheVariants.{Equal}
 use Rattle.std.specs.FinMap.{nat_cmp-IsAntisymmetric}
 use Rattle.std.specs.Ordering.{nat_cmp}
@@ -26,7 +27,9 @@ use Rattle.program_model.specs.StepLaws.{stepped_does}
 use Rattle.history_model.specs.declared.entry.Entry.{Entry}
 use Rattle.history_model.specs.declared.entry.Entry.TheVariants as entry
 use Rattle.history_model.specs.Operations.{operation_in}
-use Rattle.history_model.specs.History.{Programs, RunKey, run_cmp, Begun, Held, nothing, later, room_in, setting_in, with_begin, with_stepped, no_steps, with_step, with_answer, with_operation, carried, held_from, held, held_at, answer_changes, operation_changes, step_changes, changes_by, changes_from, changes_between, can_follow, IsLegalFrom, IsLegal}
+use Rattle.history_model.specs.History.{Programs, RunKey, run_cmp, Begun, Held, nothing, later, room_in, setting_in, with_begin, with_stepped,
+    no_steps, with_step, with_answer, with_operation, carried, held_from, held, held_at, answer_changes, operation_changes, step_changes, changes_by,
+    changes_from, changes_between, can_follow, IsLegalFrom, IsLegal}
 
 -- ---- keys of runs
 
@@ -55,7 +58,8 @@ take-within (suc n) [] ys h = absurd (omega (arith, h))
 take-within (suc n) (x ∷ xs) ys h = let h' : n ≤ length xs = omega (arith, h) in ap (λ zs. x ∷ zs) (take-within n xs ys h')
 
 -- a longer history leaves what is held at its earlier places
-pub held_at-longer : (app : Programs) (history more : List Entry) (place : ℕ) → place ≤ length history → held_at app (history ++ more) place ≡ held_at app history place
+pub held_at-longer : (app : Programs) (history more : List Entry) (place : ℕ) → place ≤ length history →
+    held_at app (history ++ more) place ≡ held_at app history place
 held_at-longer app history more place fits = ap (held app) (take-within place history more fits)
 
 take_none : {A : Type 0} (n : ℕ) (xs : List A) → xs ≡ [] → take n xs ≡ []
@@ -70,13 +74,15 @@ take_more (suc p) n (x ∷ xs) = let e : suc p + n ≡ suc (p + n) = omega arith
 
 -- ---- how many entries there are
 
-begin_entries : (app : Programs) (h : Held) (key : RunKey) (method : List ℕ) (params : List Val) (seed : Val) (o : Option Begun) → (with_begin app h key method params seed o).entries ≡ suc h.entries
+begin_entries : (app : Programs) (h : Held) (key : RunKey) (method : List ℕ) (params : List Val) (seed : Val) (o : Option Begun) →
+    (with_begin app h key method params seed o).entries ≡ suc h.entries
 begin_entries app h key method params seed None = refl
 begin_entries app h key method params seed (Some b) = refl
 
 step_entries : (app : Programs) (h : Held) (key : RunKey) (o : Option Begun) → (with_step app h key o).entries ≡ suc h.entries
 step_entries app h key None = refl
-step_entries app h key (Some b) = elim (no_steps b.run.left) as (λ (c : Bool). (cond c (later h) (with_stepped h key (stepped (setting_in app h) h.rows b.run))).entries ≡ suc h.entries) [ true ↦ refl | false ↦ refl ]
+step_entries app h key (Some b) = elim (no_steps b.run.left) as
+    (λ (c : Bool). (cond c (later h) (with_stepped h key (stepped (setting_in app h) h.rows b.run))).entries ≡ suc h.entries) [ true ↦ refl | false ↦ refl ]
 
 answer_entries : (h : Held) (o : Outcome Applied) → (with_answer h o).entries ≡ suc h.entries
 answer_entries h (Ok a) = refl
@@ -100,11 +106,13 @@ held_entries app history = omega (arith, entries_from app nothing history)
 
 -- ---- changes lead from documents to documents
 
-begin_leads : (app : Programs) (h : Held) (key : RunKey) (method : List ℕ) (params : List Val) (seed : Val) (o : Option Begun) → Leads key_cmp [] h.rows (with_begin app h key method params seed o).rows
+begin_leads : (app : Programs) (h : Held) (key : RunKey) (method : List ℕ) (params : List Val) (seed : Val) (o : Option Begun) →
+    Leads key_cmp [] h.rows (with_begin app h key method params seed o).rows
 begin_leads app h key method params seed None = Leads-nil key_cmp h.rows
 begin_leads app h key method params seed (Some b) = Leads-nil key_cmp h.rows
 
-step_leads : (app : Programs) (h : Held) (key : RunKey) (o : Option Begun) → IsSorted key_cmp h.rows → Leads key_cmp (changes_of (step_changes app h o)) h.rows (with_step app h key o).rows
+step_leads : (app : Programs) (h : Held) (key : RunKey) (o : Option Begun) → IsSorted key_cmp h.rows →
+    Leads key_cmp (changes_of (step_changes app h o)) h.rows (with_step app h key o).rows
 step_leads app h key None sorted = Leads-nil key_cmp h.rows
 step_leads app h key (Some b) sorted =
     let s = stepped (setting_in app h) h.rows b.run in
@@ -113,16 +121,20 @@ step_leads app h key (Some b) sorted =
       | false ↦ (stepped_does (setting_in app h) h.rows b.run sorted).on.leads
     ]
 
-answer_leads : (app : Programs) (h : Held) (op : Op) (o : Outcome Applied) → IsSorted key_cmp h.rows → applied app.collections h.rows op (room_in h) ≡ o → Leads key_cmp (changes_of (answer_changes o)) h.rows (with_answer h o).rows
+answer_leads : (app : Programs) (h : Held) (op : Op) (o : Outcome Applied) → IsSorted key_cmp h.rows →
+    applied app.collections h.rows op (room_in h) ≡ o → Leads key_cmp (changes_of (answer_changes o)) h.rows (with_answer h o).rows
 answer_leads app h op (Ok a) sorted is = (applied_does app.collections h.rows op (room_in h) a sorted is).leads
 answer_leads app h op (Err e) sorted is = Leads-nil key_cmp h.rows
 
-operation_leads : (app : Programs) (h : Held) (o : Option Op) → IsSorted key_cmp h.rows → Leads key_cmp (changes_of (operation_changes app h o)) h.rows (with_operation app h o).rows
+operation_leads : (app : Programs) (h : Held) (o : Option Op) → IsSorted key_cmp h.rows →
+    Leads key_cmp (changes_of (operation_changes app h o)) h.rows (with_operation app h o).rows
 operation_leads app h None sorted = Leads-nil key_cmp h.rows
 operation_leads app h (Some op) sorted = answer_leads app h op (applied app.collections h.rows op (room_in h)) sorted refl
 
-pub carried_leads : (app : Programs) (h : Held) (e : Entry) → IsSorted key_cmp h.rows → Leads key_cmp (changes_of (changes_by app h e)) h.rows (carried app h e).rows
-carried_leads app h (entry.Begin session k method params seed) sorted = begin_leads app h (session, k) method params (view seed) (at run_cmp h.runs (session, k))
+pub carried_leads : (app : Programs) (h : Held) (e : Entry) → IsSorted key_cmp h.rows →
+    Leads key_cmp (changes_of (changes_by app h e)) h.rows (carried app h e).rows
+carried_leads app h (entry.Begin session k method params seed) sorted =
+    begin_leads app h (session, k) method params (view seed) (at run_cmp h.runs (session, k))
 carried_leads app h (entry.Step session k) sorted = step_leads app h (session, k) (at run_cmp h.runs (session, k)) sorted
 carried_leads app h (entry.Admin op) sorted = operation_leads app h (operation_in op) sorted
 
@@ -140,7 +152,8 @@ sorted_from app h (e ∷ es) sorted = sorted_from app (carried app h e) es (sort
 pub sorted_held : (app : Programs) (history : List Entry) → IsSorted key_cmp (held app history).rows
 sorted_held app history = sorted_from app nothing history (sorted-nil key_cmp)
 
-pub from_leads : (app : Programs) (h : Held) (es : List Entry) → IsSorted key_cmp h.rows → Leads key_cmp (changes_of (changes_from app h es)) h.rows (held_from app h es).rows
+pub from_leads : (app : Programs) (h : Held) (es : List Entry) → IsSorted key_cmp h.rows →
+    Leads key_cmp (changes_of (changes_from app h es)) h.rows (held_from app h es).rows
 from_leads app h [] sorted = Leads-nil key_cmp h.rows
 from_leads app h (e ∷ es) sorted =
     let next = carried app h e in
@@ -149,7 +162,8 @@ from_leads app h (e ∷ es) sorted =
     (Leads-append key_cmp (changes_of (changes_by app h e)) (changes_of (changes_from app next es)) h.rows next.rows last (carried_leads app h e sorted) (from_leads app next es (sorted_carried app h e sorted)))
 
 -- the changes of some entries lead from the documents before them to those after them
-pub between_leads : (app : Programs) (history : List Entry) (place count : ℕ) → Leads key_cmp (changes_of (changes_between app history place count)) (held_at app history place).rows (held_at app history (place + count)).rows
+pub between_leads : (app : Programs) (history : List Entry) (place count : ℕ) →
+    Leads key_cmp (changes_of (changes_between app history place count)) (held_at app history place).rows (held_at app history (place + count)).rows
 between_leads app history place count =
     let some = take count (drop place history) in
     subst (λ (x : Held). Leads key_cmp (changes_of (changes_between app history place count)) (held_at app history place).rows x.rows)
@@ -158,12 +172,14 @@ between_leads app history place count =
 
 -- ---- legal histories
 
-pub IsLegalFrom-append : (app : Programs) (h : Held) (es fs : List Entry) → IsLegalFrom app h es → IsLegalFrom app (held_from app h es) fs → IsLegalFrom app h (es ++ fs)
+pub IsLegalFrom-append : (app : Programs) (h : Held) (es fs : List Entry) → IsLegalFrom app h es → IsLegalFrom app (held_from app h es) fs →
+    IsLegalFrom app h (es ++ fs)
 IsLegalFrom-append app h [] fs l m = m
 IsLegalFrom-append app h (e ∷ es) fs l m = (l.0, IsLegalFrom-append app (carried app h e) es fs l.1 m)
 
 -- an entry that can follow makes a longer legal history
-pub IsLegal-append : (app : Programs) (history : List Entry) (e : Entry) → IsLegal app history → IsTrue (can_follow app (held app history) e) → IsLegal app (history ++ e ∷ [])
+pub IsLegal-append : (app : Programs) (history : List Entry) (e : Entry) → IsLegal app history → IsTrue (can_follow app (held app history) e) →
+    IsLegal app (history ++ e ∷ [])
 IsLegal-append app history e l can = IsLegalFrom-append app nothing history (e ∷ []) l (can, tt)
 
 legal_first : (app : Programs) (h : Held) (es fs : List Entry) → IsLegalFrom app h (es ++ fs) → IsLegalFrom app h es

@@ -1,3 +1,4 @@
+pub mod Lines
 pub mod Operations
 pub mod History
 pub mod HistoryLaws

@@ -39,9 +39,11 @@ begun None rest = []
 begun (Some e) rest = e ∷ rest
 
 -- what is left of a walk over the fields that are kept and those of a document: the next one of each, and those behind it
-abbrev pub fields_left : {X : Type 0} → Option (Bor (List ℕ) × Bor X) → List (List ℕ × X) → Option (Bor (List ℕ) × Bor Value) → List (List ℕ × Value) → List (List ℕ × Both X Val)
+abbrev pub fields_left : {X : Type 0} → Option (Bor (List ℕ) × Bor X) → List (List ℕ × X) → Option (Bor (List ℕ) × Bor Value) → List (List ℕ × Value) →
+    List (List ℕ × Both X Val)
 fields_left old olds new news = side_by_side text_cmp (begun (option_map deref_pair old) olds) (entries (begun (option_map deref_pair new) news))
 
 -- what is left of a walk over the fields of two documents
-abbrev pub pairs_left : Option (Bor (List ℕ) × Bor Value) → List (List ℕ × Value) → Option (Bor (List ℕ) × Bor Value) → List (List ℕ × Value) → List (List ℕ × Both Val Val)
+abbrev pub pairs_left : Option (Bor (List ℕ) × Bor Value) → List (List ℕ × Value) → Option (Bor (List ℕ) × Bor Value) → List (List ℕ × Value) →
+    List (List ℕ × Both Val Val)
 pairs_left old olds new news = side_by_side text_cmp (entries (begun (option_map deref_pair old) olds)) (entries (begun (option_map deref_pair new) news))

@@ -36,7 +36,8 @@ IsWritten a name w b = IsVisit {R = Unit {0}} (λ old new r. new ≡ w) tt a b n
 
 abbrev pub EachTold : {X : Type 0} → (X → X → Bool → Type 0) → List (List ℕ) → Named X → Named X → Bool → Type 0
 EachTold Tells [] a b flag = (b ≡ a) × (flag ≡ false)
-EachTold {X} Tells (name ∷ names) a b flag = (mid : Named X) × (now : Bool) × (rest : Bool) × IsVisit Tells false a mid name now × EachTold Tells names mid b rest × (flag ≡ (now || rest))
+EachTold {X} Tells (name ∷ names) a b flag =
+    (mid : Named X) × (now : Bool) × (rest : Bool) × IsVisit Tells false a mid name now × EachTold Tells names mid b rest × (flag ≡ (now || rest))
 
 -- who is among these
 abbrev pub IsAmong : List (List ℕ) → List ℕ → Type 0
@@ -46,7 +47,8 @@ IsAmong (q ∷ names) name = (name ≡ q) ⊎ IsAmong names name
 -- values of some who are there are led on, to these
 abbrev pub AreLed : {X : Type 0} → (List ℕ → Type 0) → (X → X → Type 0) → Named X → Named X → Named X → Type 0
 AreLed Who Leads [] a b = b ≡ a
-AreLed {X} Who Leads (step ∷ steps) a b = (old : X) × (at text_cmp a step.0 ≡ Some old) × Leads old step.1 × AreLed Who Leads steps (insert_entry text_cmp a step.0 step.1) b × Who step.0
+AreLed {X} Who Leads (step ∷ steps) a b = (old : X) × (at text_cmp a step.0 ≡ Some old) × Leads old step.1 × AreLed Who Leads steps
+    (insert_entry text_cmp a step.0 step.1) b × Who step.0
 
 -- those of these names are told; where memory runs out, some of them were led on
 abbrev pub AreTold : {X E : Type 0} → (X → X → Bool → Type 0) → (X → X → Type 0) → List (List ℕ) → Named X → Named X → Result Bool E → Type 0

@@ -17,13 +17,15 @@ module _ {X : Type 0} where
   none_set test [] w e = refl
   none_set test (e ∷ es) w none = by (test e.0) none (λ is. none_set test es w is)
     where
-      by : (b : Bool) → cond b (Some e.1) (lookup test es) ≡ None → (lookup test es ≡ None → set_value test es w ≡ es) → cond b ((e.0, w) ∷ es) (e ∷ set_value test es w) ≡ e ∷ es
+      by : (b : Bool) → cond b (Some e.1) (lookup test es) ≡ None → (lookup test es ≡ None → set_value test es w ≡ es) →
+          cond b ((e.0, w) ∷ es) (e ∷ set_value test es w) ≡ e ∷ es
       by true is rest = cc is
       by false is rest = ap (λ (ys : Named X). e ∷ ys) (rest is)
 
   -- as a map's `get_mut` says it
   pub lent : (old new : Named X) (name : List ℕ) (w : X) → IsSorted text_cmp old → IsSorted text_cmp new → new ≡ set_value (is_at (text_cmp name)) old w →
-      (IsSome (at text_cmp old name) → (q : List ℕ) → at text_cmp new q ≡ cond (eq_by_cmp text_cmp name q) (Some w) (at text_cmp old q)) → IsWritten old name w new
+      (IsSome (at text_cmp old name) → (q : List ℕ) → at text_cmp new q ≡ cond (eq_by_cmp text_cmp name q) (Some w) (at text_cmp old q)) →
+          IsWritten old name w new
   lent old new name w sorted rising set is = by (at text_cmp old name) refl
     where
       by : (o : Option X) → at text_cmp old name ≡ o → IsWritten old name w new
@@ -42,7 +44,8 @@ module _ {X : Type 0} where
       by (Some x) v = subst (λ (y : Named X). IsSorted text_cmp y) (sym v.1) (sorted-put name_order a name v.0 sorted)
 
   -- the value that was lent is visited
-  pub written_visit : {R : Type 0} (P : X → X → R → Type 0) (none : R) (a b : Named X) (name : List ℕ) (old w : X) (r : R) → Some old ≡ at text_cmp a name → IsWritten a name w b → P old w r → IsVisit P none a b name r
+  pub written_visit : {R : Type 0} (P : X → X → R → Type 0) (none : R) (a b : Named X) (name : List ℕ) (old w : X) (r : R) →
+      Some old ≡ at text_cmp a name → IsWritten a name w b → P old w r → IsVisit P none a b name r
   written_visit P none a b name old w r found v p =
       let is : VisitBy {R = Unit {0}} (Some old) (λ x y u. y ≡ w) tt a b name tt = subst (λ (o : Option X). VisitBy {R = Unit {0}} o (λ x y u. y ≡ w) tt a b name tt) (sym found) v in
       visited_some P none a b name old w r (sym found) (subst (λ (y : X). b ≡ insert_entry text_cmp a name y) is.2 is.1) p

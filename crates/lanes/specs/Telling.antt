@@ -1,5 +1,6 @@
 -- Lanes that are told at once are told as one map.
-use Rattle.std.specs.Prelude.{◌≡◌, ◌||◌, ℕ, suc, ◌+◌, ◌<◌, length, take, get_or, List, [], ◌∷◌, ◌++◌, Bool, true, false, Option, None, Some, Result, Ok, Err, refl}
+use Rattle.std.specs.Prelude.{◌≡◌, ◌||◌, ℕ, suc, ◌+◌, ◌<◌, length, take, get_or, List, [], ◌∷◌, ◌++◌, Bool, true, false, Option, None, Some, Result,
+    Ok, Err, refl}
 use Rattle.std.specs.BTreeMap.{insert_entry}
 use Rattle.std.proofs.Common.{ap, ap₂, sym, subst, ◌∙◌, arith, inl, inr}
 use Rattle.std.proofs.Math.Seq.{take-suc}
@@ -72,7 +73,8 @@ module _ {X : Type 0} (Leads : X → X → Type 0) where
         let rest = led_right s a (insert_entry text_cmp b e.0 e.1) b' l.3 next in
         ((l.0, of_right a b e.0 none ∙ l.1, l.2, subst (λ (x : Named X). AreLed Who Leads s x (union text_cmp a b')) (put_right a b e.0 e.1 none t.other) rest.0, l.4), rest.1)
 
-    both_led : (s t a a' b b' : Named X) → AreLed Who Leads s a a' → AreLed Who Leads t b b' → AreLanes a b → AreLed Who Leads (s ++ t) (union text_cmp a b) (union text_cmp a' b') × AreLanes a' b'
+    both_led : (s t a a' b b' : Named X) → AreLed Who Leads s a a' → AreLed Who Leads t b b' → AreLanes a b →
+        AreLed Who Leads (s ++ t) (union text_cmp a b) (union text_cmp a' b') × AreLanes a' b'
     both_led s t a a' b b' l m lanes =
         let one = led_left s a a' b l lanes in
         let two = led_right t a' b b' m one.1 in
@@ -82,34 +84,44 @@ module _ {X : Type 0} (Leads : X → X → Type 0) where
 
 module _ {X : Type 0} (Tells : X → X → Bool → Type 0) where
   -- one more is told
-  pub told_more : (names : List (List ℕ)) (name : List ℕ) (a b c : Named X) (flag now : Bool) → EachTold Tells names a b flag → IsVisit Tells false b c name now → EachTold Tells (names ++ name ∷ []) a c (now || flag)
+  pub told_more : (names : List (List ℕ)) (name : List ℕ) (a b c : Named X) (flag now : Bool) → EachTold Tells names a b flag →
+      IsVisit Tells false b c name now → EachTold Tells (names ++ name ∷ []) a c (now || flag)
   told_more [] name a b c flag now t v = (c, now, false, subst (λ (x : Named X). IsVisit Tells false x c name now) t.0 v, (refl, refl), ap (λ f. now || f) t.1)
-  told_more (n ∷ ns) name a b c flag now t v = (t.0, t.1, now || t.2, t.3, told_more ns name t.0 b c t.2 now t.4 v, ap (λ f. now || f) t.5 ∙ or_swap now t.1 t.2)
+  told_more (n ∷ ns) name a b c flag now t v =
+      (t.0, t.1, now || t.2, t.3, told_more ns name t.0 b c t.2 now t.4 v, ap (λ f. now || f) t.5 ∙ or_swap now t.1 t.2)
 
   -- a visit to a value of either lane
   record IsStep (name : List ℕ) (a b a' b' : Named X) (m n : Bool) : Type 0 where
     pub visit : IsVisit Tells false (union text_cmp a b) (union text_cmp a' b') name (m || n)
     pub lanes : AreLanes a' b'
 
-  steps : (name : List ℕ) (a b a' b' : Named X) (m n : Bool) → IsVisit Tells false a a' name m → IsVisit Tells false b b' name n → AreLanes a b → IsStep name a b a' b' m n
+  steps : (name : List ℕ) (a b a' b' : Named X) (m n : Bool) → IsVisit Tells false a a' name m → IsVisit Tells false b b' name n → AreLanes a b →
+      IsStep name a b a' b' m n
   steps name a b a' b' m n v w t = by (at text_cmp a name) (at text_cmp b name) refl refl v w
     where
-      by : (o p : Option X) → at text_cmp a name ≡ o → at text_cmp b name ≡ p → VisitBy o Tells false a a' name m → VisitBy p Tells false b b' name n → IsStep name a b a' b' m n
+      by : (o p : Option X) → at text_cmp a name ≡ o → at text_cmp b name ≡ p → VisitBy o Tells false a a' name m → VisitBy p Tells false b b' name n →
+          IsStep name a b a' b' m n
       by None None is there v w = record {
-        visit = visited_none Tells false (union text_cmp a b) (union text_cmp a' b') name (m || n) (of_right a b name is ∙ there) (ap₂ (union text_cmp) v.0 w.0) (ap₂ (λ f g. f || g) v.1 w.1);
+        visit = visited_none Tells false (union text_cmp a b) (union text_cmp a' b') name (m || n) (of_right a b name is ∙ there)
+            (ap₂ (union text_cmp) v.0 w.0) (ap₂ (λ f g. f || g) v.1 w.1);
         lanes = subst (λ (x : Named X). AreLanes x b') (sym v.0) (subst (λ (x : Named X). AreLanes a x) (sym w.0) t);
       }
       by (Some old) None is there v w = record {
-        visit = visited_some Tells false (union text_cmp a b) (union text_cmp a' b') name old v.0 (m || n) (some_left a b name old is) (ap₂ (union text_cmp) v.1 w.0 ∙ put_left a b name v.0 t.other) (subst (λ (f : Bool). Tells old v.0 f) (or_false m n w.1) v.2);
-        lanes = subst (λ (x : Named X). AreLanes x b') (sym v.1) (subst (λ (x : Named X). AreLanes (insert_entry text_cmp a name v.0) x) (sym w.0) (record { one = sorted-put name_order a name v.0 t.one; other = t.other; apart = apart_left a b name v.0 there t.apart }));
+        visit = visited_some Tells false (union text_cmp a b) (union text_cmp a' b') name old v.0 (m || n) (some_left a b name old is)
+            (ap₂ (union text_cmp) v.1 w.0 ∙ put_left a b name v.0 t.other) (subst (λ (f : Bool). Tells old v.0 f) (or_false m n w.1) v.2);
+        lanes = subst (λ (x : Named X). AreLanes x b') (sym v.1)
+            (subst (λ (x : Named X). AreLanes (insert_entry text_cmp a name v.0) x) (sym w.0) (record { one = sorted-put name_order a name v.0 t.one; other = t.other; apart = apart_left a b name v.0 there t.apart }));
       }
       by None (Some old) is there v w = record {
-        visit = visited_some Tells false (union text_cmp a b) (union text_cmp a' b') name old w.0 (m || n) (of_right a b name is ∙ there) (ap₂ (union text_cmp) v.0 w.1 ∙ put_right a b name w.0 is t.other) (subst (λ (f : Bool). Tells old w.0 f) (sym (ap (λ f. f || n) v.1)) w.2);
-        lanes = subst (λ (x : Named X). AreLanes x b') (sym v.0) (subst (λ (x : Named X). AreLanes a x) (sym w.1) (record { one = t.one; other = sorted-put name_order b name w.0 t.other; apart = apart_right a b name w.0 is t.apart }));
+        visit = visited_some Tells false (union text_cmp a b) (union text_cmp a' b') name old w.0 (m || n) (of_right a b name is ∙ there)
+            (ap₂ (union text_cmp) v.0 w.1 ∙ put_right a b name w.0 is t.other) (subst (λ (f : Bool). Tells old w.0 f) (sym (ap (λ f. f || n) v.1)) w.2);
+        lanes = subst (λ (x : Named X). AreLanes x b') (sym v.0)
+            (subst (λ (x : Named X). AreLanes a x) (sym w.1) (record { one = t.one; other = sorted-put name_order b name w.0 t.other; apart = apart_right a b name w.0 is t.apart }));
       }
       by (Some old) (Some new) is there v w = cc (sym (not_right a b name old is t.apart) ∙ there)
 
-  both_told : (names : List (List ℕ)) (a b a' b' : Named X) (f g : Bool) → EachTold Tells names a a' f → EachTold Tells names b b' g → AreLanes a b → EachTold Tells names (union text_cmp a b) (union text_cmp a' b') (f || g)
+  both_told : (names : List (List ℕ)) (a b a' b' : Named X) (f g : Bool) → EachTold Tells names a a' f → EachTold Tells names b b' g → AreLanes a b →
+      EachTold Tells names (union text_cmp a b) (union text_cmp a' b') (f || g)
   both_told [] a b a' b' f g t u lanes = (ap₂ (union text_cmp) t.0 u.0, ap₂ (λ f g. f || g) t.1 u.1)
   both_told (n ∷ ns) a b a' b' f g t u lanes =
       let s = steps n a b t.0 u.0 t.1 u.1 t.3 u.3 lanes in
@@ -119,14 +131,16 @@ module _ {X : Type 0} (Tells : X → X → Bool → Type 0) where
 
   module _ (Leads : X → X → Type 0) where
     -- a visit that made or left
-    pub visit_ok : (E : Type 0) (name : List ℕ) (a b : Named X) (now : Bool) → IsVisit (Hears {E = E} Tells Leads) (Ok false) a b name (Ok now) → IsVisit Tells false a b name now
+    pub visit_ok : (E : Type 0) (name : List ℕ) (a b : Named X) (now : Bool) → IsVisit (Hears {E = E} Tells Leads) (Ok false) a b name (Ok now) →
+        IsVisit Tells false a b name now
     visit_ok E name a b now v = by (at text_cmp a name) v
       where
         by : (o : Option X) → VisitBy o (Hears {E = E} Tells Leads) (Ok false) a b name (Ok now) → VisitBy o Tells false a b name now
         by None v = (v.0, cc v.1)
         by (Some old) v = v
 
-    visit_err : {E : Type 0} (Who : List ℕ → Type 0) (name : List ℕ) (a b : Named X) (e : E) → Who name → IsVisit (Hears Tells Leads) (Ok false) a b name (Err e) → (s : Named X) × AreLed Who Leads s a b
+    visit_err : {E : Type 0} (Who : List ℕ → Type 0) (name : List ℕ) (a b : Named X) (e : E) → Who name →
+        IsVisit (Hears Tells Leads) (Ok false) a b name (Err e) → (s : Named X) × AreLed Who Leads s a b
     visit_err {E} Who name a b e who v = by (at text_cmp a name) refl v
       where
         by : (o : Option X) → at text_cmp a name ≡ o → VisitBy o (Hears Tells Leads) (Ok false) a b name (Err e) → (s : Named X) × AreLed Who Leads s a b
@@ -134,7 +148,8 @@ module _ {X : Type 0} (Tells : X → X → Bool → Type 0) where
         by (Some old) is v = ((name, v.0) ∷ [], (old, is, v.2, v.1, who))
 
     module _ (told_leads : (x y : X) (flag : Bool) → Tells x y flag → Leads x y) where
-      visit_led : (Who : List ℕ → Type 0) (name : List ℕ) (a b : Named X) (now : Bool) → Who name → IsVisit Tells false a b name now → (s : Named X) × AreLed Who Leads s a b
+      visit_led : (Who : List ℕ → Type 0) (name : List ℕ) (a b : Named X) (now : Bool) → Who name → IsVisit Tells false a b name now →
+          (s : Named X) × AreLed Who Leads s a b
       visit_led Who name a b now who v = by (at text_cmp a name) refl v
         where
           by : (o : Option X) → at text_cmp a name ≡ o → VisitBy o Tells false a b name now → (s : Named X) × AreLed Who Leads s a b
@@ -149,7 +164,8 @@ module _ {X : Type 0} (Tells : X → X → Bool → Type 0) where
           (one.0 ++ rest.0, led_append Leads (IsAmong (n ∷ ns)) one.0 rest.0 a t.0 b one.1 (led_weaker Leads (IsAmong ns) (IsAmong (n ∷ ns)) (λ name h. inr h) rest.0 t.0 b rest.1))
 
       -- some were told, and at the next one memory ran out
-      pub told_left : {E : Type 0} (before after : List (List ℕ)) (name : List ℕ) (a b c : Named X) (flag : Bool) (e : E) → EachTold Tells before a b flag → IsVisit (Hears Tells Leads) (Ok false) b c name (Err e) →
+      pub told_left : {E : Type 0} (before after : List (List ℕ)) (name : List ℕ) (a b c : Named X) (flag : Bool) (e : E) →
+          EachTold Tells before a b flag → IsVisit (Hears Tells Leads) (Ok false) b c name (Err e) →
           (s : Named X) × AreLed (IsAmong ((before ++ name ∷ []) ++ after)) Leads s a c
       told_left before after name a b c flag e t v =
           let all = (before ++ name ∷ []) ++ after in
@@ -157,22 +173,28 @@ module _ {X : Type 0} (Tells : X → X → Bool → Type 0) where
           let two = visit_err (IsAmong all) name b c e (among_more (before ++ name ∷ []) after name (among_last before name)) v in
           (one.0 ++ two.0, led_append Leads (IsAmong all) one.0 two.0 a b c (led_weaker Leads (IsAmong before) (IsAmong all) (λ q h. among_more (before ++ name ∷ []) after q (among_more before (name ∷ []) q h)) one.0 a b one.1) two.1)
 
-      pub any_led : {E : Type 0} (names : List (List ℕ)) (a b : Named X) (r : Result Bool E) → AreTold Tells Leads names a b r → (s : Named X) × AreLed (IsAmong names) Leads s a b
+      pub any_led : {E : Type 0} (names : List (List ℕ)) (a b : Named X) (r : Result Bool E) → AreTold Tells Leads names a b r →
+          (s : Named X) × AreLed (IsAmong names) Leads s a b
       any_led names a b (Ok flag) t = each_led names a b flag t
       any_led names a b (Err e) t = t
 
       -- one lane that is told stays in order
-      pub told_sorted : {E : Type 0} (names : List (List ℕ)) (a b : Named X) (r : Result Bool E) → AreTold Tells Leads names a b r → IsSorted text_cmp a → IsSorted text_cmp b
+      pub told_sorted : {E : Type 0} (names : List (List ℕ)) (a b : Named X) (r : Result Bool E) → AreTold Tells Leads names a b r →
+          IsSorted text_cmp a → IsSorted text_cmp b
       told_sorted names a b r t s = let l = any_led names a b r t in led_sorted Leads (IsAmong names) l.0 a b l.1 s
 
       -- two lanes that are told at once are told as one
-      pub lanes_told : {E : Type 0} (names : List (List ℕ)) (a b a' b' : Named X) (r s : Result Bool E) → AreTold Tells Leads names a a' r → AreTold Tells Leads names b b' s → AreLanes a b →
+      pub lanes_told : {E : Type 0} (names : List (List ℕ)) (a b a' b' : Named X) (r s : Result Bool E) → AreTold Tells Leads names a a' r →
+          AreTold Tells Leads names b b' s → AreLanes a b →
           AreTold Tells Leads names (union text_cmp a b) (union text_cmp a' b') (either r s)
       lanes_told names a b a' b' (Ok f) (Ok g) t u lanes = both_told names a b a' b' f g t u lanes
-      lanes_told names a b a' b' (Ok f) (Err e) t u lanes = let l = each_led names a a' f t in (l.0 ++ u.0, (both_led Leads (IsAmong names) l.0 u.0 a a' b b' l.1 u.1 lanes).0)
-      lanes_told names a b a' b' (Err e) s t u lanes = let l = any_led names b b' s u in (t.0 ++ l.0, (both_led Leads (IsAmong names) t.0 l.0 a a' b b' t.1 l.1 lanes).0)
+      lanes_told names a b a' b' (Ok f) (Err e) t u lanes =
+          let l = each_led names a a' f t in (l.0 ++ u.0, (both_led Leads (IsAmong names) l.0 u.0 a a' b b' l.1 u.1 lanes).0)
+      lanes_told names a b a' b' (Err e) s t u lanes =
+          let l = any_led names b b' s u in (t.0 ++ l.0, (both_led Leads (IsAmong names) t.0 l.0 a a' b b' t.1 l.1 lanes).0)
 
-      pub told_lanes : {E : Type 0} (names : List (List ℕ)) (a b a' b' : Named X) (r s : Result Bool E) → AreTold Tells Leads names a a' r → AreTold Tells Leads names b b' s → AreLanes a b → AreLanes a' b'
+      pub told_lanes : {E : Type 0} (names : List (List ℕ)) (a b a' b' : Named X) (r s : Result Bool E) → AreTold Tells Leads names a a' r →
+          AreTold Tells Leads names b b' s → AreLanes a b → AreLanes a' b'
       told_lanes names a b a' b' r s t u lanes =
           let l = any_led names a a' r t in
           let k = any_led names b b' s u in

@@ -11,7 +11,8 @@ use Rattle.ejson_value.specs.Key.{name_order}
 use Rattle.lanes.specs.Lanes.{Named, AreApart, VisitBy, IsVisit}
 
 module _ {X : Type 0} where
-  pub put_left : (a b : Named X) (name : List ℕ) (x : X) → IsSorted text_cmp b → union text_cmp (insert_entry text_cmp a name x) b ≡ insert_entry text_cmp (union text_cmp a b) name x
+  pub put_left : (a b : Named X) (name : List ℕ) (x : X) → IsSorted text_cmp b →
+      union text_cmp (insert_entry text_cmp a name x) b ≡ insert_entry text_cmp (union text_cmp a b) name x
   put_left a b name x t =
       same_maps name_order (union text_cmp (insert_entry text_cmp a name x) b) (insert_entry text_cmp (union text_cmp a b) name x)
       (sorted-union name_order (insert_entry text_cmp a name x) b t) (sorted-put name_order (union text_cmp a b) name x (sorted-union name_order a b t)) (λ q.
@@ -24,7 +25,8 @@ module _ {X : Type 0} where
       by true o p = refl
       by false o p = refl
 
-  pub put_right : (a b : Named X) (name : List ℕ) (x : X) → at text_cmp a name ≡ None → IsSorted text_cmp b → union text_cmp a (insert_entry text_cmp b name x) ≡ insert_entry text_cmp (union text_cmp a b) name x
+  pub put_right : (a b : Named X) (name : List ℕ) (x : X) → at text_cmp a name ≡ None → IsSorted text_cmp b →
+      union text_cmp a (insert_entry text_cmp b name x) ≡ insert_entry text_cmp (union text_cmp a b) name x
   put_right a b name x none t =
       let put = sorted-put name_order b name x t in
       same_maps name_order (union text_cmp a (insert_entry text_cmp b name x)) (insert_entry text_cmp (union text_cmp a b) name x)
@@ -34,7 +36,8 @@ module _ {X : Type 0} where
       ∙ (by q (eq_by_cmp text_cmp q name) refl
       ∙ (ap (cond (eq_by_cmp text_cmp q name) (Some x)) (sym (at-union name_order a b q)) ∙ sym (at-put name_order (union text_cmp a b) name x q)))))
     where
-      by : (q : List ℕ) (e : Bool) → eq_by_cmp text_cmp q name ≡ e → option_or (at text_cmp a q) (cond e (Some x) (at text_cmp b q)) ≡ cond e (Some x) (option_or (at text_cmp a q) (at text_cmp b q))
+      by : (q : List ℕ) (e : Bool) → eq_by_cmp text_cmp q name ≡ e →
+          option_or (at text_cmp a q) (cond e (Some x) (at text_cmp b q)) ≡ cond e (Some x) (option_or (at text_cmp a q) (at text_cmp b q))
       by q true is = ap (λ o. option_or o (Some x)) (ap (at text_cmp a) (key_is name_order q name is) ∙ none)
       by q false is = refl
 
@@ -112,12 +115,14 @@ module _ {X : Type 0} where
     pub none : OnErr r (union text_cmp a' b' ≡ union text_cmp a b)
     pub lanes : AreLanes a' b'
 
-  pub put_in_left : {E : Type 0} (name : List ℕ) (x : X) (a a' b : Named X) (r : Result (Unit {0}) E) → at text_cmp (union text_cmp a b) name ≡ None → OnOk r (a' ≡ insert_entry text_cmp a name x) → OnErr r (a' ≡ a) →
+  pub put_in_left : {E : Type 0} (name : List ℕ) (x : X) (a a' b : Named X) (r : Result (Unit {0}) E) → at text_cmp (union text_cmp a b) name ≡ None →
+      OnOk r (a' ≡ insert_entry text_cmp a name x) → OnErr r (a' ≡ a) →
       AreLanes a b → IsPut name x a b a' b r
   put_in_left name x a a' b (Ok u) free put none l = record {
     put = ap (λ y. union text_cmp y b) put ∙ put_left a b name x l.other;
     none = tt;
-    lanes = subst (λ (y : Named X). AreLanes y b) (sym put) (record { one = sorted-put name_order a name x l.one; other = l.other; apart = apart_left a b name x (free_in_both a b name free).1 l.apart });
+    lanes = subst (λ (y : Named X). AreLanes y b) (sym put)
+        (record { one = sorted-put name_order a name x l.one; other = l.other; apart = apart_left a b name x (free_in_both a b name free).1 l.apart });
   }
   put_in_left name x a a' b (Err e) free put none l = record {
     put = tt;
@@ -125,13 +130,15 @@ module _ {X : Type 0} where
     lanes = subst (λ (y : Named X). AreLanes y b) (sym none) l;
   }
 
-  pub put_in_right : {E : Type 0} (name : List ℕ) (x : X) (a b b' : Named X) (r : Result (Unit {0}) E) → at text_cmp (union text_cmp a b) name ≡ None → OnOk r (b' ≡ insert_entry text_cmp b name x) → OnErr r (b' ≡ b) →
+  pub put_in_right : {E : Type 0} (name : List ℕ) (x : X) (a b b' : Named X) (r : Result (Unit {0}) E) → at text_cmp (union text_cmp a b) name ≡ None →
+      OnOk r (b' ≡ insert_entry text_cmp b name x) → OnErr r (b' ≡ b) →
       AreLanes a b → IsPut name x a b a b' r
   put_in_right name x a b b' (Ok u) free put none l =
       let left = (free_in_both a b name free).0 in record {
         put = ap (union text_cmp a) put ∙ put_right a b name x left l.other;
         none = tt;
-        lanes = subst (λ (y : Named X). AreLanes a y) (sym put) (record { one = l.one; other = sorted-put name_order b name x l.other; apart = apart_right a b name x left l.apart });
+        lanes = subst (λ (y : Named X). AreLanes a y) (sym put)
+            (record { one = l.one; other = sorted-put name_order b name x l.other; apart = apart_right a b name x left l.apart });
       }
   put_in_right name x a b b' (Err e) free put none l = record {
     put = tt;
@@ -140,7 +147,8 @@ module _ {X : Type 0} where
   }
 
 module _ {X R : Type 0} (P : X → X → R → Type 0) (none : R) where
-  pub visited_some : (a b : Named X) (name : List ℕ) (old new : X) (r : R) → at text_cmp a name ≡ Some old → b ≡ insert_entry text_cmp a name new → P old new r → IsVisit P none a b name r
+  pub visited_some : (a b : Named X) (name : List ℕ) (old new : X) (r : R) → at text_cmp a name ≡ Some old → b ≡ insert_entry text_cmp a name new →
+      P old new r → IsVisit P none a b name r
   visited_some a b name old new r found is p = subst (λ (o : Option X). VisitBy o P none a b name r) (sym found) (new, is, p)
 
   pub visited_none : (a b : Named X) (name : List ℕ) (r : R) → at text_cmp a name ≡ None → b ≡ a → r ≡ none → IsVisit P none a b name r
@@ -151,17 +159,21 @@ module _ {X R : Type 0} (P : X → X → R → Type 0) (none : R) where
     pub visit : IsVisit P none (union text_cmp a b) (union text_cmp a' b') name r
     pub lanes : AreLanes a' b'
 
-  pub visit_left : (a a' b : Named X) (name : List ℕ) (r : R) → is_some (at text_cmp a name) ≡ true → IsVisit P none a a' name r → AreLanes a b → IsVisitOf a b a' b name r
+  pub visit_left : (a a' b : Named X) (name : List ℕ) (r : R) → is_some (at text_cmp a name) ≡ true → IsVisit P none a a' name r → AreLanes a b →
+      IsVisitOf a b a' b name r
   visit_left a a' b name r there v l = by (at text_cmp a name) refl there v
     where
       by : (o : Option X) → at text_cmp a name ≡ o → is_some o ≡ true → VisitBy o P none a a' name r → IsVisitOf a b a' b name r
       by None is e v = cc e
       by (Some old) is e v = record {
-        visit = visited_some (union text_cmp a b) (union text_cmp a' b) name old v.0 r (some_left a b name old is) (ap (λ y. union text_cmp y b) v.1 ∙ put_left a b name v.0 l.other) v.2;
-        lanes = subst (λ (y : Named X). AreLanes y b) (sym v.1) (record { one = sorted-put name_order a name v.0 l.one; other = l.other; apart = apart_left a b name v.0 (not_right a b name old is l.apart) l.apart });
+        visit = visited_some (union text_cmp a b) (union text_cmp a' b) name old v.0 r (some_left a b name old is)
+            (ap (λ y. union text_cmp y b) v.1 ∙ put_left a b name v.0 l.other) v.2;
+        lanes = subst (λ (y : Named X). AreLanes y b) (sym v.1)
+            (record { one = sorted-put name_order a name v.0 l.one; other = l.other; apart = apart_left a b name v.0 (not_right a b name old is l.apart) l.apart });
       }
 
-  pub visit_right : (a b b' : Named X) (name : List ℕ) (r : R) → is_some (at text_cmp a name) ≡ false → IsVisit P none b b' name r → AreLanes a b → IsVisitOf a b a b' name r
+  pub visit_right : (a b b' : Named X) (name : List ℕ) (r : R) → is_some (at text_cmp a name) ≡ false → IsVisit P none b b' name r → AreLanes a b →
+      IsVisitOf a b a b' name r
   visit_right a b b' name r free v l = by (at text_cmp b name) refl v
     where
       left : at text_cmp a name ≡ None
@@ -173,6 +185,8 @@ module _ {X R : Type 0} (P : X → X → R → Type 0) (none : R) where
         lanes = subst (λ (y : Named X). AreLanes a y) (sym v.0) l;
       }
       by (Some old) is v = record {
-        visit = visited_some (union text_cmp a b) (union text_cmp a b') name old v.0 r (of_right a b name left ∙ is) (ap (union text_cmp a) v.1 ∙ put_right a b name v.0 left l.other) v.2;
-        lanes = subst (λ (y : Named X). AreLanes a y) (sym v.1) (record { one = l.one; other = sorted-put name_order b name v.0 l.other; apart = apart_right a b name v.0 left l.apart });
+        visit = visited_some (union text_cmp a b) (union text_cmp a b') name old v.0 r (of_right a b name left ∙ is)
+            (ap (union text_cmp a) v.1 ∙ put_right a b name v.0 left l.other) v.2;
+        lanes = subst (λ (y : Named X). AreLanes a y) (sym v.1)
+            (record { one = l.one; other = sorted-put name_order b name v.0 l.other; apart = apart_right a b name v.0 left l.apart });
       }

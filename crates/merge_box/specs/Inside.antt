@@ -89,7 +89,8 @@ pub record IsInside (kept : KeptDocs) (changes : Changes) (lists : Lists) : Type
   pub listed : (k : Key) (s : ℕ) → has s (publishers_at key_cmp kept k) ≡ true → is_listed lists s k ≡ true
   pub changes_by_key : IsSorted key_cmp changes
   pub ready : (k : Key) (change : Change) → at key_cmp changes k ≡ Some change → IsReady kept k change
-  pub will_list : (k : Key) (change : Change) (s : ℕ) → at key_cmp changes k ≡ Some change → has s (held_in change).publishers ≡ true → is_listed lists s k ≡ true
+  pub will_list : (k : Key) (change : Change) (s : ℕ) → at key_cmp changes k ≡ Some change → has s (held_in change).publishers ≡ true →
+      is_listed lists s k ≡ true
 
 -- what a plan has at a key: the change that the subscription's news of the document make, if there are any
 abbrev pub IsPlannedAt : ℕ → Option (Option Entries) → KeptDoc → Option Change → Type 0
@@ -105,7 +106,8 @@ abbrev pub told_of : KeptDocs → Changes → Told
 told_of kept changes = filter_map_entries (λ k change. step_of (kept_at key_cmp kept k) change) changes
 
 -- the change of a document, e, is planned, its key is listed, and what the client is told of it is added
-pub record IsNext (sub : ℕ) (texts : Texts) (place : ℕ) (key : Key) (doc : Option Entries) (e : KeptDoc) (lists : Lists) (before after : List Word) (change : Change) : Type 0 where
+pub record IsNext (sub : ℕ) (texts : Texts) (place : ℕ) (key : Key) (doc : Option Entries) (e : KeptDoc) (lists : Lists) (before after : List Word)
+    (change : Change) : Type 0 where
   pub listed : IsSome doc → is_listed lists sub key ≡ true
   pub is : IsChange sub doc e change
   pub alone : IsAlone sub e.publishers → change ≡ Whole (alone_if sub doc)

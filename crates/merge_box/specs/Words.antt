@@ -98,7 +98,8 @@ IsToldBy sub texts place key publishers step (word ∷ []) = IsOneTold sub texts
 IsToldBy sub texts place key publishers step (word ∷ next ∷ words) = ⊥
 
 -- what is told of the document with these publishers, where a change says this, is added
-pub record HasTold (sub : ℕ) (texts : Texts) (place : ℕ) (key : Key) (publishers : List ℕ) (step : Option (Step (List ℕ) Val)) (before after : List Word) : Type 0 where
+pub record HasTold (sub : ℕ) (texts : Texts) (place : ℕ) (key : Key) (publishers : List ℕ) (step : Option (Step (List ℕ) Val))
+    (before after : List Word) : Type 0 where
   pub words : List Word
   pub more : after ≡ before ++ words
   pub told : IsToldBy sub texts place key publishers step words

@@ -1,5 +1,6 @@
 -- The box as a function does what each call says, and so stands for the calls.
-use Rattle.std.specs.Prelude.{◌≡◌, ℕ, ◌==◌, Bool, true, false, not, cond, ◌||◌, List, [], ◌∷◌, filter, Option, Some, None, is_some, option_and_then, unwrap_or, refl}
+use Rattle.std.specs.Prelude.{◌≡◌, ℕ, ◌==◌, Bool, true, false, not, cond, ◌||◌, List, [], ◌∷◌, filter, Option, Some, None, is_some, option_and_then,
+    unwrap_or, refl}
 use Rattle.std.specs.Option.{option_or}
 use Rattle.std.specs.List.{list_any}
 use Rattle.std.specs.declared.cmp.Ordering.{Ordering}
@@ -10,7 +11,8 @@ use Rattle.map_model.specs.MapLaws.{is_some-at, at-union, sorted-union, at-colle
 use Rattle.merge_model.specs.Merge.{IsMerge}
 use Rattle.merge_model.specs.Publishing.{Call, apply, drop_sub, sub_of, shown, last_news, says, shown_since}
 use Rattle.merge_model.specs.Kept.{placed, Kept, nothing_kept, has, kept_at, there_after, claims_of, claims_after, IsInOrder, Stands, IsAfter}
-use Rattle.merge_model.specs.Box.{marked, keys_of_both, unless_empty, publishers_after, fields_of, kept_after, unless_nothing, news_of, box_after, box_of, merge_of}
+use Rattle.merge_model.specs.Box.{marked, keys_of_both, unless_empty, publishers_after, fields_of, kept_after, unless_nothing, news_of, box_after,
+    box_of, merge_of}
 use Rattle.merge_model.specs.PublishingLaws.{same_sub, apart, differ}
 use Rattle.merge_model.specs.KeptLaws.{merged_is, stands_at_first, stands_after}
 
@@ -29,12 +31,14 @@ without_self : (r q : ℕ) (ps : List ℕ) → has q (filter (λ s. not (s == r)
 without_self r q [] = elim (q == r) as (λ b. false ≡ cond b false false) [ true ↦ refl | false ↦ refl ]
 without_self r q (p ∷ ps) =
     let rest = without_self r q ps in
-    elim (p == r) as (λ b. (p == r) ≡ b → has q (cond (not b) (p ∷ filter (λ s. not (s == r)) ps) (filter (λ s. not (s == r)) ps)) ≡ cond (q == r) false (has q (p ∷ ps))) [
+    elim (p == r) as
+        (λ b. (p == r) ≡ b → has q (cond (not b) (p ∷ filter (λ s. not (s == r)) ps) (filter (λ s. not (s == r)) ps)) ≡ cond (q == r) false (has q (p ∷ ps))) [
       | true ↦ λ t. rest ∙ elim (q == r) as (λ b. (q == r) ≡ b → cond b false (has q ps) ≡ cond b false ((q == p) || has q ps)) [
         | true ↦ λ _. refl
         | false ↦ λ e. ap (λ b. b || has q ps) (sym (apart q p (λ same. differ q r e (same ∙ same_sub p r t))))
       ] refl
-      | false ↦ λ t. ap (λ b. (q == p) || b) rest ∙ elim (q == r) as (λ b. (q == r) ≡ b → ((q == p) || cond b false (has q ps)) ≡ cond b false ((q == p) || has q ps)) [
+      | false ↦ λ t. ap (λ b. (q == p) || b) rest
+          ∙ elim (q == r) as (λ b. (q == r) ≡ b → ((q == p) || cond b false (has q ps)) ≡ cond b false ((q == p) || has q ps)) [
         | true ↦ λ e. ap (λ b. b || false) (apart q p (λ same. differ p r t (sym same ∙ same_sub q r e)))
         | false ↦ λ _. refl
       ] refl
@@ -49,7 +53,8 @@ with_self r q ps = elim (has r ps) as (λ b. has r ps ≡ b → has q (cond b ps
   | false ↦ λ _. elim (q == r) as (λ b. (b || has q ps) ≡ cond b true (has q ps)) [ true ↦ refl | false ↦ refl ]
 ] refl
 
-has-publishers_after : {D : Type 0} (r : ℕ) (d : Option D) (q : ℕ) (ps : List ℕ) → has q (publishers_after r (is_some d) ps) ≡ cond (q == r) (is_some d) (has q ps)
+has-publishers_after : {D : Type 0} (r : ℕ) (d : Option D) (q : ℕ) (ps : List ℕ) →
+    has q (publishers_after r (is_some d) ps) ≡ cond (q == r) (is_some d) (has q ps)
 has-publishers_after r None q ps = without_self r q ps
 has-publishers_after r (Some d) q ps = with_self r q ps
 
@@ -89,20 +94,23 @@ module _ {N V : Type 0} {S : N → N → Ordering} (s : IsKeyOrder S) where
   said_of (Some doc) f e = nothing (at S doc f) e
 
   -- the claims on a field after a call
-  pub claims-kept_after : (r : ℕ) (w : Option (Option (List (N × V)))) (e : Kept N V) (f : N) → claims_of S (kept_after S r w e) f ≡ claims_after S r w f (claims_of S e f)
+  pub claims-kept_after : (r : ℕ) (w : Option (Option (List (N × V)))) (e : Kept N V) (f : N) →
+      claims_of S (kept_after S r w e) f ≡ claims_after S r w f (claims_of S e f)
   claims-kept_after r None e f = refl
   claims-kept_after r (Some d) e f =
       let g = λ (q : N). unless_empty (placed r (option_and_then (λ doc. at S doc q) d) (claims_of S e q)) in
       let names = keys_of_both S (fields_of d) e.fields in
       ap (λ x. unwrap_or x []) (at-collect s g names f)
-      ∙ elim (list_any (eq_by_cmp S f) names) as (λ b. list_any (eq_by_cmp S f) names ≡ b → unwrap_or (cond b (g f) None) [] ≡ placed r (option_and_then (λ doc. at S doc f) d) (claims_of S e f)) [
+      ∙ elim (list_any (eq_by_cmp S f) names) as
+          (λ b. list_any (eq_by_cmp S f) names ≡ b → unwrap_or (cond b (g f) None) [] ≡ placed r (option_and_then (λ doc. at S doc f) d) (claims_of S e f)) [
         | true ↦ λ _. or_empty (placed r (option_and_then (λ doc. at S doc f) d) (claims_of S e f))
         | false ↦ λ h.
             let none = neither (is_some (at S (fields_of d) f)) (is_some (at S e.fields f)) (sym (listed s (fields_of d) e.fields f) ∙ h) in
             sym (ap₂ (λ w claims. placed r w claims) (said_of d f none.0) (ap (λ x. unwrap_or x []) (nothing (at S e.fields f) none.1)))
       ] refl
 
-  pub has-kept_after : (r : ℕ) (w : Option (Option (List (N × V)))) (e : Kept N V) (q : ℕ) → has q (kept_after S r w e).publishers ≡ there_after r w q (has q e.publishers)
+  pub has-kept_after : (r : ℕ) (w : Option (Option (List (N × V)))) (e : Kept N V) (q : ℕ) →
+      has q (kept_after S r w e).publishers ≡ there_after r w q (has q e.publishers)
   has-kept_after r None e q = refl
   has-kept_after r (Some d) e q = has-publishers_after r d q e.publishers
 
@@ -112,18 +120,21 @@ module _ {N V : Type 0} {S : N → N → Ordering} (s : IsKeyOrder S) where
       sorted-collect s (λ q. unless_empty (placed r (option_and_then (λ doc. at S doc q) d) (claims_of S e q))) (keys_of_both S (fields_of d) e.fields)
       (sorted-union s (marked (fields_of d)) (marked e.fields) (sorted-filter_map_entries S (λ f claims. Some tt) e.fields h))
 
-kept_itself : {N V : Type 0} (ps : List ℕ) (fields : List (N × List (ℕ × V))) → unwrap_or (unless_nothing (record { publishers = ps; fields = fields })) nothing_kept ≡ record { publishers = ps; fields = fields }
+kept_itself : {N V : Type 0} (ps : List ℕ) (fields : List (N × List (ℕ × V))) →
+    unwrap_or (unless_nothing (record { publishers = ps; fields = fields })) nothing_kept ≡ record { publishers = ps; fields = fields }
 kept_itself [] [] = refl
 kept_itself [] (f ∷ fields) = refl
 kept_itself (p ∷ ps) fields = refl
 
 module _ {K N V : Type 0} {R : K → K → Ordering} (o : IsKeyOrder R) {S : N → N → Ordering} (s : IsKeyOrder S) where
-  unlisted : (call : Call K (List (N × V))) (k : K) → is_some (at R (news_of call) k) ≡ false → kept_after S (sub_of call) (says R call k) nothing_kept ≡ nothing_kept
+  unlisted : (call : Call K (List (N × V))) (k : K) → is_some (at R (news_of call) k) ≡ false →
+      kept_after S (sub_of call) (says R call k) nothing_kept ≡ nothing_kept
   unlisted (apply r news) k e = ap (λ w. kept_after S r w nothing_kept) (last_news-none R news k e)
   unlisted (drop_sub r) k e = refl
 
   -- what is kept at each key after a call
-  pub kept_at-box_after : (call : Call K (List (N × V))) (box : List (K × Kept N V)) (k : K) → kept_at R (box_after R S call box) k ≡ kept_after S (sub_of call) (says R call k) (kept_at R box k)
+  pub kept_at-box_after : (call : Call K (List (N × V))) (box : List (K × Kept N V)) (k : K) →
+      kept_at R (box_after R S call box) k ≡ kept_after S (sub_of call) (says R call k) (kept_at R box k)
   kept_at-box_after call box k =
       let g = λ (q : K). unless_nothing (kept_after S (sub_of call) (says R call q) (kept_at R box q)) in
       let ks = keys_of_both R (news_of call) box in
@@ -147,7 +158,8 @@ module _ {K N V : Type 0} {R : K → K → Ordering} (o : IsKeyOrder R) {S : N �
   box_after_in_order call box h = record {
     by_key = sorted-collect o (λ q. unless_nothing (kept_after S (sub_of call) (says R call q) (kept_at R box q))) (keys_of_both R (news_of call) box)
         (sorted-union o (marked (news_of call)) (marked box) (sorted-filter_map_entries R (λ k e. Some tt) box h.by_key));
-    by_name = λ k. subst (λ e. IsSorted S e.fields) (sym (kept_at-box_after call box k)) (sorted-kept_after s (sub_of call) (says R call k) (kept_at R box k) (h.by_name k));
+    by_name = λ k. subst (λ e. IsSorted S e.fields) (sym (kept_at-box_after call box k))
+        (sorted-kept_after s (sub_of call) (says R call k) (kept_at R box k) (h.by_name k));
   }
 
   -- after every list of calls the box stands for it
@@ -155,7 +167,8 @@ module _ {K N V : Type 0} {R : K → K → Ordering} (o : IsKeyOrder R) {S : N �
   box_of_stands [] = stands_at_first o s
   box_of_stands (call ∷ past) =
       let before = box_of_stands past in
-      stands_after o s call past (box_of R S past) (box_after R S call (box_of R S past)) before (box_after_is call (box_of R S past)) (box_after_in_order call (box_of R S past) before.order)
+      stands_after o s call past (box_of R S past) (box_after R S call (box_of R S past)) before (box_after_is call (box_of R S past))
+          (box_after_in_order call (box_of R S past) before.order)
 
   -- and what a client sees of it is the merge
   pub merge_of_is : (past : List (Call K (List (N × V)))) → IsMerge R S (shown R past) (shown_since R S past) (merge_of R S past)

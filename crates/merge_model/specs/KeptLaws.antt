@@ -1,12 +1,14 @@
 -- What a merge box keeps stands for what the subscriptions show, call after call, and what a client sees is their merge.
-use Rattle.std.specs.Prelude.{◌≡◌, ℕ, suc, ◌≢◌, ◌<◌, ◌≤◌, ◌==◌, Bool, true, false, not, cond, List, [], ◌∷◌, Option, Some, None, is_some, IsSome, IfSome, option_and_then, unwrap_or, refl, ◌||◌}
+use Rattle.std.specs.Prelude.{◌≡◌, ℕ, suc, ◌≢◌, ◌<◌, ◌≤◌, ◌==◌, Bool, true, false, not, cond, List, [], ◌∷◌, Option, Some, None, is_some, IsSome,
+    IfSome, option_and_then, unwrap_or, refl, ◌||◌}
 use Rattle.std.specs.declared.cmp.Ordering.{Ordering}
 use Rattle.std.proofs.Common.{sym, ap, ◌∙◌, subst, subst₂, arith, true≢false}
 use Rattle.map_model.specs.Maps.{at, IsSorted, IsKeyOrder}
 use Rattle.map_model.specs.MapLaws.{at-filter_map_entries, sorted-filter_map_entries, sorted-nil}
 use Rattle.merge_model.specs.Merge.{field, IsMerge}
 use Rattle.merge_model.specs.Publishing.{Call, apply, sub_of, shown, says, shown_since}
-use Rattle.merge_model.specs.Kept.{claimed, first_value, IsCell, Kept, nothing_kept, has, is_empty, merged_fields, merged_doc, merged, kept_at, publishers_at, there_after, claims_of, claims_after, claims_at, IsInOrder, Stands, IsAfter}
+use Rattle.merge_model.specs.Kept.{claimed, first_value, IsCell, Kept, nothing_kept, has, is_empty, merged_fields, merged_doc, merged, kept_at,
+    publishers_at, there_after, claims_of, claims_after, claims_at, IsInOrder, Stands, IsAfter}
 use Rattle.merge_model.specs.SinceLaws.{since-le, since_held, since_begun}
 use Rattle.merge_model.specs.PublishingLaws.{at-shown, sub-self, apart, differ}
 use Rattle.merge_model.specs.CellLaws.{IsCell-same, IsCell-placed, of_claimant}
@@ -41,8 +43,10 @@ module _ {V : Type 0} (time : ℕ → ℕ) (value : ℕ → Option V) where
 has_first : (p : ℕ) (ps : List ℕ) → has p (p ∷ ps) ≡ true
 has_first p ps = ap (λ b. b || has p ps) (sub-self p)
 
-no_value : {K N V : Type 0} (R : K → K → Ordering) (S : N → N → Ordering) (m : List (K × List (N × V))) (k : K) (f : N) → is_some (at R m k) ≡ false → is_some (field R S m k f) ≡ false
-no_value R S m k f e = elim (at R m k) as (λ x. is_some x ≡ false → is_some (option_and_then (λ d. at S d f) x) ≡ false) [ None ↦ λ _. refl | Some d ↦ λ h. absurd (true≢false h) ] e
+no_value : {K N V : Type 0} (R : K → K → Ordering) (S : N → N → Ordering) (m : List (K × List (N × V))) (k : K) (f : N) → is_some (at R m k) ≡ false →
+    is_some (field R S m k f) ≡ false
+no_value R S m k f e = elim (at R m k) as
+    (λ x. is_some x ≡ false → is_some (option_and_then (λ d. at S d f) x) ≡ false) [ None ↦ λ _. refl | Some d ↦ λ h. absurd (true≢false h) ] e
 
 there : {D : Type 0} (r : ℕ) (w : Option (Option D)) (q : ℕ) (was : Option D) → there_after r w q (is_some was) ≡ is_some (cond (q == r) (unwrap_or w was) was)
 there r None q was = elim (q == r) as (λ b. is_some was ≡ is_some (cond b was was)) [ true ↦ refl | false ↦ refl ]
@@ -52,7 +56,8 @@ same_there : {D : Type 0} (b : Bool) (was : Option D) → cond b was was ≡ was
 same_there true was = refl
 same_there false was = refl
 
-by_cases : {D X : Type 0} (g : D → Option X) (b : Bool) (d was : Option D) → option_and_then g (cond b d was) ≡ cond b (option_and_then g d) (option_and_then g was)
+by_cases : {D X : Type 0} (g : D → Option X) (b : Bool) (d was : Option D) →
+    option_and_then g (cond b d was) ≡ cond b (option_and_then g d) (option_and_then g was)
 by_cases g true d was = refl
 by_cases g false d was = refl
 
@@ -94,7 +99,8 @@ module _ {K N V : Type 0} {R : K → K → Ordering} (o : IsKeyOrder R) {S : N �
     pub field-merged : (k : K) (f : N) → field R S (merged box) k f ≡ first_value (claims_at R S box k f)
     field-merged k f =
         ap (option_and_then (λ d. at S d f)) (at-merged box k h.order.by_key)
-        ∙ elim (is_empty (publishers_at R box k)) as (λ b. is_empty (publishers_at R box k) ≡ b → option_and_then (λ d. at S d f) (cond b None (Some (merged_fields (kept_at R box k).fields))) ≡ first_value (claims_at R S box k f)) [
+        ∙ elim (is_empty (publishers_at R box k)) as
+            (λ b. is_empty (publishers_at R box k) ≡ b → option_and_then (λ d. at S d f) (cond b None (Some (merged_fields (kept_at R box k).fields))) ≡ first_value (claims_at R S box k f)) [
           | true ↦ λ none. sym (no_claims k f none)
           | false ↦ λ _. at-merged_fields (kept_at R box k) f (h.order.by_name k)
         ] refl
@@ -120,13 +126,15 @@ module _ {K N V : Type 0} {R : K → K → Ordering} (o : IsKeyOrder R) {S : N �
         λ some.
             let who = published_to (publishers_at R box k) (sym (some_doc (kept_at R box k)) ∙ ap is_some (sym (at-merged box k h.order.by_key)) ∙ some) in
             (who.0, sym (h.publishers k who.0) ∙ who.1),
-        λ who. ap is_some (at-merged box k h.order.by_key) ∙ some_doc (kept_at R box k) ∙ published_from (publishers_at R box k) who.0 (h.publishers k who.0 ∙ who.1),
+        λ who. ap is_some (at-merged box k h.order.by_key) ∙ some_doc (kept_at R box k)
+            ∙ published_from (publishers_at R box k) who.0 (h.publishers k who.0 ∙ who.1),
       );
       fields = λ k f v. (
         λ e.
             let first = first_from (λ r. time r k f) (λ r. field R S (show r) k f) (claims_at R S box k f) (h.cells k f) v (sym (field-merged k f) ∙ e) in
             record { sub = first.0; has = first.1; longest = first.2 },
-        λ first. field-merged k f ∙ first_is (λ r. time r k f) (λ r. field R S (show r) k f) (claims_at R S box k f) (h.cells k f) v first.sub first.has first.longest,
+        λ first. field-merged k f
+            ∙ first_is (λ r. time r k f) (λ r. field R S (show r) k f) (claims_at R S box k f) (h.cells k f) v first.sub first.has first.longest,
       );
     }
 
@@ -144,17 +152,23 @@ module _ {K N V : Type 0} {R : K → K → Ordering} (o : IsKeyOrder R) {S : N �
       → Stands R S (shown R (call ∷ past)) (shown_since R S (call ∷ past)) new
   stands_after call past old new h after order = record {
     order = order;
-    publishers = λ k r. after.publishers k r ∙ ap (there_after (sub_of call) (says R call k) r) (h.publishers k r) ∙ there (sub_of call) (says R call k) r (at R (shown R past r) k) ∙ ap is_some (sym (at-shown o call past r k));
-    cells = λ k f. subst (IsCell (λ r. shown_since R S (call ∷ past) r k f) (λ r. field R S (shown R (call ∷ past) r) k f)) (sym (after.claims k f)) (cell k f (says R call k) refl);
+    publishers = λ k r. after.publishers k r ∙ ap (there_after (sub_of call) (says R call k) r) (h.publishers k r)
+        ∙ there (sub_of call) (says R call k) r (at R (shown R past r) k) ∙ ap is_some (sym (at-shown o call past r k));
+    cells = λ k f. subst (IsCell (λ r. shown_since R S (call ∷ past) r k f) (λ r. field R S (shown R (call ∷ past) r) k f)) (sym (after.claims k f))
+        (cell k f (says R call k) refl);
   }
     where
       keeps : (k : K) (f : N) (r : ℕ) → IsSome (field R S (shown R past r) k f) → shown_since R S (call ∷ past) r k f ≡ shown_since R S past r k f
       keeps k f r some = since_held (λ earlier. is_some (field R S (shown R earlier r) k f)) call past some
 
-      value : (k : K) (f : N) (r : ℕ) → field R S (shown R (call ∷ past) r) k f ≡ cond (r == sub_of call) (option_and_then (λ d. at S d f) (unwrap_or (says R call k) (at R (shown R past r) k))) (field R S (shown R past r) k f)
-      value k f r = ap (option_and_then (λ d. at S d f)) (at-shown o call past r k) ∙ by_cases (λ d. at S d f) (r == sub_of call) (unwrap_or (says R call k) (at R (shown R past r) k)) (at R (shown R past r) k)
+      value : (k : K) (f : N) (r : ℕ) →
+          field R S (shown R (call ∷ past) r) k f ≡ cond (r == sub_of call)
+          (option_and_then (λ d. at S d f) (unwrap_or (says R call k) (at R (shown R past r) k))) (field R S (shown R past r) k f)
+      value k f r = ap (option_and_then (λ d. at S d f)) (at-shown o call past r k)
+          ∙ by_cases (λ d. at S d f) (r == sub_of call) (unwrap_or (says R call k) (at R (shown R past r) k)) (at R (shown R past r) k)
 
-      begins : (k : K) (f : N) (r : ℕ) → field R S (shown R past r) k f ≡ None → (q : ℕ) → IsSome (field R S (shown R past q) k f) → shown_since R S (call ∷ past) q k f < shown_since R S (call ∷ past) r k f
+      begins : (k : K) (f : N) (r : ℕ) → field R S (shown R past r) k f ≡ None → (q : ℕ) → IsSome (field R S (shown R past q) k f) →
+          shown_since R S (call ∷ past) q k f < shown_since R S (call ∷ past) r k f
       begins k f r none q some =
           let late = since_begun (λ earlier. is_some (field R S (shown R earlier r) k f)) call past (ap is_some none) in
           let early = since-le (λ earlier. is_some (field R S (shown R earlier q) k f)) past in
@@ -163,11 +177,16 @@ module _ {K N V : Type 0} {R : K → K → Ordering} (o : IsKeyOrder R) {S : N �
           below : {a n : ℕ} → a ≤ n → a < suc n
           below h = omega arith
 
-      cell : (k : K) (f : N) (w : Option (Option (List (N × V)))) → says R call k ≡ w → IsCell (λ r. shown_since R S (call ∷ past) r k f) (λ r. field R S (shown R (call ∷ past) r) k f) (claims_after S (sub_of call) w f (claims_at R S old k f))
-      cell k f None is = IsCell-same (λ r. shown_since R S past r k f) (λ r. shown_since R S (call ∷ past) r k f) (λ r. field R S (shown R past r) k f) (λ r. field R S (shown R (call ∷ past) r) k f) (claims_at R S old k f) (h.cells k f)
+      cell : (k : K) (f : N) (w : Option (Option (List (N × V)))) → says R call k ≡ w →
+          IsCell (λ r. shown_since R S (call ∷ past) r k f) (λ r. field R S (shown R (call ∷ past) r) k f)
+          (claims_after S (sub_of call) w f (claims_at R S old k f))
+      cell k f None is = IsCell-same (λ r. shown_since R S past r k f) (λ r. shown_since R S (call ∷ past) r k f)
+          (λ r. field R S (shown R past r) k f) (λ r. field R S (shown R (call ∷ past) r) k f) (claims_at R S old k f) (h.cells k f)
           (λ r. value k f r ∙ ap (λ w. cond (r == sub_of call) (option_and_then (λ d. at S d f) (unwrap_or w (at R (shown R past r) k))) (field R S (shown R past r) k f)) is ∙ same_there (r == sub_of call) (field R S (shown R past r) k f))
           (keeps k f)
-      cell k f (Some d) is = IsCell-placed (λ r. shown_since R S past r k f) (λ r. shown_since R S (call ∷ past) r k f) (λ r. field R S (shown R past r) k f) (λ r. field R S (shown R (call ∷ past) r) k f) (claims_at R S old k f) (sub_of call) (option_and_then (λ doc. at S doc f) d) (h.cells k f)
+      cell k f (Some d) is = IsCell-placed (λ r. shown_since R S past r k f) (λ r. shown_since R S (call ∷ past) r k f)
+          (λ r. field R S (shown R past r) k f) (λ r. field R S (shown R (call ∷ past) r) k f) (claims_at R S old k f) (sub_of call)
+          (option_and_then (λ doc. at S doc f) d) (h.cells k f)
           (λ r. value k f r ∙ ap (λ w. cond (r == sub_of call) (option_and_then (λ doc. at S doc f) (unwrap_or w (at R (shown R past r) k))) (field R S (shown R past r) k f)) is)
           (keeps k f)
           (begins k f (sub_of call))

@@ -21,7 +21,8 @@ module _ {K N V : Type 0} {R : K → K → Ordering} (o : IsKeyOrder R) {S : N �
   same_docs (Some a) (Some b) g h to from fields = ap Some (same_maps s a b g h fields)
 
   -- there is at most one merge
-  pub one_merge : (shown : ℕ → List (K × List (N × V))) (since : ℕ → K → N → ℕ) (m n : List (K × List (N × V))) → IsMerge R S shown since m → IsMerge R S shown since n → m ≡ n
+  pub one_merge : (shown : ℕ → List (K × List (N × V))) (since : ℕ → K → N → ℕ) (m n : List (K × List (N × V))) → IsMerge R S shown since m →
+      IsMerge R S shown since n → m ≡ n
   one_merge shown since m n a b = same_maps o m n a.by_key b.by_key (λ k.
       same_docs (at R m k) (at R n k) (a.by_name k) (b.by_name k)
       (λ h. (b.keys k).1 ((a.keys k).0 h))

@@ -38,13 +38,15 @@ module _ {K D : Type 0} {R : K → K → Ordering} (o : IsKeyOrder R) where
       let before = sorted-shown past s in
       elim (s == r) as (λ b. IsSorted R (cond b [] (shown R past s))) [ true ↦ sorted-nil R | false ↦ before ]
 
-  last_step : (later : Option (Option D)) (b : Bool) (w old : Option D) → unwrap_or later (cond b w old) ≡ unwrap_or (option_or later (cond b (Some w) None)) old
+  last_step : (later : Option (Option D)) (b : Bool) (w old : Option D) →
+      unwrap_or later (cond b w old) ≡ unwrap_or (option_or later (cond b (Some w) None)) old
   last_step None true w old = refl
   last_step None false w old = refl
   last_step (Some v) b w old = refl
 
   -- the last news of a key count
-  pub at-renewed : (m : List (K × D)) (news : List (K × Option D)) (k : K) → IsSorted R m → at R (renewed R m news) k ≡ unwrap_or (last_news R news k) (at R m k)
+  pub at-renewed : (m : List (K × D)) (news : List (K × Option D)) (k : K) → IsSorted R m →
+      at R (renewed R m news) k ≡ unwrap_or (last_news R news k) (at R m k)
   at-renewed m [] k h = refl
   at-renewed m (e ∷ news) k h =
       at-renewed (set R m e.0 e.1) news k (sorted-set o m e.0 e.1 h)
@@ -52,10 +54,12 @@ module _ {K D : Type 0} {R : K → K → Ordering} (o : IsKeyOrder R) where
       ∙ last_step (last_news R news k) (eq_by_cmp R k e.0) e.1 (at R m k)
 
   -- a call changes what its own subscription shows, at the keys of which it says something
-  pub at-shown : (call : Call K D) (past : List (Call K D)) (s : ℕ) (k : K) → at R (shown R (call ∷ past) s) k ≡ cond (s == sub_of call) (unwrap_or (says R call k) (at R (shown R past s) k)) (at R (shown R past s) k)
+  pub at-shown : (call : Call K D) (past : List (Call K D)) (s : ℕ) (k : K) →
+      at R (shown R (call ∷ past) s) k ≡ cond (s == sub_of call) (unwrap_or (says R call k) (at R (shown R past s) k)) (at R (shown R past s) k)
   at-shown (apply r news) past s k =
       let here = at-renewed (shown R past s) news k (sorted-shown past s) in
-      elim (s == r) as (λ b. at R (cond b (renewed R (shown R past s) news) (shown R past s)) k ≡ cond b (unwrap_or (last_news R news k) (at R (shown R past s) k)) (at R (shown R past s) k)) [ true ↦ here | false ↦ refl ]
+      elim (s == r) as
+          (λ b. at R (cond b (renewed R (shown R past s) news) (shown R past s)) k ≡ cond b (unwrap_or (last_news R news k) (at R (shown R past s) k)) (at R (shown R past s) k)) [ true ↦ here | false ↦ refl ]
   at-shown (drop_sub r) past s k =
       elim (s == r) as (λ b. at R (cond b [] (shown R past s)) k ≡ cond b None (at R (shown R past s) k)) [ true ↦ refl | false ↦ refl ]
 

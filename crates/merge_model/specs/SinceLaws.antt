@@ -52,7 +52,8 @@ module _ {C : Type 0} (holds : List C → Bool) where
   since_least (event ∷ past) j from =
       let older = since_least past j in
       elim (holds past) as (λ b. holds past ≡ b → since holds (event ∷ past) ≤ j) [
-        | true ↦ λ held. subst (λ n. n ≤ j) (sym (since_held event past held)) (older (λ t lo hi. ap holds (sym (up_to-older t event past hi)) ∙ from t lo (omega arith)))
+        | true ↦ λ held. subst (λ n. n ≤ j) (sym (since_held event past held))
+            (older (λ t lo hi. ap holds (sym (up_to-older t event past hi)) ∙ from t lo (omega arith)))
         | false ↦ λ began. subst (λ n. n ≤ j) (sym (since_begun event past began)) (⊎_elim
             (λ early.
             let fits : length past ≤ length (event ∷ past) = omega arith in

@@ -1,3 +1,5 @@
+mod Listing
+mod Holding
 mod Found
 mod States
 mod InPlace

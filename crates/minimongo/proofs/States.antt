@@ -25,14 +25,14 @@ use Rattle.ejson_value.specs.Key.{key_cmp, key_order}
 use Rattle.ejson_value.specs.Rows.{Rows, AreRows}
 use Rattle.ejson_value.specs.Changes.{changes_of}
 use Rattle.ejson_value.specs.ChangeLaws.{HaveDistinctKeys}
-use Rattle.reconcile.specs.declared.save.Save.{Save}
-use Rattle.reconcile.specs.declared.fault.Served.{Served}
-use Rattle.reconcile.specs.declared.fault.Served.TheVariants as from
-use Rattle.reconcile.specs.Originals.{Original, Originals, holders_in, is_holder, saves_of, joined, saved_by, left_by, held_still, due_at, due, served, AreOriginals, IsSaved, IsForgotten, IsServed, ServedFrom}
-use Rattle.reconcile.specs.OriginalLaws.{joined_holders, left_saved, left_absent}
-use Rattle.reconcile.specs.declared.fault.ServeFault.{ServeFault}
-use Rattle.reconcile.specs.declared.fault.ServeFault.TheVariants as serve
-use Rattle.reconcile.specs.Taking.{saved_refusal, IsFittingIf}
+use Rattle.minimongo.specs.declared.save.Save.{Save}
+use Rattle.minimongo.specs.declared.serve_fault.Served.{Served}
+use Rattle.minimongo.specs.declared.serve_fault.Served.TheVariants as from
+use Rattle.minimongo.specs.Originals.{Original, Originals, holders_in, is_holder, saves_of, joined, saved_by, left_by, held_still, due_at, due, served, AreOriginals, IsSaved, IsForgotten, IsServed, ServedFrom}
+use Rattle.minimongo.specs.OriginalLaws.{joined_holders, left_saved, left_absent}
+use Rattle.minimongo.specs.declared.serve_fault.ServeFault.{ServeFault}
+use Rattle.minimongo.specs.declared.serve_fault.ServeFault.TheVariants as serve
+use Rattle.minimongo.specs.Taking.{saved_refusal, IsFittingIf}
 use Rattle.minimongo.specs.declared.fault.ViewFault.{ViewFault}
 use Rattle.minimongo.specs.Faults.{view_fault, IsFitting}
 use Rattle.minimongo.specs.Restored.{saves_at, restored}

@@ -3,8 +3,8 @@ use Rattle.std.specs.Prelude.{◌≡◌, ℕ, List, Option, Some, None, Result, 
 use Rattle.map_model.specs.Differences.{Step}
 use Rattle.value_model.specs.Val.{Val, Entries}
 use Rattle.view_model.specs.Views.{refusal}
-use Rattle.reconcile.specs.declared.fault.ServeFault.{ServeFault}
-use Rattle.reconcile.specs.declared.fault.ServeFault.TheVariants as serve
+use Rattle.minimongo.specs.declared.serve_fault.ServeFault.{ServeFault}
+use Rattle.minimongo.specs.declared.serve_fault.ServeFault.TheVariants as serve
 use Rattle.minimongo.specs.declared.fault.ViewFault.{ViewFault}
 use Rattle.minimongo.specs.declared.fault.ViewFault.TheVariants.{Wrong, Memory}
 

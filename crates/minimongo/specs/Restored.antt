@@ -6,7 +6,7 @@ use Rattle.ejson_value.specs.declared.key.Key.{Key}
 use Rattle.ejson_value.specs.declared.change.Change.{Change}
 use Rattle.ejson_value.specs.Key.{key_cmp}
 use Rattle.ejson_value.specs.Rows.{Rows}
-use Rattle.reconcile.specs.declared.save.Save.{Save}
+use Rattle.minimongo.specs.declared.save.Save.{Save}
 
 -- what stands at each of the keys
 abbrev pub saves_at : Rows → List Key → List (Key × Option Entries)

@@ -8,7 +8,7 @@ use Rattle.view_model.specs.Views.{View}
 use Rattle.ejson_value.specs.declared.key.Key.{Key}
 use Rattle.ejson_value.specs.Key.{key_cmp, key_code}
 use Rattle.ejson_value.specs.Rows.{Rows, rows_code}
-use Rattle.reconcile.specs.Originals.{Originals}
+use Rattle.minimongo.specs.Originals.{Originals}
 
 abbrev pub Documents : Type 0
 Documents = View Key Entries

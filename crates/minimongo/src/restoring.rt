@@ -6,14 +6,14 @@ ghost use Rattle.value_model.specs.Order.{text_cmp};
 ghost use Rattle.view_model.specs.Views.{refusal};
 ghost use Rattle.ejson_value.specs.Key.{key_cmp};
 ghost use Rattle.ejson_value.specs.Messages.{said};
-ghost use Rattle.reconcile.specs.Originals.{saves_of};
+ghost use Rattle.minimongo.specs.Originals.{saves_of};
 ghost use Rattle.minimongo.specs.Faults.{IsFitting};
 ghost use Rattle.minimongo.specs.Restored.{saves_at, restored};
 
 use crate::fault::ViewFault;
 use counted_contents::CountedContents;
 use ejson_value::{Change, Changes, Contents, DataMsg, Doc, Key, Keys, Mem, copy_option};
-use reconcile::{Save, Saves, key_of, taken};
+use crate::{Save, Saves, key_of, taken};
 use std::alloc::Global;
 
 // A copy of what stands at the key.

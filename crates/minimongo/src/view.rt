@@ -22,7 +22,7 @@ use crate::finding::find;
 use crate::restoring::{restoring, saves_at, take};
 use counted_contents::CountedContents;
 use ejson_value::{Changes, Contents, DataMsg, Keys, Mem, Publishes, Text};
-use reconcile::{Originals, Served};
+use crate::{Originals, Served};
 use selector_match::Selector;
 use std::alloc::Global;
 use std::marker::Model;

@@ -1,5 +1,7 @@
 -- What a modifier makes of a document (update operators, in MongoDB's documentation).
-use Rattle.std.specs.Prelude.{◌≡◌, ℕ, ℤ, pos, ◌+ℤ◌, neg_ℤ, Bool, true, false, not, codes, List, [], ◌∷◌, ◌++◌, length, drop, take, replicate, filter, map, Option, None, Some, is_some, unwrap_or, Result, Ok, Err, slice_get, slice_set, nat_le, nat_lt, int_lt, bytes_eq, if◌then◌else◌, ◌&&◌, ◌||◌, ◌-◌}
+use Rattle.std.specs.Prelude.{◌≡◌, ℕ, ℤ, pos, ◌+ℤ◌, neg_ℤ, Bool, true, false, not, codes, List, [], ◌∷◌, ◌++◌, length, drop, take, replicate, filter,
+    map, Option, None, Some, is_some, unwrap_or, Result, Ok, Err, slice_get, slice_set, nat_le, nat_lt, int_lt, bytes_eq, if◌then◌else◌, ◌&&◌, ◌||◌,
+    ◌-◌}
 use Rattle.std.specs.List.{list_any}
 use Rattle.std.specs.Ordering.{is_eq, is_lt, is_gt}
 use Rattle.value_model.specs.Val.{Val, null, int, text, list, object, Entries, vals_of, list_of, fields_of, entries_of}
@@ -11,7 +13,8 @@ use Rattle.ejson_value.specs.Results.{made}
 use Rattle.selector_match.specs.Holds.{fits}
 use Rattle.modifier_apply.specs.declared.fault.ApplyFault.{ApplyFault}
 use Rattle.modifier_apply.specs.declared.fault.ApplyFault.TheVariants as fault
-use Rattle.modifier_apply.specs.Change.{Edit, put_value, take_out, add, keep_least, keep_greatest, append_all, add_missing, drop_equal, drop_passing, drop_last, drop_first, Change, Modification, replaced_by, changed_by}
+use Rattle.modifier_apply.specs.Change.{Edit, put_value, take_out, add, keep_least, keep_greatest, append_all, add_missing, drop_equal, drop_passing,
+    drop_last, drop_first, Change, Modification, replaced_by, changed_by}
 
 -- what is made, or why the modifier is refused
 abbrev pub Outcome : Type 0 → Type 0
@@ -118,15 +121,18 @@ with_element vs place left = if nat_lt place (length vs) then slice_set vs place
 
 abbrev pub element_changed : Edit → (Option Val → Outcome (Option Val)) → List Val → Option ℕ → Outcome (List Val)
 element_changed e change vs None = blocked e vs
-element_changed e change vs (Some place) = if nat_le place max_place then made (λ left. with_element vs place left) (change (slice_get vs place)) else blocked e vs
+element_changed e change vs (Some place) =
+    if nat_le place max_place then made (λ left. with_element vs place left) (change (slice_get vs place)) else blocked e vs
 
 -- What is left of what is there, with the edit made at the end of the path. On the way a missing value becomes an empty object where the edit makes something.
 abbrev pub changed_at : Edit → List (List ℕ) → Option Val → Outcome (Option Val)
 changed_at e [] there = edited_if_there e there
 changed_at e (part ∷ rest) None =
     if makes e then made (λ fields. Some (object (fields_of fields))) (field_changed (λ there. changed_at e rest there) [] part) else Ok None
-changed_at e (part ∷ rest) (Some (object fs)) = made (λ fields. Some (object (fields_of fields))) (field_changed (λ there. changed_at e rest there) (entries_of fs) part)
-changed_at e (part ∷ rest) (Some (list vs)) = made (λ ws. Some (list (vals_of ws))) (element_changed e (λ there. changed_at e rest there) (list_of vs) (position_of part))
+changed_at e (part ∷ rest) (Some (object fs)) =
+    made (λ fields. Some (object (fields_of fields))) (field_changed (λ there. changed_at e rest there) (entries_of fs) part)
+changed_at e (part ∷ rest) (Some (list vs)) =
+    made (λ ws. Some (list (vals_of ws))) (element_changed e (λ there. changed_at e rest there) (list_of vs) (position_of part))
 changed_at e (part ∷ rest) (Some v) = made Some (blocked e v)
 
 abbrev pub document_changed : Edit → List (List ℕ) → Entries → Outcome Entries

@@ -7,8 +7,8 @@ use Rattle.value_model.specs.Val.{Val, Entries}
 use Rattle.value_model.specs.Order.{text_cmp, compare}
 use Rattle.ejson_value.specs.declared.key.Key.{Key}
 use Rattle.known_texts.specs.Places.{Texts}
-use Rattle.journal_model.specs.Texts.{server_text}
-use Rattle.journal_model.specs.Out.{about}
+use Rattle.session_model.specs.Texts.{server_text}
+use Rattle.session_model.specs.Out.{about}
 use Rattle.multiplexer.specs.Leading.{News}
 
 -- the value of a field of a document, if there is one

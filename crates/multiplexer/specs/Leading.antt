@@ -33,7 +33,8 @@ pub record IsLead (before after : Key → Option Entries) (told : News) : Type 0
 -- of each entry from a place on, the difference that it makes
 abbrev pub AreDifferences : ACursors → (ℕ → Rows) → ℕ → List News → Type 0
 AreDifferences cursors C from [] = Unit {0}
-AreDifferences cursors C from (one ∷ all) = IsDifference (published cursors (C from)) (published cursors (C (suc from))) one × AreDifferences cursors C (suc from) all
+AreDifferences cursors C from (one ∷ all) =
+    IsDifference (published cursors (C from)) (published cursors (C (suc from))) one × AreDifferences cursors C (suc from) all
 
 -- ---- what is said last
 
@@ -48,13 +49,15 @@ or_none (Some d) = refl
 -- one entry more
 pub said_with : (all : List News) (one : News) (key : Key) → last_said (all ++ one ∷ []) key ≡ option_or (at key_cmp one key) (last_said all key)
 said_with [] one key = sym (or_none (at key_cmp one key))
-said_with (first ∷ all) one key = ap (λ (x : Option (Option Entries)). option_or x (at key_cmp first key)) (said_with all one key) ∙ or_later (at key_cmp one key) (last_said all key) (at key_cmp first key)
+said_with (first ∷ all) one key = ap (λ (x : Option (Option Entries)). option_or x (at key_cmp first key)) (said_with all one key)
+    ∙ or_later (at key_cmp one key) (last_said all key) (at key_cmp first key)
 
 later_counts : (later said : Option (Option Entries)) (was : Option Entries) → unwrap_or later (unwrap_or said was) ≡ unwrap_or (option_or later said) was
 later_counts None said was = refl
 later_counts (Some d) said was = refl
 
-differs_by : (before after : Key → Option Entries) (told : News) (key : Key) → IsDifference before after told → (o : Option (Option Entries)) → at key_cmp told key ≡ o → unwrap_or o (before key) ≡ after key
+differs_by : (before after : Key → Option Entries) (told : News) (key : Key) → IsDifference before after told → (o : Option (Option Entries)) →
+    at key_cmp told key ≡ o → unwrap_or o (before key) ≡ after key
 differs_by before after told key d None e = d.quiet key e
 differs_by before after told key d (Some doc) e = (d.news key doc e).0
 
@@ -74,7 +77,8 @@ module _ (cursors : ACursors) (C : ℕ → Rows) where
   abbrev place : ℕ → Key → Option Entries
   place n = published cursors (C n)
 
-  pub said_leads : (from : ℕ) (all : List News) (key : Key) → AreDifferences cursors C from all → unwrap_or (last_said all key) (place from key) ≡ place (from + length all) key
+  pub said_leads : (from : ℕ) (all : List News) (key : Key) → AreDifferences cursors C from all →
+      unwrap_or (last_said all key) (place from key) ≡ place (from + length all) key
   said_leads from [] key told = ap (λ n. place n key) (none_on from)
   said_leads from (one ∷ all) key told =
       sym (later_counts (last_said all key) (at key_cmp one key) (place from key))
@@ -82,7 +86,8 @@ module _ (cursors : ACursors) (C : ℕ → Rows) where
       ∙ (said_leads (suc from) all key told.1 ∙ ap (λ n. place n key) (further from (length all))))
 
   -- what is said last of each key leads to where the entries do
-  pub joined_leads : (from : ℕ) (all : List News) (told : News) → AreDifferences cursors C from all → IsJoined all told → IsLead (place from) (place (from + length all)) told
+  pub joined_leads : (from : ℕ) (all : List News) (told : News) → AreDifferences cursors C from all → IsJoined all told →
+      IsLead (place from) (place (from + length all)) told
   joined_leads from all told differ joined = record {
     by_key = joined.by_key;
     leads = λ key. ap (λ (x : Option (Option Entries)). unwrap_or x (place from key)) (joined.each key) ∙ said_leads from all key differ;
@@ -103,6 +108,8 @@ module _ (cursors : ACursors) (C : ℕ → Rows) where
   differ_first (suc n) from (one ∷ all) told = (told.0, differ_first n (suc from) all told.1)
 
   -- one entry more
-  pub differ_with : (from : ℕ) (all : List News) (one : News) → AreDifferences cursors C from all → IsDifference (place (from + length all)) (place (suc (from + length all))) one → AreDifferences cursors C from (all ++ one ∷ [])
+  pub differ_with : (from : ℕ) (all : List News) (one : News) → AreDifferences cursors C from all →
+      IsDifference (place (from + length all)) (place (suc (from + length all))) one → AreDifferences cursors C from (all ++ one ∷ [])
   differ_with from [] one told d = (subst (λ n. IsDifference (place n) (place (suc n)) one) (sym (none_on from)) d, tt)
-  differ_with from (first ∷ all) one told d = (told.0, differ_with (suc from) all one told.1 (subst (λ n. IsDifference (place n) (place (suc n)) one) (sym (further from (length all))) d))
+  differ_with from (first ∷ all) one told d =
+      (told.0, differ_with (suc from) all one told.1 (subst (λ n. IsDifference (place n) (place (suc n)) one) (sym (further from (length all))) d))

@@ -32,10 +32,12 @@ asked_leads cursors m from until span asked =
 module _ (m : MachineState) (sub : Sub) (from until : ℕ) (lent : Lent) (is : IsLent m sub from until lent) where
   -- the texts that are known of it
   pub known_of : AreKnown (published sub.cursors (held_after m from).rows) (news_of (arc_value lent.span.told)) lent.span.texts
-  known_of = subst (λ n. AreKnown (published sub.cursors (held_after m n).rows) (news_of (arc_value lent.span.told)) lent.span.texts) is.asked.begins is.asked.is.known
+  known_of = subst
+      (λ n. AreKnown (published sub.cursors (held_after m n).rows) (news_of (arc_value lent.span.told)) lent.span.texts) is.asked.begins is.asked.is.known
 
   -- it is put back with others that are known
-  pub known_with : (texts : Texts) → AreKnown (published sub.cursors (held_after m from).rows) (news_of (arc_value lent.span.told)) texts → IsLent m sub from until (with_texts lent texts)
+  pub known_with : (texts : Texts) → AreKnown (published sub.cursors (held_after m from).rows) (news_of (arc_value lent.span.told)) texts →
+      IsLent m sub from until (with_texts lent texts)
   known_with texts known = record {
     name = is.name;
     params = is.params;
@@ -54,19 +56,25 @@ module _ (m : MachineState) (sub : Sub) (from until : ℕ) (lent : Lent) (is : I
 -- ---- histories that begin alike
 
 -- a span of the entries of a history is one of every longer one
-pub asked_longer : (cursors : ACursors) (m : MachineState) (more : List Entry) (from until : ℕ) (span : Span) → IsAsked cursors m from until span → IsAsked cursors (record m { history = m.history ++ more }) from until span
-asked_longer cursors m more from until span asked = record { begins = asked.begins; ends = asked.ends; is = one_longer cursors (programs m.app) m.history more (seen_span span) asked.is }
+pub asked_longer : (cursors : ACursors) (m : MachineState) (more : List Entry) (from until : ℕ) (span : Span) → IsAsked cursors m from until span →
+    IsAsked cursors (record m { history = m.history ++ more }) from until span
+asked_longer cursors m more from until span asked =
+    record { begins = asked.begins; ends = asked.ends; is = one_longer cursors (programs m.app) m.history more (seen_span span) asked.is }
 
 -- and of a shorter one that has the entries
-pub asked_shorter : (cursors : ACursors) (m : MachineState) (more : List Entry) (from until : ℕ) (span : Span) → until ≤ length m.history → IsAsked cursors (record m { history = m.history ++ more }) from until span → IsAsked cursors m from until span
+pub asked_shorter : (cursors : ACursors) (m : MachineState) (more : List Entry) (from until : ℕ) (span : Span) → until ≤ length m.history →
+    IsAsked cursors (record m { history = m.history ++ more }) from until span → IsAsked cursors m from until span
 asked_shorter cursors m more from until span le asked = record {
   begins = asked.begins;
   ends = asked.ends;
   is = one_shorter cursors (programs m.app) m.history more (seen_span span) (subst (λ n. n ≤ length m.history) (sym asked.ends) le) asked.is;
 }
 
-pub lent_longer : (m : MachineState) (more : List Entry) (sub : Sub) (from until : ℕ) (lent : Lent) → IsLent m sub from until lent → IsLent (record m { history = m.history ++ more }) sub from until lent
+pub lent_longer : (m : MachineState) (more : List Entry) (sub : Sub) (from until : ℕ) (lent : Lent) → IsLent m sub from until lent →
+    IsLent (record m { history = m.history ++ more }) sub from until lent
 lent_longer m more sub from until lent is = record { name = is.name; params = is.params; asked = asked_longer sub.cursors m more from until lent.span is.asked }
 
-pub lent_shorter : (m : MachineState) (more : List Entry) (sub : Sub) (from until : ℕ) (lent : Lent) → until ≤ length m.history → IsLent (record m { history = m.history ++ more }) sub from until lent → IsLent m sub from until lent
-lent_shorter m more sub from until lent le is = record { name = is.name; params = is.params; asked = asked_shorter sub.cursors m more from until lent.span le is.asked }
+pub lent_shorter : (m : MachineState) (more : List Entry) (sub : Sub) (from until : ℕ) (lent : Lent) → until ≤ length m.history →
+    IsLent (record m { history = m.history ++ more }) sub from until lent → IsLent m sub from until lent
+lent_shorter m more sub from until lent le is =
+    record { name = is.name; params = is.params; asked = asked_shorter sub.cursors m more from until lent.span le is.asked }

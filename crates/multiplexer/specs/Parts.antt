@@ -27,7 +27,8 @@ AreKnownParts before parts = AllByRecursion (IsKnownPart before) parts
 
 -- so is that of each publish whose key is not named already
 abbrev pub IsNewKnown : (Key → Option Entries) → News → News → Texts → Type 0
-IsNewKnown before named news texts = (place : ℕ) (one : Key × Option Entries) → slice_get news place ≡ Some one → at key_cmp named one.0 ≡ None → IsKnown before one (text_at texts place)
+IsNewKnown before named news texts = (place : ℕ) (one : Key × Option Entries) → slice_get news place ≡ Some one → at key_cmp named one.0 ≡ None →
+    IsKnown before one (text_at texts place)
 
 -- and that of each publish of an entry whose key neither these name nor an earlier entry
 abbrev pub AreNewKnown : (Key → Option Entries) → News → List AnEntry → Type 0

@@ -74,7 +74,8 @@ named number = bytes_of (bad number ∷ [])
 
 -- the first bad line was named, and nothing else was done
 abbrev pub IsNamed : NetworkCommand → List ℕ → Outside → Outside → Status → Type 0
-IsNamed c input before now s = (number : ℕ) × (bad_line_of c input ≡ Some number) × Tells status.BadInput (named number) before.written now.written s × (now.net ≡ before.net)
+IsNamed c input before now s =
+    (number : ℕ) × (bad_line_of c input ≡ Some number) × Tells status.BadInput (named number) before.written now.written s × (now.net ≡ before.net)
 
 -- ---- serving
 

@@ -36,7 +36,8 @@ AreNext levels tokens (v ∷ vs) rest = (more : List Token) × ValueRead levels 
 -- the operands of an operation of this name come first, and these tokens follow
 abbrev pub OperationRead : List ℕ → List ℕ → List Token → Op → List Token → Type 0
 OperationRead name collection tokens op rest =
-    (vs : List Val) × AreNext max_levels tokens vs rest × (vals_depth (vals_of vs) ≤ max_inside) × AreValues (vals_of vs) × (operation_named name collection vs ≡ Some op)
+    (vs : List Val) × AreNext max_levels tokens vs rest × (vals_depth (vals_of vs) ≤ max_inside) × AreValues (vals_of vs) ×
+        (operation_named name collection vs ≡ Some op)
 
 abbrev pub update_name : Bool → List ℕ
 update_name all = if all then codes "updateAll" else codes "update"
@@ -48,4 +49,5 @@ IsOver tokens = (outer : List Token) × (after_end_array tokens ≡ Some outer) 
 -- the tokens are those of an operation in two lists
 abbrev pub LineRead : List Token → Op → Type 0
 LineRead tokens op =
-    (vs : List Val) × ValueRead (max_levels + 2) tokens (told_value vs) [] × (vals_depth (vals_of vs) ≤ max_inside) × AreValues (vals_of vs) × (operation_in vs ≡ Some op)
+    (vs : List Val) × ValueRead (max_levels + 2) tokens (told_value vs) [] × (vals_depth (vals_of vs) ≤ max_inside) × AreValues (vals_of vs) ×
+        (operation_in vs ≡ Some op)

@@ -100,7 +100,8 @@ writing_in collection run a params = None
 
 -- The run ends with what the operation answers; a write to a document that is not there answers 0.
 abbrev pub by_verdict : Setting → Rows → Run → List ℕ → Writing → Verdict → Stepped
-by_verdict s rows run collection w verdict.Allowed = by_answer rows run (applied s.collections rows (operation_of collection w.0) s.room) (λ applied. ended (done (Some applied.answer)) w.1)
+by_verdict s rows run collection w verdict.Allowed =
+    by_answer rows run (applied s.collections rows (operation_of collection w.0) s.room) (λ applied. ended (done (Some applied.answer)) w.1)
 by_verdict s rows run collection w verdict.Absent = unchanged rows (ended (done (Some (int (pos 0)))) run)
 by_verdict s rows run collection w (verdict.Denied place) = refused rows run (denied_by place)
 by_verdict s rows run collection w verdict.NotAllowed = refused rows run not_allowed
@@ -114,16 +115,20 @@ by_rules s rows run collection rules w = by_verdict s rows run collection w (jud
 -- what a step does, where the run has those behind it left
 abbrev pub done_step : Setting → Rows → Run → ProgramStep → Stepped
 done_step s rows run (step.Insert collection doc) =
-    if_made rows run (new_in run collection doc) (λ new. by_answer rows run (applied s.collections rows (operation.Insert collection new.id new.doc) s.room) (λ a. gone_on (inserted collection new run)))
+    if_made rows run (new_in run collection doc)
+        (λ new. by_answer rows run (applied s.collections rows (operation.Insert collection new.id new.doc) s.room) (λ a. gone_on (inserted collection new run)))
 done_step s rows run (step.Update collection selector modifier all) =
-    if_made rows run (selector_in run selector) (λ q. if_made rows run (modifier_in run modifier) (λ m. by_answer rows run (applied s.collections rows (operation.Update collection q m all) s.room) (λ a. gone_on run)))
+    if_made rows run (selector_in run selector)
+        (λ q. if_made rows run (modifier_in run modifier) (λ m. by_answer rows run (applied s.collections rows (operation.Update collection q m all) s.room) (λ a. gone_on run)))
 done_step s rows run (step.Remove collection selector) =
     if_made rows run (selector_in run selector) (λ q. by_answer rows run (applied s.collections rows (operation.Remove collection q) s.room) (λ a. gone_on run))
-done_step s rows run (step.Require collection selector fault) = if_made rows run (selector_in run selector) (λ q. if_found rows run fault (matching collection q rows))
+done_step s rows run (step.Require collection selector fault) =
+    if_made rows run (selector_in run selector) (λ q. if_found rows run fault (matching collection q rows))
 done_step s rows run step.Unblock = unchanged rows (gone_on (record run { unblocked = true }))
 done_step s rows run (step.Throw fault) = refused rows run fault
 done_step s rows run (step.Return template) = if_made rows run (filled_in run template) (λ v. unchanged rows (ended (done (Some v)) run))
-done_step s rows run (step.Guarded collection a) = if_made rows run (writing_in collection run a run.params) (λ w. by_rules s rows run collection (s.rules collection) w)
+done_step s rows run (step.Guarded collection a) =
+    if_made rows run (writing_in collection run a run.params) (λ w. by_rules s rows run collection (s.rules collection) w)
 
 abbrev pub stepped_by : Setting → Rows → Run → List ProgramStep → Stepped
 stepped_by s rows run [] = unchanged rows run

@@ -72,7 +72,8 @@ planned s rows run (plan.Answers op ids) = by_answer rows run (applied s.collect
 
 -- The plan is that of the step: whatever room there is, and whatever steps are left, it leaves what the step does.
 abbrev pub IsPlan : Option App → StoreState → Progress → ProgramStep → Plan → Type 0
-IsPlan app store p step plan = (room : ℕ) (left : List ProgramStep) → done_step (setting_of app store room) store.rows (with_left p left) step ≡ planned (setting_of app store room) store.rows (with_left p left) plan
+IsPlan app store p step plan = (room : ℕ) (left : List ProgramStep) →
+    done_step (setting_of app store room) store.rows (with_left p left) step ≡ planned (setting_of app store room) store.rows (with_left p left) plan
 
 -- where the step looks neither at documents nor at rules
 abbrev pub IsPlanAnywhere : Progress → ProgramStep → Plan → Type 0

@@ -28,7 +28,8 @@ abbrev pub selector_made : List Val → Val → Making Query
 selector_made params template = and_then (lifted fill_fault (filled params [] template)) (λ v. lifted selector_fault (reading v))
 
 abbrev pub cursor_of : CursorRule → Query → Cursor
-cursor_of rule selector = record { collection = rule.collection; name = rule.name; selector = selector; fields = rule.fields; sort = rule.sort; limit = rule.limit }
+cursor_of rule selector =
+    record { collection = rule.collection; name = rule.name; selector = selector; fields = rule.fields; sort = rule.sort; limit = rule.limit }
 
 abbrev pub cursor_made : List Val → CursorRule → Making Cursor
 cursor_made params rule = and_then (selector_made params rule.selector) (λ selector. Ok (cursor_of rule selector))

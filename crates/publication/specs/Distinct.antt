@@ -50,7 +50,8 @@ map-snoc (x ∷ cursors) c = ap (λ ns. x.name ∷ ns) (map-snoc cursors c)
 -- the names of the cursors that are made, in order
 all_named : (params : List Val) (cursors : ACursors) (rules : Rules) (made : ACursors) → cursors_behind params cursors rules ≡ Ok made →
     map (λ (c : Cursor). c.name) made ≡ map (λ (c : Cursor). c.name) cursors ++ map (λ (r : CursorRule). r.name) rules
-all_named params cursors [] made e = ap (λ cs. map (λ (c : Cursor). c.name) cs) (sym (ok_is cursors made e)) ∙ sym (append-nil (map (λ (c : Cursor). c.name) cursors))
+all_named params cursors [] made e = ap (λ cs. map (λ (c : Cursor). c.name) cs) (sym (ok_is cursors made e))
+    ∙ sym (append-nil (map (λ (c : Cursor). c.name) cursors))
 all_named params cursors (rule ∷ rules) made e =
     let two = and_then-ok (cursor_made params rule) (λ (c : Cursor). cursors_behind params (cursors ++ c ∷ []) rules) made e in
     let front = map (λ (c : Cursor). c.name) cursors in
@@ -59,5 +60,6 @@ all_named params cursors (rule ∷ rules) made e =
     ∙ (ap (λ ns. ns ++ rest) (map-snoc cursors two.0)
     ∙ (append_assoc front (two.0.name ∷ []) rest ∙ ap (λ n. front ++ n ∷ rest) (named_alike params rule two.0 two.1)))
 
-pub cursors_distinct : (params : List Val) (rules : Rules) (made : ACursors) → cursors_behind params [] rules ≡ Ok made → RulesHaveDistinctNames rules → HaveDistinctNames made
+pub cursors_distinct : (params : List Val) (rules : Rules) (made : ACursors) → cursors_behind params [] rules ≡ Ok made → RulesHaveDistinctNames rules →
+    HaveDistinctNames made
 cursors_distinct params rules made e d = to_cursors made (subst AreDistinct (sym (all_named params [] rules made e)) (from_rules rules d))

@@ -33,4 +33,5 @@ IsInOrder sort (doc ∷ docs) = AllByRecursion (λ other. goes_before sort other
 -- Among these documents the limit chooses as it does among those of the contents that match.
 pub record IsChoice (cursor : Cursor) (rows : Rows) (docs : Documents) : Type 0 where
   pub order : IsInOrder cursor.sort docs
-  pub same : (id : List ℕ) (doc : Entries) → is_within cursor.limit (rank cursor docs id doc) ≡ is_within cursor.limit (rank cursor (matching cursor rows) id doc)
+  pub same : (id : List ℕ) (doc : Entries) →
+      is_within cursor.limit (rank cursor docs id doc) ≡ is_within cursor.limit (rank cursor (matching cursor rows) id doc)

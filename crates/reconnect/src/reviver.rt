@@ -11,7 +11,7 @@ ghost use Rattle.reconnect.specs.Parts.{parts_of, asked_parts};
 ghost use Rattle.reconnect.specs.Hearing.{Notes, Hears, HearsOn};
 ghost use Rattle.reconnect.specs.Giving.{Gives, updates_of, ends_of, lacks_again, rest_of};
 
-use client_parts::texts::connect;
+use client_core::texts::connect;
 use ddp_messages::{FromClient, FromServer};
 use ejson_value::{Contents, Mem, Names, Text};
 use json::Scratch;

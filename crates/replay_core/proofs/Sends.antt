@@ -24,7 +24,7 @@ use Rattle.modifier_apply.specs.contracts.modifier.Operator as operator
 use Rattle.modifier_apply.specs.contracts.modifier.Update as update
 use Rattle.modifier_apply.specs.contracts.modifier.Modifier as modifier
 use Rattle.collection_store.specs.contracts.operation.Op as op
-use Rattle.world_core.specs.core_model_for_proofs.contracts.events.Event as happening
+use Rattle.world_core.specs.world_model_for_proofs.contracts.events.Event as happening
 use Rattle.world_events.specs.contracts.event.Event as event
 use Rattle.std.proofs.vec.Vec.TheSendSync as vec
 use Rattle.replay_core.specs.contracts.tasks.Task as task

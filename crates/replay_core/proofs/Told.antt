@@ -15,8 +15,8 @@ use Rattle.world_core.specs.history_model.Operations.{operation_in}
 use Rattle.world_core.specs.history_log.Entries.{told_operation}
 use Rattle.world_core.specs.history_log_for_proofs.ToldLaws.{told_operation-worded}
 use Rattle.operation_reading.specs.Tells.{told_value, Tells}
-use Rattle.world_core.specs.core_model.declared.events.Event.TheVariants as event
-use Rattle.world_core.specs.core_model.Events.{IsEvent}
+use Rattle.world_core.specs.world_model.declared.events.Event.TheVariants as event
+use Rattle.world_core.specs.world_model.Events.{IsEvent}
 use Rattle.world_events.specs.Events.{event_in}
 use Rattle.checking.specs.InputLaws.{value_of_text}
 use Rattle.replay_core.specs.Stepping.{IsOperation}

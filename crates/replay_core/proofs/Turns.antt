@@ -2,10 +2,10 @@
 use Rattle.std.proofs.Common.{◌≡◌, ℕ, suc, ◌+◌, ◌<◌, List, ◌∷◌, ◌++◌, length, drop, get_or, drop-cons, true, false, cond, Some, ap, sym, subst, ◌∙◌, arith, inl, inr}
 use Rattle.std.proofs.lemmas.Grind.{flat_map-append}
 use Rattle.std.proofs.lemmas.List.{append_assoc}
-use Rattle.world_core.specs.core_model.declared.events.Event.{Event}
-use Rattle.world_core.specs.core_model.World.{World}
-use Rattle.world_core.specs.core_model.Lines.{lines_of}
-use Rattle.world_core.specs.core_model.Events.{step}
+use Rattle.world_core.specs.world_model.declared.events.Event.{Event}
+use Rattle.world_core.specs.world_model.World.{World}
+use Rattle.world_core.specs.world_model.Lines.{lines_of}
+use Rattle.world_core.specs.world_model.Events.{step}
 use Rattle.checking.specs.Input.{is_blank}
 use Rattle.replay_core.specs.Replay.{event_of, before_bad, events_of, bad_unless, bad_line, printed, line_bytes, all_bytes}
 use Rattle.replay_core.specs.declared.tasks.ReadLine.{ReadLine}

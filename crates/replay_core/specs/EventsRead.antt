@@ -6,10 +6,11 @@ use Rattle.value_model.specs.ValLaws.{vals_of-list_of}
 use Rattle.value_model.specs.Size.{is_name}
 use Rattle.value_model.specs.Valid.{IsValue, AreValues}
 use Rattle.ddp_messages.specs.Limits.{AreShallow}
-use Rattle.world_core.specs.core_model.declared.events.Event.{Event}
-use Rattle.world_core.specs.core_model.declared.events.Event.TheVariants as event
-use Rattle.world_core.specs.core_model.Events.{IsEvent}
-use Rattle.world_events.specs.Events.{text_first, is_nil, text_alone, texts_alone, have_few_levels, params_in, admin_in, sub_with, sub_in, call_with, call_in, number_in, placed_in, load_at, advance_by, called_in, act_of, step_in, asked_in, placed_row, row_in, event_in}
+use Rattle.world_core.specs.world_model.declared.events.Event.{Event}
+use Rattle.world_core.specs.world_model.declared.events.Event.TheVariants as event
+use Rattle.world_core.specs.world_model.Events.{IsEvent}
+use Rattle.world_events.specs.Events.{text_first, is_nil, text_alone, texts_alone, have_few_levels, params_in, admin_in, sub_with, sub_in, call_with,
+    call_in, number_in, placed_in, load_at, advance_by, called_in, act_of, step_in, asked_in, placed_row, row_in, event_in}
 use Rattle.world_events.proofs.Forms.{shallow_all}
 use Rattle.replay_core.specs.ValuesRead.{from_any, from_one, made_any, made_one}
 

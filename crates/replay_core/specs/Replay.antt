@@ -4,10 +4,10 @@ use Rattle.std.specs.Prelude.{ℕ, suc, List, [], ◌∷◌, ◌++◌, flat_map,
 use Rattle.app_model.specs.App.{App}
 use Rattle.program_reading.specs.Faults.{Reading}
 use Rattle.app_model.specs.Reading.{app_reading}
-use Rattle.world_core.specs.core_model.declared.events.Event.{Event}
-use Rattle.world_core.specs.core_model.World.{World, start}
-use Rattle.world_core.specs.core_model.Events.{step}
-use Rattle.world_core.specs.core_model.Lines.{lines_of}
+use Rattle.world_core.specs.world_model.declared.events.Event.{Event}
+use Rattle.world_core.specs.world_model.World.{World, start}
+use Rattle.world_core.specs.world_model.Events.{step}
+use Rattle.world_core.specs.world_model.Lines.{lines_of}
 use Rattle.world_events.specs.Events.{event_in}
 use Rattle.checking.specs.Input.{line_feed, lines_in, rest_of, is_blank, value_in}
 use Rattle.checking.specs.Output.{bytes_of, bad_lines}

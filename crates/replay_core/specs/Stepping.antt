@@ -3,11 +3,11 @@ use Rattle.std.specs.Prelude.{◌≡◌, ◌⊎◌, ℕ, true, false, List, ◌+
 use Rattle.collection_store.specs.declared.operation.Op.{Op}
 use Rattle.world_core.specs.history_model.Operations.{operation_in}
 use Rattle.world_core.specs.history_log.Entries.{told_operation}
-use Rattle.world_core.specs.core_model.declared.events.Event.{Event}
-use Rattle.world_core.specs.core_model.declared.events.Event.TheVariants as event
-use Rattle.world_core.specs.core_model.World.{World}
-use Rattle.world_core.specs.core_model.Events.{step, IsEvent}
-use Rattle.world_core.specs.core_model.Lines.{lines_of}
+use Rattle.world_core.specs.world_model.declared.events.Event.{Event}
+use Rattle.world_core.specs.world_model.declared.events.Event.TheVariants as event
+use Rattle.world_core.specs.world_model.World.{World}
+use Rattle.world_core.specs.world_model.Events.{step, IsEvent}
+use Rattle.world_core.specs.world_model.Lines.{lines_of}
 use Rattle.checking.specs.Input.{is_blank}
 use Rattle.replay_core.specs.Replay.{event_of, all_bytes}
 

@@ -1,6 +1,6 @@
 -- Lines of a replay as they are read, and what some of them do, one after another.
 use Rattle.std.specs.Prelude.{◌≡◌, ◌+◌, ◌/◌, ◌≤◌, ℕ, List, [], ◌∷◌, ◌++◌, length, map, true, false, Option, Some, None}
-use Rattle.world_core.specs.core_model.World.{World}
+use Rattle.world_core.specs.world_model.World.{World}
 use Rattle.checking.specs.Input.{lines_in, lines_to, is_blank}
 use Rattle.replay_core.specs.declared.tasks.Task.{Task}
 use Rattle.replay_core.specs.declared.tasks.Task.TheVariants as task

@@ -2,13 +2,13 @@
 use Rattle.std.specs.Prelude.{◌≡◌, ℕ, suc, List, take, Some, IfSome, slice_get}
 use Rattle.app_model.specs.App.{App}
 use Rattle.client_model.specs.Showing.{IsShown}
-use Rattle.world_core.specs.core_model.declared.events.Event.{Event}
-use Rattle.world_core.specs.core_model.declared.events.Event.TheVariants as event
-use Rattle.world_core.specs.core_model.Conn.{Conn}
-use Rattle.world_core.specs.core_model.World.{World, start, conn_of}
-use Rattle.world_core.specs.core_model.Events.{run}
-use Rattle.world_core.specs.core_model.Settle.{round}
-use Rattle.world_core.specs.core_model.Headline.{IsTrueWorld, HaveLongAlone, AreAtRest}
+use Rattle.world_core.specs.world_model.declared.events.Event.{Event}
+use Rattle.world_core.specs.world_model.declared.events.Event.TheVariants as event
+use Rattle.world_core.specs.world_model.Conn.{Conn}
+use Rattle.world_core.specs.world_model.World.{World, start, conn_of}
+use Rattle.world_core.specs.world_model.Events.{run}
+use Rattle.world_core.specs.world_model.Settle.{round}
+use Rattle.world_core.specs.world_model.Headline.{IsTrueWorld, HaveLongAlone, AreAtRest}
 use Rattle.checking.specs.Input.{lines_in, rest_of}
 use Rattle.replay_core.specs.Replay.{app_of, events_of}
 

@@ -4,20 +4,20 @@ use Rattle.std.proofs.Common.{ap, sym, subst}
 use Rattle.app_model.specs.App.{App}
 use Rattle.app_model.specs.Reading.{app_reading}
 use Rattle.program_reading.specs.Faults.{Reading}
-use Rattle.world_core.specs.stored_values.Values.{HasValues}
-use Rattle.read_applications.specs.AppsRead.{read_apps_have_values}
-use Rattle.world_core.specs.core_model.Store.{programs}
-use Rattle.world_core.specs.core_model.declared.events.Event.{Event}
-use Rattle.world_core.specs.core_model.declared.events.Event.TheVariants as event
-use Rattle.world_core.specs.core_model.Conn.{Conn}
-use Rattle.world_core.specs.core_model.World.{World, start, conn_of}
-use Rattle.world_core.specs.core_model.Events.{step, run, IsEvent, AreEvents}
+use Rattle.world_core.specs.world_values_laws.Values.{HasValues}
+use Rattle.world_values_laws.specs.AppsRead.{read_apps_have_values}
+use Rattle.world_core.specs.world_model.Store.{programs}
+use Rattle.world_core.specs.world_model.declared.events.Event.{Event}
+use Rattle.world_core.specs.world_model.declared.events.Event.TheVariants as event
+use Rattle.world_core.specs.world_model.Conn.{Conn}
+use Rattle.world_core.specs.world_model.World.{World, start, conn_of}
+use Rattle.world_core.specs.world_model.Events.{step, run, IsEvent, AreEvents}
 use Rattle.world_events.specs.Events.{event_in}
 use Rattle.client_model.specs.Showing.{IsShown}
-use Rattle.world_core.specs.link_laws.Links.{IsLinked}
-use Rattle.world_core.specs.link_laws_for_proofs.Worlds.{all_linked}
+use Rattle.world_core.specs.world_invariant_laws.Links.{IsLinked}
+use Rattle.world_core.specs.world_invariant_laws_for_proofs.Worlds.{all_linked}
 use Rattle.world_core.specs.headline_for_proofs.Worlds.{worlds_are_true}
-use Rattle.world_core.specs.polite_clients_for_proofs.Worlds.{worlds_have_long_alone}
+use Rattle.world_core.specs.world_settles_laws_for_proofs.Worlds.{worlds_have_long_alone}
 use Rattle.world_core.specs.AtRest.{settled_worlds_rest}
 use Rattle.world_core.specs.RestingRounds.{rounds_stay}
 use Rattle.checking.specs.Input.{lines_in, rest_of, is_blank, value_in}

@@ -1,8 +1,8 @@
 //! The replay of an input.
 ghost use Rattle.std.specs.Prelude.{◌≡◌, ◌≤◌, ◌++◌, ◌∷◌, [], length, Some, IfOk, IfSome, OnOk};
-ghost use Rattle.world_core.specs.stored_values.Values.{HasValues};
-ghost use Rattle.world_core.specs.core_model.Store.{programs};
-ghost use Rattle.world_core.specs.core_model.World.{start};
+ghost use Rattle.world_core.specs.world_values_laws.Values.{HasValues};
+ghost use Rattle.world_core.specs.world_model.Store.{programs};
+ghost use Rattle.world_core.specs.world_model.World.{start};
 ghost use Rattle.checking.specs.Input.{input_limit, lines_in, rest_of};
 ghost use Rattle.checking.specs.Output.{bytes_of, bad_lines};
 ghost use Rattle.replay_core.specs.Replay.{app_of, events_of, bad_line, first_bad, replay_text, printed, printed_by, all_bytes};
@@ -12,7 +12,7 @@ use crate::tasks::read_lines;
 use app_model::{App, AppFault};
 use checking::{Outcome, add_bad, first_line, value_in};
 use ejson_value::Mem;
-use read_applications::read_application;
+use world_values_laws::read_application;
 use std::alloc::Global;
 use world_core::{Hands, World};
 

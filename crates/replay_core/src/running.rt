@@ -1,7 +1,7 @@
 //! Lines of a replay, as they run.
 ghost use Rattle.std.specs.Prelude.{◌≡◌, ◌+◌, ◌<◌, ◌≤◌, ◌^◌, ◌++◌, length, IfOk, OnOk};
-ghost use Rattle.world_core.specs.core_model.Events.{step};
-ghost use Rattle.world_core.specs.core_model.Lines.{lines_of};
+ghost use Rattle.world_core.specs.world_model.Events.{step};
+ghost use Rattle.world_core.specs.world_model.Lines.{lines_of};
 ghost use Rattle.replay_core.specs.Replay.{all_bytes};
 ghost use Rattle.replay_core.specs.Stepping.{IsOperation, StepsEvent, RunsLine};
 ghost use Rattle.replay_core.specs.Tasks.{IsRead, AreRead, texts_of, RunsLines};

@@ -12,15 +12,15 @@ use Rattle.ddp_messages.specs.ServerMessage.{ServerMessage}
 use Rattle.program_steps.specs.declared.outcome.Status.{Status}
 use Rattle.program_steps.specs.Runs.{End}
 use Rattle.history_model.specs.declared.entry.Entry.{Entry}
-use Rattle.journal_model.specs.Items.{Item, id_of}
-use Rattle.journal_model.specs.Items as item
-use Rattle.journal_model.specs.Methods.{running, refused, finished, fire}
-use Rattle.journal_model.specs.State.{State, own_after}
-use Rattle.journal_model.specs.Subscriptions.{cursor_of}
-use Rattle.journal_model.specs.Taking.{Taken, at_once, to_queue}
-use Rattle.journal_model.specs.Fits.{item_for}
-use Rattle.journal_laws.specs.Blocking.{turned_length, fire_length}
-use Rattle.session_relation.specs.declared.stored.Stored.{Stored}
+use Rattle.session_model.specs.Items.{Item, id_of}
+use Rattle.session_model.specs.Items as item
+use Rattle.session_model.specs.Methods.{running, refused, finished, fire}
+use Rattle.session_model.specs.State.{State, own_after}
+use Rattle.session_model.specs.Subscriptions.{cursor_of}
+use Rattle.session_model.specs.Taking.{Taken, at_once, to_queue}
+use Rattle.session_model.specs.Fits.{item_for}
+use Rattle.session_journal_laws.specs.Blocking.{turned_length, fire_length}
+use Rattle.session_journal_laws.specs.declared.stored.Stored.{Stored}
 use Rattle.session_laws.specs.declared.fault.EventFault.TheVariants as fault
 use Rattle.session_laws.specs.Session.{ASession, is_full, IsCause, can_handle, can_load, can_advance, can_learn, can_refuse}
 use Rattle.session_laws.specs.Adding.{HasAdded}

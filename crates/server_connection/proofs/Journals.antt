@@ -6,17 +6,17 @@ use Rattle.value_model.specs.Val.{Val}
 use Rattle.ddp_messages.specs.ClientMessage.{ClientMessage}
 use Rattle.ddp_messages.specs.ClientMessage as client
 use Rattle.app_model.specs.App.{App, method}
-use Rattle.journal_model.specs.declared.fault.SubFault.TheVariants as fault
-use Rattle.journal_model.specs.Publication.{Making, making}
-use Rattle.journal_model.specs.Items.{Item, id_of, name_of}
-use Rattle.journal_model.specs.Items as item
-use Rattle.journal_model.specs.Subscriptions.{Live, sub_named, is_crowded, past, is_open, cursor_of}
-use Rattle.journal_model.specs.Methods.{Phase, running, refused, finished, told, Method, Blocking, freed, turned, fired, fire}
-use Rattle.journal_model.specs.State.{State, started, or_zero, own_after, after, state_from, state_of}
-use Rattle.journal_model.specs.Moments.{Moment}
-use Rattle.journal_model.specs.Fits.{seed_or, opened_by, closed_by, item_for, CanFollow, FitsFrom}
-use Rattle.journal_laws.specs.Fences.{IsShut, AreShut, after_shut}
-use Rattle.session_work.specs.Work.{running_by, running_from}
+use Rattle.session_model.specs.declared.fault.SubFault.TheVariants as fault
+use Rattle.session_model.specs.Publication.{Making, making}
+use Rattle.session_model.specs.Items.{Item, id_of, name_of}
+use Rattle.session_model.specs.Items as item
+use Rattle.session_model.specs.Subscriptions.{Live, sub_named, is_crowded, past, is_open, cursor_of}
+use Rattle.session_model.specs.Methods.{Phase, running, refused, finished, told, Method, Blocking, freed, turned, fired, fire}
+use Rattle.session_model.specs.State.{State, started, or_zero, own_after, after, state_from, state_of}
+use Rattle.session_model.specs.Moments.{Moment}
+use Rattle.session_model.specs.Fits.{seed_or, opened_by, closed_by, item_for, CanFollow, FitsFrom}
+use Rattle.session_journal_laws.specs.Fences.{IsShut, AreShut, after_shut}
+use Rattle.session_state.specs.Work.{running_by, running_from}
 use Rattle.server_connection.specs.AtRest.{IsDone, AreDone, is_at, are_at}
 
 -- ---- the call that blocks

@@ -8,7 +8,7 @@ use Rattle.app_model.specs.App.{App}
 use Rattle.history_model.specs.declared.entry.Entry.{Entry}
 use Rattle.history_model.specs.History.{held, status_in}
 use Rattle.history_model.specs.StatusLaws.{ended_stays}
-use Rattle.core_model.specs.Store.{programs}
+use Rattle.world_model.specs.Store.{programs}
 use Rattle.server_connection.specs.Ends.{HasEnded, IsOver}
 
 pub ended_longer : (app : App) (n k : ℕ) (xs ys : List Entry) → IsPrefix xs ys → HasEnded app xs n k → HasEnded app ys n k

@@ -5,9 +5,9 @@ use mathlib.Core.List.{IsPrefix}
 use Rattle.app_model.specs.App.{App}
 use Rattle.history_model.specs.declared.entry.Entry.{Entry}
 use Rattle.ejson_value.specs.declared.memory.Mem.{Mem}
-use Rattle.core_model.specs.Store.{moments}
-use Rattle.session_work.specs.Work.{running_from}
-use Rattle.link_laws.specs.Moments.{moments_in_order}
+use Rattle.world_model.specs.Store.{moments}
+use Rattle.session_state.specs.Work.{running_from}
+use Rattle.world_invariant_laws.specs.Moments.{moments_in_order}
 use Rattle.session_laws.specs.Session.{ASession}
 use Rattle.session_laws.specs.Meaning.{Means}
 use Rattle.session_laws.specs.Longer.{new_means}

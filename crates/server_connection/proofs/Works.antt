@@ -15,13 +15,13 @@ use Rattle.history_model.specs.declared.entry.Entry.{Entry}
 use Rattle.history_model.specs.declared.entry.Entry.TheVariants as entry
 use Rattle.history_model.specs.History.{held, held_at, status_in, is_full, begins}
 use Rattle.history_model.specs.BegunLaws.{run_where_begun}
-use Rattle.core_model.specs.Store.{programs, moments}
-use Rattle.journal_model.specs.Methods.{Blocking, is_blocked_by}
-use Rattle.journal_model.specs.State.{State, started, state_of}
-use Rattle.journal_laws.specs.Blocking.{last_from}
-use Rattle.link_laws.specs.Moments.{moments_length}
-use Rattle.session_relation.specs.Stands.{items_of}
-use Rattle.session_work.specs.Work.{running_from}
+use Rattle.world_model.specs.Store.{programs, moments}
+use Rattle.session_model.specs.Methods.{Blocking, is_blocked_by}
+use Rattle.session_model.specs.State.{State, started, state_of}
+use Rattle.session_journal_laws.specs.Blocking.{last_from}
+use Rattle.world_invariant_laws.specs.Moments.{moments_length}
+use Rattle.session_journal_laws.specs.Stands.{items_of}
+use Rattle.session_state.specs.Work.{running_from}
 use Rattle.store_machine.specs.declared.fault.BeginFault.{BeginFault}
 use Rattle.store_machine.specs.declared.fault.BeginFault.TheVariants as begin
 use Rattle.store_machine.specs.State.{MachineState, held_by, with_entry, full_with, begin_answer}

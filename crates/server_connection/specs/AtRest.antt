@@ -1,8 +1,8 @@
 -- A session at rest, and what is tested of it.
 use Rattle.std.specs.Prelude.{◌≡◌, ◌==◌, ◌&&◌, ℕ, List, [], ◌∷◌, length, Bool, true, false, Option, None, Some}
-use Rattle.journal_model.specs.Subscriptions.{Live, is_open}
-use Rattle.journal_model.specs.Methods.{Phase, refused, told, Method}
-use Rattle.session_work.specs.Work.{running_from}
+use Rattle.session_model.specs.Subscriptions.{Live, is_open}
+use Rattle.session_model.specs.Methods.{Phase, refused, told, Method}
+use Rattle.session_state.specs.Work.{running_from}
 use Rattle.session_laws.specs.Session.{ASession}
 use Rattle.shared_session.specs.Held.{AHeld}
 

@@ -5,8 +5,8 @@ use Rattle.app_model.specs.App.{App}
 use Rattle.program_steps.specs.declared.outcome.Status.{Status}
 use Rattle.history_model.specs.declared.entry.Entry.{Entry}
 use Rattle.history_model.specs.History.{held, status_in}
-use Rattle.core_model.specs.Store.{programs}
-use Rattle.session_work.specs.Work.{running_from}
+use Rattle.world_model.specs.Store.{programs}
+use Rattle.session_state.specs.Work.{running_from}
 use Rattle.session_laws.specs.Session.{new_session, is_full}
 use Rattle.shared_store.specs.Callers.{ACaller}
 use Rattle.shared_session.specs.Held.{AHeld, StandsFor}

@@ -13,7 +13,7 @@ use Rattle.session_laws.specs.Events.{Outcome}
 use Rattle.shared_store.specs.Callers.{ACaller}
 use Rattle.shared_store.specs.Counting.{one, made_by}
 use Rattle.shared_session.specs.Held.{AHeld, Stands, StandsFor}
-use Rattle.journal_model.specs.Methods.{Blocking}
+use Rattle.session_model.specs.Methods.{Blocking}
 use Rattle.shared_session.specs.Standing.{HadNoRoom}
 use Rattle.shared_session.specs.Events.{Keeps, Meets}
 use Rattle.server_connection.specs.declared.desk.Desk.{Desk}

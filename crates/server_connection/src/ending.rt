@@ -1,9 +1,9 @@
 //! What is done before a connection is left.
 ghost use Rattle.std.specs.Prelude.{◌≡◌, true, IfOk, OnOk};
 ghost use Rattle.history_model.specs.History.{held, status_in};
-ghost use Rattle.core_model.specs.Store.{programs};
+ghost use Rattle.world_model.specs.Store.{programs};
 ghost use mathlib.Core.List.{IsPrefix};
-ghost use Rattle.session_work.specs.Work.{running_from};
+ghost use Rattle.session_state.specs.Work.{running_from};
 ghost use Rattle.server_connection.specs.Ends.{HasEnded, IsOver, AreOver};
 
 use crate::wakes::Wakes;

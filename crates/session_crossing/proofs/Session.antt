@@ -29,11 +29,11 @@ use Rattle.session_state.specs.contracts.subs.Sub as sub
 use Rattle.session_state.specs.contracts.own.Call as call
 use Rattle.session_state.specs.contracts.calls.Method as method
 use Rattle.session_state.specs.contracts.kept.Own as own
-use Rattle.session_journal.specs.contracts.journal.Journal as journal
+use Rattle.session_state.specs.contracts.journal.Journal as journal
 use Rattle.write_fence.specs.contracts.fences.Fences as fences
-use Rattle.session_parts.specs.contracts.parts.Parts as parts
-use Rattle.session.specs.contracts.inner.Inner as inner
-use Rattle.session.specs.contracts.session.Session as session
+use Rattle.session_core.specs.contracts.parts.Parts as parts
+use Rattle.session_core.specs.contracts.inner.Inner as inner
+use Rattle.session_core.specs.contracts.session.Session as session
 use Rattle.history_model.specs.contracts.entry.Entry as entry
 use Rattle.pass_log.specs.contracts.log.Pass as pass_row
 use Rattle.pass_log.specs.declared.log.LogName as log_name

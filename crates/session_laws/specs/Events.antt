@@ -1,5 +1,6 @@
 -- The events of a session: what each changes, when and why it is refused, that a refusal changes nothing, and what the session stands for afterwards.
-use Rattle.std.specs.Prelude.{◌≡◌, ◌⊎◌, ℕ, suc, ◌+◌, ◌<◌, List, [], ◌∷◌, ◌++◌, drop, length, map, true, false, Option, None, Some, option_map, Result, OnOk, OnErr, IfErr, IfSome}
+use Rattle.std.specs.Prelude.{◌≡◌, ◌⊎◌, ℕ, suc, ◌+◌, ◌<◌, List, [], ◌∷◌, ◌++◌, drop, length, map, true, false, Option, None, Some, option_map, Result,
+    OnOk, OnErr, IfErr, IfSome}
 use Rattle.map_model.specs.Changes.{Leads}
 use Rattle.merge_model.specs.Publishing.{Call, apply, drop_sub, renewed}
 use Rattle.value_model.specs.Val.{Entries}
@@ -16,19 +17,20 @@ use Rattle.program_steps.specs.Runs.{End}
 use Rattle.publication.specs.Cursors.{ACursors}
 use Rattle.publication.specs.Published.{IsQuery}
 use Rattle.live_observer.specs.Observing.{AnObserver, APlan, cursors_of, StandsAt, Follows, IsStep, carried, HaveNoLimit}
-use Rattle.journal_model.specs.Publication.{queried}
-use Rattle.journal_model.specs.Items.{Item, handled_by}
-use Rattle.journal_model.specs.Items as item
-use Rattle.journal_model.specs.Subscriptions.{Live, of_sub, cursor_of}
-use Rattle.journal_model.specs.Methods.{id_at}
-use Rattle.journal_model.specs.State.{own_after}
-use Rattle.journal_model.specs.Moments.{Moment, moment_at, rows_at, run_at}
-use Rattle.journal_model.specs.Taking.{Taken, at_once, to_queue, taken_text}
-use Rattle.journal_model.specs.Out.{own_messages, result_by}
-use Rattle.journal_model.specs.Fits.{item_for, IsRefusedAt}
+use Rattle.session_model.specs.Publication.{queried}
+use Rattle.session_model.specs.Items.{Item, handled_by}
+use Rattle.session_model.specs.Items as item
+use Rattle.session_model.specs.Subscriptions.{Live, of_sub, cursor_of}
+use Rattle.session_model.specs.Methods.{id_at}
+use Rattle.session_model.specs.State.{own_after}
+use Rattle.session_model.specs.Moments.{Moment, moment_at, rows_at, run_at}
+use Rattle.session_model.specs.Taking.{Taken, at_once, to_queue, taken_text}
+use Rattle.session_model.specs.Out.{own_messages, result_by}
+use Rattle.session_model.specs.Fits.{item_for, IsRefusedAt}
 use Rattle.session_laws.specs.declared.fault.EventFault.{EventFault}
 use Rattle.session_laws.specs.declared.fault.EventFault.TheVariants as fault
-use Rattle.session_laws.specs.Session.{ASession, is_full, is_crowded, is_at_work, can_handle, can_load, can_advance, can_learn, can_refuse, IsCause, HadRoom, dropped}
+use Rattle.session_laws.specs.Session.{ASession, is_full, is_crowded, is_at_work, can_handle, can_load, can_advance, can_learn, can_refuse, IsCause,
+    HadRoom, dropped}
 use Rattle.session_laws.specs.Observers.{observers_without, observer_at, observers_with}
 use Rattle.session_laws.specs.Adding.{HasAdded}
 use Rattle.session_laws.specs.Storing.{kept_as, shown_id}
@@ -41,7 +43,8 @@ Outcome = Result (Unit {0}) EventFault
 
 -- the item is added, with what it says where it needs no store, by a call of the merge; the text or the message that it answers has this place
 abbrev pub HasDone : ℕ → Item → Call Key Entries → ASession → ASession → Type 0
-HasDone place i call old new = HasAdded (kept_as place i) (shown_id i) call (own_after old.carried.own i) (own_messages [] old.carried.number old.carried.own i) old new
+HasDone place i call old new =
+    HasAdded (kept_as place i) (shown_id i) call (own_after old.carried.own i) (own_messages [] old.carried.number old.carried.own i) old new
 
 -- nothing more was taken, and nothing waits otherwise
 pub record Waits (old new : ASession) : Type 0 where
@@ -168,7 +171,8 @@ pub record IsSnapshot (C : List Moment) (place : ℕ) (rows : Rows) : Type 0 whe
   pub documents : rows ≡ rows_at C place
 
 abbrev pub KeepsLoading : ℕ → Rows → ASession → ASession → Type 0
-KeepsLoading place rows old new = (taken : List (List ℕ)) (C : List Moment) (sent : List (List ℕ)) → Means taken C sent old → IsSnapshot C place rows → Means taken C sent new
+KeepsLoading place rows old new = (taken : List (List ℕ)) (C : List Moment) (sent : List (List ℕ)) → Means taken C sent old → IsSnapshot C place rows →
+    Means taken C sent new
 
 -- the subscription shows what its cursors publish of the documents
 pub record Loads (sub place : ℕ) (rows : Rows) (old new : ASession) (result : Outcome) : Type 0 where
@@ -199,7 +203,8 @@ pub record IsBatch (C : List Moment) (place : Option ℕ) (start count : ℕ) (c
 
 abbrev pub KeepsAdvancing : ℕ → ℕ → ℕ → List Change → ASession → ASession → Type 0
 KeepsAdvancing sub start count changes old new =
-    (taken : List (List ℕ)) (C : List Moment) (sent : List (List ℕ)) → Means taken C sent old → IsBatch C (cursor_of sub old.carried.own.subs) start count changes → Means taken C sent new
+    (taken : List (List ℕ)) (C : List Moment) (sent : List (List ℕ)) → Means taken C sent old →
+        IsBatch C (cursor_of sub old.carried.own.subs) start count changes → Means taken C sent new
 
 -- the subscription goes on over a batch of entries
 pub record Advances (sub start count : ℕ) (changes : List Change) (old new : ASession) (result : Outcome) : Type 0 where
@@ -224,7 +229,8 @@ pub record IsFeed (C : List Moment) (sub count : ℕ) (news : List Publish) (s :
   pub leads : renewed key_cmp (queried (cursors_at sub s) (rows_at C from)) (news_of news) ≡ queried (cursors_at sub s) (rows_at C (from + count))
 
 abbrev pub KeepsFeeding : ℕ → ℕ → List Publish → ASession → ASession → Type 0
-KeepsFeeding sub count news old new = (taken : List (List ℕ)) (C : List Moment) (sent : List (List ℕ)) → Means taken C sent old → IsFeed C sub count news old → Means taken C sent new
+KeepsFeeding sub count news old new = (taken : List (List ℕ)) (C : List Moment) (sent : List (List ℕ)) → Means taken C sent old →
+    IsFeed C sub count news old → Means taken C sent new
 
 -- the subscription goes on, by news that were made elsewhere
 pub record Feeds (sub count : ℕ) (news : List Publish) (old new : ASession) (result : Outcome) : Type 0 where
@@ -254,7 +260,8 @@ pub record IsStatus (C : List Moment) (k : ℕ) (status : Status) : Type 0 where
   pub end : IfSome status.ended (λ end. run_at C end.at k ≡ Some status)
 
 abbrev pub KeepsLearning : ℕ → Status → ASession → ASession → Type 0
-KeepsLearning k status old new = (taken : List (List ℕ)) (C : List Moment) (sent : List (List ℕ)) → Means taken C sent old → IsStatus C k status → Means taken C sent new
+KeepsLearning k status old new = (taken : List (List ℕ)) (C : List Moment) (sent : List (List ℕ)) → Means taken C sent old → IsStatus C k status →
+    Means taken C sent new
 
 pub record Learns (k : ℕ) (status : Status) (old new : ASession) (result : Outcome) : Type 0 where
   pub enabled : OnOk result (HadRoom (can_learn k status old) old)
@@ -265,7 +272,8 @@ pub record Learns (k : ℕ) (status : Status) (old new : ASession) (result : Out
 
 abbrev pub KeepsRefusing : ℕ → ℕ → ASession → ASession → Type 0
 KeepsRefusing k place old new =
-    (taken : List (List ℕ)) (C : List Moment) (sent : List (List ℕ)) → Means taken C sent old → IsRefusedAt (moment_at C place) k old.carried.own.blocking → Means taken C sent new
+    (taken : List (List ℕ)) (C : List Moment) (sent : List (List ℕ)) → Means taken C sent old →
+        IsRefusedAt (moment_at C place) k old.carried.own.blocking → Means taken C sent new
 
 abbrev pub HasRefused : ℕ → ℕ → ASession → ASession → Type 0
 HasRefused k place old new = HasLearnt (item.refused k place) (own_messages [] old.carried.number old.carried.own (item.refused k place)) old new

@@ -8,24 +8,24 @@ use Rattle.ddp_messages.specs.ClientMessage as client
 use Rattle.publication.specs.Cursors.{ACursors}
 use Rattle.app_model.specs.App.{App, method}
 use Rattle.live_observer.specs.Observing.{AnObserver}
-use Rattle.journal_model.specs.declared.fault.SubFault.{SubFault}
-use Rattle.journal_model.specs.declared.fault.SubFault.TheVariants as fault
-use Rattle.journal_model.specs.Publication.{Making, making}
-use Rattle.journal_model.specs.Items.{Item, id_of, name_of, params_of, handled_by}
-use Rattle.journal_model.specs.Items as item
-use Rattle.journal_model.specs.Subscriptions.{Live, closed, sub_named, is_crowded}
-use Rattle.journal_model.specs.State.{State, opening, own_after, after, state_of}
-use Rattle.journal_model.specs.Moments.{Moment}
-use Rattle.journal_model.specs.Shown.{shown_at, shown_in, calls_of}
-use Rattle.journal_model.specs.Out.{own_messages}
-use Rattle.journal_model.specs.Fits.{seed_or, opened_by, closed_by, item_for, CanFollow, IsHandled}
-use Rattle.journal_model.specs.Answering.{is_at_once}
-use Rattle.journal_laws.specs.Live.{same_opened}
-use Rattle.journal_laws.specs.Shows.{AreInOrder}
-use Rattle.session_relation.specs.Resolved.{resolved, called, seed_in, message_at, cursors_in, IsPlaced}
-use Rattle.session_relation.specs.Stands.{items_of}
-use Rattle.session_relation.specs.Keeping.{shows_end}
-use Rattle.session_relation.specs.Events.{shows_idle, later_stands}
+use Rattle.session_model.specs.declared.fault.SubFault.{SubFault}
+use Rattle.session_model.specs.declared.fault.SubFault.TheVariants as fault
+use Rattle.session_model.specs.Publication.{Making, making}
+use Rattle.session_model.specs.Items.{Item, id_of, name_of, params_of, handled_by}
+use Rattle.session_model.specs.Items as item
+use Rattle.session_model.specs.Subscriptions.{Live, closed, sub_named, is_crowded}
+use Rattle.session_model.specs.State.{State, opening, own_after, after, state_of}
+use Rattle.session_model.specs.Moments.{Moment}
+use Rattle.session_model.specs.Shown.{shown_at, shown_in, calls_of}
+use Rattle.session_model.specs.Out.{own_messages}
+use Rattle.session_model.specs.Fits.{seed_or, opened_by, closed_by, item_for, CanFollow, IsHandled}
+use Rattle.session_model.specs.Answering.{is_at_once}
+use Rattle.session_journal_laws.specs.Live.{same_opened}
+use Rattle.session_journal_laws.specs.Shows.{AreInOrder}
+use Rattle.session_journal_laws.specs.Resolved.{resolved, called, seed_in, message_at, cursors_in, IsPlaced}
+use Rattle.session_journal_laws.specs.Stands.{items_of}
+use Rattle.session_journal_laws.specs.RelationKeeping.{shows_end}
+use Rattle.session_journal_laws.specs.RelationEvents.{shows_idle, later_stands}
 use Rattle.session_laws.specs.Observers.{observers_without}
 use Rattle.session_laws.specs.Storing.{kept_as}
 use Rattle.session_laws.specs.Session.{ASession}
@@ -36,8 +36,10 @@ use Rattle.session_laws.specs.Keeping.{ids_added}
 
 -- ---- which items a message makes
 
-module _ (P : Item → Type 0) (app : App) (number : ℕ) (st : State) (m : ClientMessage) (same : P (item.same m)) (nosub : (f : Option SubFault) → P (item.nosub m f))
-    (opens : (cursors : ACursors) → making app (name_of m) (params_of m) ≡ Ok cursors → P (item.subscribe st.opened m cursors)) (closes : (s : ℕ) → P (item.close s m))
+module _ (P : Item → Type 0) (app : App) (number : ℕ) (st : State) (m : ClientMessage) (same : P (item.same m))
+    (nosub : (f : Option SubFault) → P (item.nosub m f))
+    (opens : (cursors : ACursors) → making app (name_of m) (params_of m) ≡ Ok cursors → P (item.subscribe st.opened m cursors))
+        (closes : (s : ℕ) → P (item.close s m))
     (calls : P (item.call (length st.methods) m (seed_or number (length st.methods) (seed_in m)))) (unknown : P (item.unknown m)) where
   if_opened : (made : Making) → making app (name_of m) (params_of m) ≡ made → P (opened_by st.opened m made)
   if_opened (Ok cursors) e = opens cursors e
@@ -56,12 +58,14 @@ module _ (P : Item → Type 0) (app : App) (number : ℕ) (st : State) (m : Clie
   if_method true = calls
   if_method false = unknown
 
-pub item_cases : (P : Item → Type 0) (app : App) (number : ℕ) (st : State) (m : ClientMessage) → is_request m ≡ true → P (item.same m) → ((f : Option SubFault) → P (item.nosub m f)) →
+pub item_cases : (P : Item → Type 0) (app : App) (number : ℕ) (st : State) (m : ClientMessage) → is_request m ≡ true → P (item.same m) →
+    ((f : Option SubFault) → P (item.nosub m f)) →
     ((cursors : ACursors) → making app (name_of m) (params_of m) ≡ Ok cursors → P (item.subscribe st.opened m cursors)) → ((s : ℕ) → P (item.close s m)) →
     P (item.call (length st.methods) m (seed_or number (length st.methods) (seed_in m))) → P (item.unknown m) → P (item_for app number st m)
 item_cases P app number st (client.sub id name params) w same nosub opens closes calls unknown =
     if_sub P app number st (client.sub id name params) same nosub opens closes calls unknown (is_some (sub_named id st.subs)) (is_crowded st.subs)
-item_cases P app number st (client.unsub id) w same nosub opens closes calls unknown = if_closed P app number st (client.unsub id) same nosub opens closes calls unknown (sub_named id st.subs)
+item_cases P app number st (client.unsub id) w same nosub opens closes calls unknown =
+    if_closed P app number st (client.unsub id) same nosub opens closes calls unknown (sub_named id st.subs)
 item_cases P app number st (client.method id name params seed) w same nosub opens closes calls unknown =
     if_method P app number st (client.method id name params seed) same nosub opens closes calls unknown (is_some (method app name))
 item_cases P app number st m w same nosub opens closes calls unknown = cc w
@@ -85,7 +89,8 @@ in_turn app number st m w = item_cases (IsTurn m) app number st m w
     (record { handles = refl; later = refl; placed = λ n place less. less; says = λ C k s. refl })
 
 -- what is kept of it reads as the item, by the message's text
-pub read_back : (app : App) (number : ℕ) (taken : List (List ℕ)) (place : ℕ) (st : State) (m : ClientMessage) → is_request m ≡ true → message_at taken place ≡ m →
+pub read_back : (app : App) (number : ℕ) (taken : List (List ℕ)) (place : ℕ) (st : State) (m : ClientMessage) → is_request m ≡ true →
+    message_at taken place ≡ m →
     resolved app number taken (kept_as place (item_for app number st m)) ≡ item_for app number st m
 read_back app number taken place st m w e = item_cases (λ (i : Item). resolved app number taken (kept_as place i) ≡ i) app number st m w
     (ap (λ (x : ClientMessage). item.same x) e)
@@ -108,7 +113,8 @@ shows_none C s (l ∷ ls) = elim (s == l.sub) as (λ b. s == l.sub ≡ b → sho
 pub plain_shows : (C : List Moment) → AreInOrder C → (app : App) (number : ℕ) (items : List Item) (m : ClientMessage) → is_request m ≡ true →
     let i = item_for app number (state_of items) m in (r : ℕ) → shown key_cmp (plain_call i ∷ calls_of C items) r ≡ shown_in C (after (state_of items) i).subs r
 plain_shows C order app number items m w =
-    let st = state_of items in item_cases (λ (i : Item). (r : ℕ) → shown key_cmp (plain_call i ∷ calls_of C items) r ≡ shown_in C (after st i).subs r) app number st m w
+    let st = state_of items in item_cases
+        (λ (i : Item). (r : ℕ) → shown key_cmp (plain_call i ∷ calls_of C items) r ≡ shown_in C (after st i).subs r) app number st m w
     (shows_idle C order items (item.same m) refl refl)
     (λ f. shows_idle C order items (item.nosub m f) refl refl)
     (λ cursors is. shows_idle C order items (item.subscribe st.opened m cursors) refl (sym (same_opened (λ (l : Live). shown_at C l.cursors l.cursor) [] 0 st.subs (opening st st.opened m cursors) refl)))
@@ -118,28 +124,34 @@ plain_shows C order app number items m w =
 
 -- ---- what else it leaves
 
-watched_append : (C : List Moment) (ls : List Live) (os : List (Option AnObserver)) (l : Live) → l.cursor ≡ None → AreWatched C ls os → AreWatched C (ls ++ l ∷ []) (os ++ None ∷ [])
+watched_append : (C : List Moment) (ls : List Live) (os : List (Option AnObserver)) (l : Live) → l.cursor ≡ None → AreWatched C ls os →
+    AreWatched C (ls ++ l ∷ []) (os ++ None ∷ [])
 watched_append C [] [] l e w = (subst (λ c. IsWatched C l c None) (sym e) refl, tt)
 watched_append C [] (o ∷ os) l e w = absurd w
 watched_append C (x ∷ ls) [] l e w = absurd w
 watched_append C (x ∷ ls) (o ∷ os) l e w = (w.0, watched_append C ls os l e w.1)
 
-watched_closed : (C : List Moment) (s : ℕ) (ls : List Live) (os : List (Option AnObserver)) → AreWatched C ls os → AreWatched C (closed s ls) (observers_without s ls os)
+watched_closed : (C : List Moment) (s : ℕ) (ls : List Live) (os : List (Option AnObserver)) → AreWatched C ls os →
+    AreWatched C (closed s ls) (observers_without s ls os)
 watched_closed C s [] [] w = tt
 watched_closed C s [] (o ∷ os) w = absurd w
 watched_closed C s (x ∷ ls) [] w = absurd w
-watched_closed C s (x ∷ ls) (o ∷ os) w = elim (s == x.sub) as (λ b. AreWatched C (cond (not b) (x ∷ closed s ls) (closed s ls)) (cond b (observers_without s ls os) (o ∷ observers_without s ls os))) [
+watched_closed C s (x ∷ ls) (o ∷ os) w = elim (s == x.sub) as
+    (λ b. AreWatched C (cond (not b) (x ∷ closed s ls) (closed s ls)) (cond b (observers_without s ls os) (o ∷ observers_without s ls os))) [
   | true ↦ watched_closed C s ls os w.1
   | false ↦ (w.0, watched_closed C s ls os w.1)
 ]
 
-watched_after : (C : List Moment) (app : App) (number : ℕ) (st : State) (m : ClientMessage) (os : List (Option AnObserver)) → is_request m ≡ true → AreWatched C st.subs os →
+watched_after : (C : List Moment) (app : App) (number : ℕ) (st : State) (m : ClientMessage) (os : List (Option AnObserver)) → is_request m ≡ true →
+    AreWatched C st.subs os →
     AreWatched C (own_after st (item_for app number st m)).subs (observers_after (item_for app number st m) st.subs os)
 watched_after C app number st m os w h = item_cases (λ (i : Item). AreWatched C (own_after st i).subs (observers_after i st.subs os)) app number st m w
     h (λ f. h) (λ cursors is. watched_append C st.subs os (opening st st.opened m cursors) refl h) (λ s. watched_closed C s st.subs os h) h h
 
-may_follow : (C : List Moment) (app : App) (number : ℕ) (st : State) (m : ClientMessage) → is_request m ≡ true → IsHandled app number st m (item_for app number st m) → CanFollow app number C st (item_for app number st m)
-may_follow C app number st m w = item_cases (λ (i : Item). IsHandled app number st m i → CanFollow app number C st i) app number st m w (λ h. h) (λ f h. h) (λ cursors is h. h) (λ s h. h) (λ h. h) (λ h. h)
+may_follow : (C : List Moment) (app : App) (number : ℕ) (st : State) (m : ClientMessage) → is_request m ≡ true →
+    IsHandled app number st m (item_for app number st m) → CanFollow app number C st (item_for app number st m)
+may_follow C app number st m w = item_cases (λ (i : Item). IsHandled app number st m i → CanFollow app number C st i) app number st m w (λ h. h)
+    (λ f h. h) (λ cursors is h. h) (λ s h. h) (λ h. h) (λ h. h)
 
 tail_from : (taken : List (List ℕ)) (ps : List ℕ) (ms : List ClientMessage) → AreFrom taken ps ms → AreFrom taken (drop 1 ps) (drop 1 ms)
 tail_from taken [] [] f = f
@@ -148,7 +160,8 @@ tail_from taken (p ∷ ps) [] f = absurd f
 tail_from taken (p ∷ ps) (m ∷ ms) f = f.1
 
 module _ (old new : ASession) (free : old.carried.own.blocking ≡ None) where
-  handled_by_place : (place : ℕ) (m : ClientMessage) (places : List ℕ) (ms : List ClientMessage) → old.places ≡ place ∷ places → old.carried.waiting ≡ m ∷ ms → IsHandledAs place m old new → Keeps old new
+  handled_by_place : (place : ℕ) (m : ClientMessage) (places : List ℕ) (ms : List ClientMessage) → old.places ≡ place ∷ places →
+      old.carried.waiting ≡ m ∷ ms → IsHandledAs place m old new → Keeps old new
   handled_by_place place m places ms first waiting a taken C sent k =
       let app = old.carried.app in
       let number = old.carried.number in
@@ -165,14 +178,18 @@ module _ (old new : ASession) (free : old.carried.own.blocking ≡ None) where
       subst (λ (st : State). (r : ℕ) → shown key_cmp (plain_call (item_for app number st m) ∷ calls_of C items) r ≡ shown_in C (after (state_of items) (item_for app number st m)).subs r) (sym k.stands.own) (plain_shows C k.order app number items m f.waits) in
       record {
         order = k.order;
-        stands = later_stands taken C sent old.carried new.carried (kept_as place i) (plain_call i) (own_after own i) (own_messages [] number own i) k.order k.stands a.done.added (ap is_at_once reads ∙ turn.later) a.taken
+        stands = later_stands taken C sent old.carried new.carried (kept_as place i) (plain_call i) (own_after own i)
+            (own_messages [] number own i) k.order k.stands a.done.added (ap is_at_once reads ∙ turn.later) a.taken
             (waiting ∙ (ap (λ (xs : List ClientMessage). m ∷ xs) (sym rest) ∙ ap (λ (xs : List ClientMessage). xs ++ new.carried.waiting) (sym (ap handled_by reads ∙ turn.handles))))
-            (turn.placed (length taken) place f.within) (subst (CanFollow app number C own) (sym reads) (may_follow C app number own m f.waits (record { connected = connected; free = free; short = f.short; made = refl })))
+            (turn.placed (length taken) place f.within)
+                (subst (CanFollow app number C own) (sym reads) (may_follow C app number own m f.waits (record { connected = connected; free = free; short = f.short; made = refl })))
             (ap (own_after own) (sym reads)) (turn.says C number own ∙ ap (own_messages C number own) (sym reads))
             (subst (λ (j : Item). (r : ℕ) → shown key_cmp (plain_call i ∷ calls_of C items) r ≡ shown_in C (after (state_of items) j).subs r) (sym reads) shows);
         ids = ids_added taken (kept_as place i) i (plain_call i) (own_after own i) (own_messages [] number own i) old new a.done reads k.ids;
-        from = subst (λ (ps : List ℕ). AreFrom taken ps new.carried.waiting) (sym a.places) (subst (λ (xs : List ClientMessage). AreFrom taken (drop 1 old.places) xs) (sym a.waiting) (tail_from taken old.places old.carried.waiting k.from));
-        connected = subst (λ (xs : List ClientMessage). AreOpen new.carried.own.connected xs) (sym a.waiting) (open_less new.carried.own.connected old.carried.waiting (open_after own i new.carried.own.connected old.carried.waiting (ap (λ (st : State). st.connected) a.done.added.own) k.connected));
+        from = subst (λ (ps : List ℕ). AreFrom taken ps new.carried.waiting) (sym a.places)
+            (subst (λ (xs : List ClientMessage). AreFrom taken (drop 1 old.places) xs) (sym a.waiting) (tail_from taken old.places old.carried.waiting k.from));
+        connected = subst (λ (xs : List ClientMessage). AreOpen new.carried.own.connected xs) (sym a.waiting)
+            (open_less new.carried.own.connected old.carried.waiting (open_after own i new.carried.own.connected old.carried.waiting (ap (λ (st : State). st.connected) a.done.added.own) k.connected));
         watched = subst (λ (os : List (Option AnObserver)). AreWatched C new.carried.own.subs os) (sym a.observers)
             (subst (λ (ls : List Live). AreWatched C ls (observers_after i own.subs old.observers)) (sym (ap (λ (st : State). st.subs) a.done.added.own)) (watched_after C app number own m old.observers f.waits k.watched));
       }

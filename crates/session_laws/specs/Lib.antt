@@ -14,11 +14,10 @@ pub mod Differences
 pub mod Loading
 pub mod Showing
 -- what lies below, for the crates above
-pub mod journal_laws
-pub mod journal_model
+pub mod session_journal_laws
+pub mod session_model
 pub mod live_observer
 pub mod live_observer_for_proofs
 pub mod publication
 pub mod publication_for_proofs
-pub mod session_relation
-pub mod session_relation_for_proofs
+pub mod session_journal_laws_for_proofs

@@ -3,13 +3,13 @@ use Rattle.std.specs.Prelude.{ℕ, List, [], ◌∷◌, ◌++◌, length, Option
 use Rattle.std.proofs.Common.{ap, sym, subst}
 use Rattle.app_model.specs.App.{App}
 use Rattle.live_observer.specs.Observing.{AnObserver, StandsAt}
-use Rattle.journal_model.specs.Subscriptions.{Live}
-use Rattle.journal_model.specs.State.{State, started}
-use Rattle.journal_model.specs.Moments.{Moment, rows_of}
-use Rattle.journal_laws.specs.Shows.{AreInOrder}
-use Rattle.journal_laws.specs.Longer.{IsPlace, AreWithin, within_from, moment_at-longer}
-use Rattle.session_relation.specs.Stands.{items_of}
-use Rattle.session_relation.specs.Keeping.{new_stands, longer_stands}
+use Rattle.session_model.specs.Subscriptions.{Live}
+use Rattle.session_model.specs.State.{State, started}
+use Rattle.session_model.specs.Moments.{Moment, rows_of}
+use Rattle.session_journal_laws.specs.Shows.{AreInOrder}
+use Rattle.session_journal_laws.specs.Longer.{IsPlace, AreWithin, within_from, moment_at-longer}
+use Rattle.session_journal_laws.specs.Stands.{items_of}
+use Rattle.session_journal_laws.specs.RelationKeeping.{new_stands, longer_stands}
 use Rattle.session_laws.specs.Session.{ASession, new_session}
 use Rattle.session_laws.specs.Meaning.{IsWatched, AreWatched, Means}
 
@@ -26,9 +26,11 @@ module _ (C more : List Moment) where
       one : (c : Option ℕ) (x : Option AnObserver) → IsPlace (length C) c → IsWatched C l c x → IsWatched (C ++ more) l c x
       one None x q v = v
       one (Some place) None q v = absurd v
-      one (Some place) (Some observer) q v = record { cursors = v.cursors; stands = subst (StandsAt observer) (sym (ap rows_of (moment_at-longer C more place q))) v.stands }
+      one (Some place) (Some observer) q v =
+          record { cursors = v.cursors; stands = subst (StandsAt observer) (sym (ap rows_of (moment_at-longer C more place q))) v.stands }
 
-pub longer_means : (taken : List (List ℕ)) (C more : List Moment) (sent : List (List ℕ)) (s : ASession) → AreInOrder (C ++ more) → Means taken C sent s → Means taken (C ++ more) sent s
+pub longer_means : (taken : List (List ℕ)) (C more : List Moment) (sent : List (List ℕ)) (s : ASession) → AreInOrder (C ++ more) →
+    Means taken C sent s → Means taken (C ++ more) sent s
 longer_means taken C more sent s order m =
     let items = items_of taken s.carried in
     let within : AreWithin (length C) s.carried.own.subs = subst (λ (st : State). AreWithin (length C) st.subs) (sym m.stands.own) (within_from s.carried.app s.carried.number C started items m.stands.fits tt) in

@@ -3,13 +3,13 @@ use Rattle.std.specs.Prelude.{◌≡◌, ℕ, ◌<◌, List, [], ◌∷◌, leng
 use Rattle.ddp_messages.specs.Limits.{IsShort}
 use Rattle.ddp_messages.specs.ClientMessage.{ClientMessage}
 use Rattle.ddp_messages.specs.ClientMessage as client
-use Rattle.journal_model.specs.Items.{id_of}
+use Rattle.session_model.specs.Items.{id_of}
 use Rattle.live_observer.specs.Observing.{AnObserver, cursors_of, StandsAt}
-use Rattle.journal_model.specs.Subscriptions.{Live}
-use Rattle.journal_model.specs.Moments.{Moment, rows_at}
-use Rattle.journal_laws.specs.Shows.{AreInOrder}
-use Rattle.session_relation.specs.Resolved.{message_at}
-use Rattle.session_relation.specs.Stands.{items_of, Stands}
+use Rattle.session_model.specs.Subscriptions.{Live}
+use Rattle.session_model.specs.Moments.{Moment, rows_at}
+use Rattle.session_journal_laws.specs.Shows.{AreInOrder}
+use Rattle.session_journal_laws.specs.Resolved.{message_at}
+use Rattle.session_journal_laws.specs.Stands.{items_of, Stands}
 use Rattle.session_laws.specs.Storing.{shown_id}
 use Rattle.session_laws.specs.Session.{ASession}
 

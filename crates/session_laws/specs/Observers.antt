@@ -1,7 +1,7 @@
 -- The observers of the live subscriptions, one for each, in their order; None until a subscription is loaded.
 use Rattle.std.specs.Prelude.{ℕ, ◌==◌, List, [], ◌∷◌, Option, None, if◌then◌else◌}
 use Rattle.live_observer.specs.Observing.{AnObserver}
-use Rattle.journal_model.specs.Subscriptions.{Live}
+use Rattle.session_model.specs.Subscriptions.{Live}
 
 -- those that stay once the subscriptions with a number are closed
 abbrev pub observers_without : ℕ → List Live → List (Option AnObserver) → List (Option AnObserver)

@@ -1,11 +1,12 @@
 -- A session as contracts see it, and when it takes an event.
-use Rattle.std.specs.Prelude.{◌≡◌, ℕ, ◌+◌, ◌==◌, List, [], length, sum_by, nat_lt, nat_le, Bool, true, false, not, ◌&&◌, ◌||◌, Option, Some, None, is_none, is_some, Result, Ok, Err, if◌then◌else◌}
+use Rattle.std.specs.Prelude.{◌≡◌, ℕ, ◌+◌, ◌==◌, List, [], length, sum_by, nat_lt, nat_le, Bool, true, false, not, ◌&&◌, ◌||◌, Option, Some, None,
+    is_none, is_some, Result, Ok, Err, if◌then◌else◌}
 use Rattle.app_model.specs.App.{App}
 use Rattle.program_steps.specs.declared.outcome.Status.{Status}
 use Rattle.live_observer.specs.Observing.{AnObserver}
-use Rattle.journal_model.specs.Subscriptions.{may_load, cursor_of}
-use Rattle.journal_model.specs.Methods.{Phase, running, is_blocked_by, phase_at}
-use Rattle.session_relation.specs.Stands.{Carried, new_session as new_carried}
+use Rattle.session_model.specs.Subscriptions.{may_load, cursor_of}
+use Rattle.session_model.specs.Methods.{Phase, running, is_blocked_by, phase_at}
+use Rattle.session_journal_laws.specs.Stands.{Carried, new_session as new_carried}
 use Rattle.session_laws.specs.declared.fault.EventFault.{EventFault}
 use Rattle.session_laws.specs.declared.fault.EventFault.TheVariants as fault
 

@@ -1,9 +1,9 @@
 -- What a session keeps of an item, and what a print of it shows.
 use Rattle.std.specs.Prelude.{ℕ, List, Option, Some, None}
-use Rattle.journal_model.specs.Items.{Item, id_of}
-use Rattle.journal_model.specs.Items as item
-use Rattle.session_relation.specs.declared.stored.Stored.{Stored}
-use Rattle.session_relation.specs.declared.stored.Stored.TheVariants as stored
+use Rattle.session_model.specs.Items.{Item, id_of}
+use Rattle.session_model.specs.Items as item
+use Rattle.session_journal_laws.specs.declared.stored.Stored.{Stored}
+use Rattle.session_journal_laws.specs.declared.stored.Stored.TheVariants as stored
 
 -- the item that is kept for it, the message's text having this place
 abbrev pub kept_as : ℕ → Item → Stored

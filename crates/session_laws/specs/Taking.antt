@@ -1,5 +1,6 @@
 -- What comes of a text at once, as the journal reads it.
-use Rattle.std.specs.Prelude.{◌≡◌, ℕ, List, [], ◌∷◌, ◌++◌, drop, length, not, nat_lt, ◌&&◌, Bool, true, false, cond, codes, Option, Some, None, option_and_then, refl}
+use Rattle.std.specs.Prelude.{◌≡◌, ℕ, List, [], ◌∷◌, ◌++◌, drop, length, not, nat_lt, ◌&&◌, Bool, true, false, cond, codes, Option, Some, None,
+    option_and_then, refl}
 use Rattle.std.proofs.Common.{ap, sym, subst, ◌∙◌}
 use Rattle.serde_json.specs.Data.{Data}
 use Rattle.serde_json.specs.Read as json
@@ -10,15 +11,16 @@ use Rattle.ddp_messages.specs.Fields.{name_of, needed, optional, map₂}
 use Rattle.ddp_messages.specs.ClientMessage.{ClientMessage, client_named, client_reading}
 use Rattle.ddp_messages.specs.ClientMessage as client
 use Rattle.app_model.specs.App.{App}
-use Rattle.journal_model.specs.Items.{Item}
-use Rattle.journal_model.specs.Items as item
-use Rattle.journal_model.specs.State.{State, own_after}
-use Rattle.journal_model.specs.Moments.{Moment}
-use Rattle.journal_model.specs.Out.{own_messages}
-use Rattle.journal_model.specs.Taking.{max_text, Taken, at_once, to_queue, refused_for, connected_by, taken_as, taken_named, taken_tree, taken_text, is_connected_by}
-use Rattle.journal_model.specs.Answering.{is_at_once}
-use Rattle.session_relation.specs.Resolved.{item_or_pong, resolved}
-use Rattle.session_relation.specs.ResolvedLaws.{last_taken}
+use Rattle.session_model.specs.Items.{Item}
+use Rattle.session_model.specs.Items as item
+use Rattle.session_model.specs.State.{State, own_after}
+use Rattle.session_model.specs.Moments.{Moment}
+use Rattle.session_model.specs.Out.{own_messages}
+use Rattle.session_model.specs.Taking.{max_text, Taken, at_once, to_queue, refused_for, connected_by, taken_as, taken_named, taken_tree, taken_text,
+    is_connected_by}
+use Rattle.session_model.specs.Answering.{is_at_once}
+use Rattle.session_journal_laws.specs.Resolved.{item_or_pong, resolved}
+use Rattle.session_journal_laws.specs.ResolvedLaws.{last_taken}
 use Rattle.session_laws.specs.Storing.{kept_as}
 use Rattle.session_laws.specs.Meaning.{is_request, AreOpen}
 
@@ -46,7 +48,8 @@ once_as d (Some (client.method id name params seed)) = refl
 
 once_named : (connected : Bool) (d : Data) (o : Option (List ℕ)) → IsOnce (taken_named connected d o)
 once_named connected d None = refl
-once_named connected d (Some name) = once_if (not connected && not (is_name name (codes "connect"))) _ _ refl (once_if (connected && is_name name (codes "connect")) _ _ refl (once_as d (client_reading d)))
+once_named connected d (Some name) = once_if (not connected && not (is_name name (codes "connect"))) _ _ refl
+    (once_if (connected && is_name name (codes "connect")) _ _ refl (once_as d (client_reading d)))
 
 once_tree : (connected : Bool) (o : Option Data) → IsOnce (taken_tree connected o)
 once_tree connected None = refl
@@ -79,8 +82,10 @@ never_connect d (Some version) (Some support) = tt
 never_named : (d : Data) (o : Option (List ℕ)) → name_of d ≡ o → IsNever (taken_named false d o)
 never_named d None e = tt
 never_named d (Some name) e =
-    elim (is_name name (codes "connect")) as (λ b. is_name name (codes "connect") ≡ b → IsNever (cond (not b) (refused_for (codes "Must connect first") d) (cond (false && b) (refused_for (codes "Already connected") d) (taken_as d (client_reading d))))) [
-      | true ↦ λ is. subst (λ (o : Option (List ℕ)). IsNever (taken_as d (option_and_then (client_named d) o))) (sym e) (rw is (never_connect d (needed as_str (codes "version") d) (optional texts_of (codes "support") d)))
+    elim (is_name name (codes "connect")) as
+        (λ b. is_name name (codes "connect") ≡ b → IsNever (cond (not b) (refused_for (codes "Must connect first") d) (cond (false && b) (refused_for (codes "Already connected") d) (taken_as d (client_reading d))))) [
+      | true ↦ λ is. subst (λ (o : Option (List ℕ)). IsNever (taken_as d (option_and_then (client_named d) o))) (sym e)
+          (rw is (never_connect d (needed as_str (codes "version") d) (optional texts_of (codes "support") d)))
       | false ↦ λ is. tt
     ] refl
 
@@ -116,7 +121,8 @@ once_subs st (item.bad reason offending) e = refl
 once_subs st i e = cc e
 
 -- what is kept of it reads as the item, by the text that was taken last
-pub once_resolved : (app : App) (number : ℕ) (taken : List (List ℕ)) (t : List ℕ) (i : Item) → is_at_once i ≡ true → taken_text (is_connected_by false taken) t ≡ at_once i →
+pub once_resolved : (app : App) (number : ℕ) (taken : List (List ℕ)) (t : List ℕ) (i : Item) → is_at_once i ≡ true →
+    taken_text (is_connected_by false taken) t ≡ at_once i →
     resolved app number (taken ++ t ∷ []) (kept_as (length taken) i) ≡ i
 once_resolved app number taken t item.connect e is = refl
 once_resolved app number taken t item.fail e is = refl

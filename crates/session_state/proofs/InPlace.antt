@@ -5,7 +5,7 @@ use Rattle.std.specs.Prelude.{slice_get, slice_set}
 use Rattle.std.specs.Option.{option_copied}
 use Rattle.std.specs.Slice.{IsItemAt}
 use Rattle.std.proofs.lemmas.Option.{slice_get_past, slice_get_read}
-use Rattle.journal_model.specs.Methods.{Phase, Method, phase_at, id_at, turned}
+use Rattle.session_model.specs.Methods.{Phase, Method, phase_at, id_at, turned}
 use Rattle.session_state.specs.declared.calls.Method.{Method as TheMethod}
 use Rattle.session_state.specs.declared.calls.Phase.{Phase as ThePhase}
 use Rattle.session_state.specs.declared.progress.Progress.{Progress}

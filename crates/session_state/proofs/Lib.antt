@@ -1,3 +1,5 @@
+mod SettledWork
+pub mod RunningLemmas
 pub mod Places
 pub mod InPlace
 pub mod Telling

@@ -3,7 +3,7 @@ use Rattle.std.proofs.Common.{◌≡◌, ℕ, zero, suc, ◌+◌, ◌≤◌, ◌
 use Rattle.std.specs.Prelude.{not, filter, slice_get, slice_set, option_and_then}
 use Rattle.std.proofs.lemmas.Option.{none-some, same_Some}
 use Rattle.live_observer.specs.Observing.{AnObserver}
-use Rattle.journal_model.specs.Subscriptions.{Live, loaded, closed}
+use Rattle.session_model.specs.Subscriptions.{Live, loaded, closed}
 use Rattle.session_state.specs.declared.subs.Sub.{Sub}
 use Rattle.session_state.specs.Subs.{as_live, place_from, live_of, placed_at, observers_of, observers_without, observer_in, observer_at, observers_with}
 

@@ -4,7 +4,7 @@ use Rattle.std.specs.Prelude.{◌&&◌, IfSome}
 use Rattle.std.proofs.lemmas.Bool.{ne_eqb, false≢true}
 use Rattle.std.proofs.lemmas.List.{map-append}
 use Rattle.value_model.specs.TruthLaws.{both_true}
-use Rattle.journal_model.specs.Methods.{Phase, running, refused, finished, told, Method, turned}
+use Rattle.session_model.specs.Methods.{Phase, running, refused, finished, told, Method, turned}
 use Rattle.session_state.specs.declared.progress.Progress.{Progress}
 use Rattle.session_state.specs.declared.calls.Method.{Method as TheMethod}
 use Rattle.session_state.specs.Calls.{as_method, fired_by, fire_by, fire_from, told_now_by, told_from, is_settled, are_settled, passed_by}

@@ -1,10 +1,10 @@
 -- Which calls fire and are told, by how far the subscriptions are.
 use Rattle.std.proofs.Common.{◌≡◌, ℕ, zero, suc, ◌+◌, ◌<◌, ◌==◌, List, [], ◌∷◌, ◌++◌, false, cond, None, Some, refl, ap, ap₂, sym, ◌∙◌, arith}
 use Rattle.std.proofs.lemmas.Bool.{ne_eqb, eq-eqb}
-use Rattle.journal_model.specs.Subscriptions.{Live}
-use Rattle.journal_model.specs.State.{State}
-use Rattle.journal_model.specs.Methods.{Phase, running, refused, finished, told, Method, phase_at, turned, fired, fire, told_now, all_told}
-use Rattle.session_relation.specs.FiredLaws.{open_is}
+use Rattle.session_model.specs.Subscriptions.{Live}
+use Rattle.session_model.specs.State.{State}
+use Rattle.session_model.specs.Methods.{Phase, running, refused, finished, told, Method, phase_at, turned, fired, fire, told_now, all_told}
+use Rattle.session_journal_laws.specs.FiredLaws.{open_is}
 use Rattle.session_state.specs.Calls.{fired_by, fire_by, told_now_by, told_from}
 use Rattle.session_state.specs.Progress.{progress_of}
 use Rattle.session_state.specs.declared.own.Step.{Step}

@@ -1,7 +1,7 @@
 -- A kept call as the journal's definitions see it, and which calls are told, by how far the subscriptions are.
 use Rattle.std.specs.Prelude.{◌&&◌, min, ℕ, zero, suc, List, [], ◌∷◌, ◌++◌, map, Bool, true, false, Option, None, Some, if◌then◌else◌}
 use Rattle.std.specs.List.{list_any}
-use Rattle.journal_model.specs.Methods.{Phase, running, refused, finished, told, Method}
+use Rattle.session_model.specs.Methods.{Phase, running, refused, finished, told, Method}
 use Rattle.session_state.specs.declared.calls.Phase.{Phase as ThePhase}
 use Rattle.session_state.specs.declared.calls.Phase.TheVariants as phase
 use Rattle.session_state.specs.declared.calls.Method.{Method as TheMethod}

@@ -1,3 +1,6 @@
+pub mod Work
+pub mod Journal
+pub mod Kept
 pub mod Subs
 pub mod Calls
 pub mod Progress

@@ -3,9 +3,9 @@ use Rattle.std.specs.Prelude.{◌≡◌, ℕ, suc, ◌<◌, max, List, [], ◌�
 use Rattle.std.specs.Vec.{vec_len, vec_capacity}
 use Rattle.ejson_value.specs.View.{view}
 use Rattle.live_observer.specs.Observing.{AnObserver}
-use Rattle.journal_model.specs.Subscriptions.{Live, loaded, closed}
-use Rattle.journal_model.specs.Methods.{Blocking, Phase, running, refused, finished, phase_at, turned, freed, all_told}
-use Rattle.journal_model.specs.State.{State}
+use Rattle.session_model.specs.Subscriptions.{Live, loaded, closed}
+use Rattle.session_model.specs.Methods.{Blocking, Phase, running, refused, finished, phase_at, turned, freed, all_told}
+use Rattle.session_model.specs.State.{State}
 use Rattle.session_state.specs.declared.own.Call.{Call}
 use Rattle.session_state.specs.declared.kept.Own.{Own}
 use Rattle.session_state.specs.declared.own.Step.{Step}

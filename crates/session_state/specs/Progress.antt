@@ -1,9 +1,9 @@
 -- How far the live subscriptions are.
 use Rattle.std.specs.Prelude.{◌≡◌, ℕ, ◌==◌, List, [], ◌∷◌, ◌++◌, Bool, true, false, not, ◌&&◌, ◌||◌, Option, Some, None, is_none, if◌then◌else◌, refl}
 use Rattle.std.proofs.Common.{ap, sym, ◌∙◌}
-use Rattle.journal_model.specs.Subscriptions.{Live}
-use Rattle.journal_model.specs.Methods.{Phase, finished}
-use Rattle.session_relation.specs.Fired.{is_reached, lesser, least_with, is_opening}
+use Rattle.session_model.specs.Subscriptions.{Live}
+use Rattle.session_model.specs.Methods.{Phase, finished}
+use Rattle.session_journal_laws.specs.Fired.{is_reached, lesser, least_with, is_opening}
 use Rattle.session_state.specs.declared.progress.Progress.{Progress}
 
 abbrev pub progress_of : List Live → Progress
@@ -34,7 +34,8 @@ with_false true = refl
 
 with_is : (p : Progress) (ls : List Live) → progress_with p ls ≡ record { least = least_with p.least ls; opening = p.opening || is_opening ls }
 with_is p [] = ap (λ (b : Bool). record { least = p.least; opening = b }) (sym (with_false p.opening))
-with_is p (l ∷ ls) = with_is (with_cursor p l.cursor) ls ∙ ap (λ (b : Bool). record { least = least_with (lesser p.least l.cursor) ls; opening = b }) (assoc p.opening (is_none l.cursor) (is_opening ls))
+with_is p (l ∷ ls) = with_is (with_cursor p l.cursor) ls
+    ∙ ap (λ (b : Bool). record { least = least_with (lesser p.least l.cursor) ls; opening = b }) (assoc p.opening (is_none l.cursor) (is_opening ls))
 
 pub progress_is : (ls : List Live) → progress_with nowhere ls ≡ progress_of ls
 progress_is ls = with_is nowhere ls

@@ -1,7 +1,7 @@
 -- A kept subscription as the journal's definitions see it.
 use Rattle.std.specs.Prelude.{ℕ, zero, suc, ◌==◌, List, [], ◌∷◌, map, Option, Some, None, if◌then◌else◌}
 use Rattle.live_observer.specs.Observing.{AnObserver}
-use Rattle.journal_model.specs.Subscriptions.{Live, of_sub}
+use Rattle.session_model.specs.Subscriptions.{Live, of_sub}
 use Rattle.session_state.specs.declared.subs.Sub.{Sub}
 
 abbrev pub as_live : Sub → Live

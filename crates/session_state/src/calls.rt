@@ -1,6 +1,6 @@
 //! Calls of methods.
 ghost use Rattle.std.specs.Prelude.{◌≡◌, map, true, option_map, option_to_list};
-ghost use Rattle.journal_model.specs.Methods.{phase_at, id_at, turned};
+ghost use Rattle.session_model.specs.Methods.{phase_at, id_at, turned};
 ghost use Rattle.session_state.specs.Calls.{as_phase, as_method, fired_by, fire_at, fire_by, is_refused, has_refused, is_settled, are_settled};
 
 use crate::progress::Progress;

@@ -1,9 +1,9 @@
 //! All of a session's subscriptions and calls.
 ghost use Rattle.std.specs.Prelude.{◌≡◌, ◌<◌, ◌++◌, ◌∷◌, [], Some, option_map, IfOk, IfSome, OnOk};
 ghost use Rattle.live_observer.specs.Observing.{IsPlanOf, carried};
-ghost use Rattle.journal_model.specs.State.{started};
-ghost use Rattle.journal_model.specs.Methods.{freed};
-ghost use Rattle.session_relation.specs.Stands.{fired_state};
+ghost use Rattle.session_model.specs.State.{started};
+ghost use Rattle.session_model.specs.Methods.{freed};
+ghost use Rattle.session_journal_laws.specs.Stands.{fired_state};
 ghost use Rattle.session_state.specs.declared.own.Step.TheVariants as step;
 ghost use Rattle.session_state.specs.Own.{as_state, as_blocking, stepped, turned_state, started_by, ended_by, told_with, watch_after, CanStep, HasRoom, SameOwn, max_items};
 ghost use Rattle.session_state.specs.Subs.{observers_of, observer_at, observers_with};

@@ -1,7 +1,7 @@
 //! How far the live subscriptions are, and which calls that tells.
 ghost use Rattle.std.specs.Prelude.{true, ◌≤◌, IfSome, ◌≡◌, ◌++◌, ◌∷◌, [], map, IfOk, OnOk, Some, if◌then◌else◌};
-ghost use Rattle.journal_model.specs.Subscriptions.{loaded, closed};
-ghost use Rattle.session_relation.specs.Fired.{lesser};
+ghost use Rattle.session_model.specs.Subscriptions.{loaded, closed};
+ghost use Rattle.session_journal_laws.specs.Fired.{lesser};
 ghost use Rattle.session_state.specs.Subs.{as_live};
 ghost use Rattle.session_state.specs.Calls.{as_phase, as_method, told_by, told_now_by, are_settled};
 ghost use Rattle.session_state.specs.Progress.{nowhere, with_cursor, progress_with, is_open_by, turned_phase};

@@ -9,7 +9,7 @@ use ejson_value::{Fault, Text};
 use known_texts::KnownTexts;
 use program_steps::{End, Outcome, Status};
 use selector_match::Steps;
-use session::{Batch, EventFault, Place, Session};
+use session_core::{Batch, EventFault, Place, Session};
 use std::alloc::Global;
 use std::marker::Brand;
 use std::sync::ledger::{Blank, Ledger};

@@ -1,7 +1,7 @@
 //! The print of a journal: a line for each item, and behind it one for each of its texts.
 use ejson_codec::Lines;
 use ejson_value::Text;
-use session::{Line, Session, Stored};
+use session_core::{Line, Session, Stored};
 use std::alloc::Global;
 use std::test::Fail;
 

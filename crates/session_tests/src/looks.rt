@@ -1,7 +1,7 @@
 //! What is seen of a session beside its journal.
 use ejson_codec::text;
 use ejson_value::{Items, Text, Value};
-use session::{Call, Feed, Place, Session, Sub, Work};
+use session_core::{Call, Feed, Place, Session, Sub, Work};
 use std::alloc::Global;
 use std::test::Fail;
 

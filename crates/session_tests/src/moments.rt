@@ -2,7 +2,7 @@
 use app_model::App;
 use ejson_codec::parse;
 use ejson_value::{Change, Changes, Contents, Doc, Items, Key, Publish, Publishes, Text, Value};
-use session::Batch;
+use session_core::Batch;
 use std::alloc::Global;
 use std::test::Fail;
 

@@ -3,7 +3,7 @@ use crate::bench::{Bench, advance, made, push_lines, word};
 use crate::moments::{app, halves, items, letters, number, value};
 use ejson_value::{Items, Text, Value};
 use program_steps::Status;
-use session::{Call, Session};
+use session_core::{Call, Session};
 use std::alloc::Global;
 use std::test::Fail;
 use store_machine::{AdminFault, BeginFault, Machine};

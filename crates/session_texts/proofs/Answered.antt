@@ -11,7 +11,7 @@ use Rattle.ddp_messages.specs.ClientMessage as client
 use Rattle.ddp_messages.specs.ClientLaws.{client_ok}
 use Rattle.ddp_messages.specs.Answers.{or_bad, client_tree, client_answer}
 use Rattle.ddp_messages.specs.declared.fault.MsgFault.TheVariants.{Parse, BadRequest}
-use Rattle.journal_model.specs.Taking.{max_text, offending_of, taken_as, taken_named, taken_tree, taken_text}
+use Rattle.session_model.specs.Taking.{max_text, offending_of, taken_as, taken_named, taken_tree, taken_text}
 use Rattle.session_texts.specs.Taking.{refused_with, offending_in, reason_of, once_connected, taken_message}
 
 other_named : (connected : Bool) (d : Data) (name : List ℕ) → is_name name (codes "connect") ≡ false → taken_named connected d (Some name) ≡ once_connected connected (offending_of d) (taken_as d (client_reading d))

@@ -3,10 +3,10 @@ use Rattle.std.specs.Prelude.{ℕ, List, []}
 use Rattle.ejson_value.specs.declared.message.DataMsg.{DataMsg}
 use Rattle.ddp_messages.specs.ServerMessage.{ServerMessage}
 use Rattle.ddp_messages.specs.ServerMessage as server
-use Rattle.journal_model.specs.Texts.{server_text}
-use Rattle.journal_model.specs.Items.{Item}
-use Rattle.journal_model.specs.State.{started}
-use Rattle.journal_model.specs.Out.{own_messages}
+use Rattle.session_model.specs.Texts.{server_text}
+use Rattle.session_model.specs.Items.{Item}
+use Rattle.session_model.specs.State.{started}
+use Rattle.session_model.specs.Out.{own_messages}
 
 -- what the item of an answer says; it needs no store, and nothing of the session but its number
 abbrev pub answer_messages : ℕ → Item → List ServerMessage

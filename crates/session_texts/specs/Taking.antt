@@ -5,9 +5,9 @@ use Rattle.value_model.specs.Val.{Val}
 use Rattle.value_model.specs.Size.{is_name}
 use Rattle.ejson_value.specs.View.{view}
 use Rattle.ddp_messages.specs.ClientMessage.{ClientMessage, connect, ping, pong, client_view}
-use Rattle.journal_model.specs.Items.{Item}
-use Rattle.journal_model.specs.Items as item
-use Rattle.journal_model.specs.Taking.{Taken, at_once, to_queue, offending_of, connected_by}
+use Rattle.session_model.specs.Items.{Item}
+use Rattle.session_model.specs.Items as item
+use Rattle.session_model.specs.Taking.{Taken, at_once, to_queue, offending_of, connected_by}
 use Rattle.session_texts.specs.declared.taking.Answer.{Answer}
 use Rattle.session_texts.specs.declared.taking.Answer.TheVariants as answer
 use Rattle.session_texts.specs.declared.taking.Taken.{Taken as TheTaken}

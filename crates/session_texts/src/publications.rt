@@ -1,10 +1,10 @@
 //! The cursors of a publication.
 ghost use Rattle.std.specs.Prelude.{◌≡◌, IfOk};
-ghost use Rattle.journal_model.specs.Publication.{making};
+ghost use Rattle.session_model.specs.Publication.{making};
 
 use app_model::App;
 use ejson_value::{Items, Mem, Text};
-use journal_model::SubFault;
+use session_model::SubFault;
 use publication::{CursorFault, Cursors};
 use std::alloc::Global;
 

@@ -4,16 +4,16 @@ ghost use Rattle.ejson_value.specs.View.{view};
 ghost use Rattle.ddp_messages.specs.ServerMessage.{server_view};
 ghost use Rattle.ddp_messages.specs.ServerMessage as server;
 ghost use Rattle.program_steps.specs.Runs.{outcome_view, failed};
-ghost use Rattle.journal_model.specs.Publication.{code_of, reason_of, error_of};
-ghost use Rattle.journal_model.specs.Texts.{server_text};
-ghost use Rattle.journal_model.specs.Out.{session_name, ready, updated, result_by, refused_with, unknown_method, history_full};
+ghost use Rattle.session_model.specs.Publication.{code_of, reason_of, error_of};
+ghost use Rattle.session_model.specs.Texts.{server_text};
+ghost use Rattle.session_model.specs.Out.{session_name, ready, updated, result_by, refused_with, unknown_method, history_full};
 ghost use Rattle.session_texts.specs.Said.{answer_messages, data_text};
 ghost use Rattle.session_texts.specs.Taking.{as_item};
 
 use crate::taking::Answer;
 use ddp_messages::{DataMsg, Fault, FromServer};
 use ejson_value::{Mem, Names, Text, Value, copy, copy_option};
-use journal_model::SubFault;
+use session_model::SubFault;
 use program_steps::Outcome;
 use std::alloc::Global;
 use std::collections::VecDeque;
@@ -30,7 +30,7 @@ fn text_of(alloc: Global, message: FromServer) -> Result<Text, Mem>
     text
 }
 
-/// The name of the session with this number (the `session` of a `connected`).
+/// The name of the session with this number (the `session_core` of a `connected`).
 pub fn session_name(alloc: Global, number: u32) -> Result<Text, Mem>
     ensures { IfOk result (λ name. name ≡ session_name number) }
 {

@@ -4,7 +4,7 @@ ghost use Rattle.serde_json.specs.View.{view as json_view};
 ghost use Rattle.ejson_value.specs.View.{view};
 ghost use Rattle.ddp_messages.specs.Forms.{value_of};
 ghost use Rattle.ddp_messages.specs.ClientMessage.{client_view};
-ghost use Rattle.journal_model.specs.Taking.{at_once, offending_of, connected_by, taken_text};
+ghost use Rattle.session_model.specs.Taking.{at_once, offending_of, connected_by, taken_text};
 ghost use Rattle.session_texts.specs.Taking.{as_item, as_taken, offending_in, refused_with, reason_of, once_connected, taken_message};
 
 use ddp_messages::{FromClient, MsgFault};

@@ -3,10 +3,10 @@ use Rattle.std.specs.Prelude.{ℕ, List}
 use Rattle.app_model.specs.App.{App}
 use Rattle.history_model.specs.declared.entry.Entry.{Entry}
 use Rattle.session_state.specs.declared.subs.Sub.{Sub}
-use Rattle.source_laws.specs.multiplexer.declared.news.Lent.{Lent}
-use Rattle.source_laws.specs.multiplexer.Telling.{ANews, AreTold, IsSource}
-use Rattle.source_laws.specs.multiplexer.Spans.{IsLent}
-use Rattle.source_laws.specs.Sources.{cursors_at_of}
+use Rattle.world_news_laws.specs.multiplexer.declared.news.Lent.{Lent}
+use Rattle.world_news_laws.specs.multiplexer.Telling.{ANews, AreTold, IsSource}
+use Rattle.world_news_laws.specs.multiplexer.Spans.{IsLent}
+use Rattle.world_news_laws.specs.Sources.{cursors_at_of}
 use Rattle.shared_store.specs.Store.{over}
 
 -- what is kept, and the list of the pass

@@ -8,7 +8,7 @@ ghost use Rattle.shared_multiplexer.specs.Copied.{all_of, changes_in, next_of, w
 
 use ejson_value::{Change, Changes, Mem};
 use history_log::Batch;
-use source_laws::multiplexer::Entries;
+use world_news_laws::multiplexer::Entries;
 use std::alloc::Global;
 use std::marker::Model;
 

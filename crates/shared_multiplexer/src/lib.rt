@@ -9,4 +9,4 @@ mod shared;
 pub use copied::CopiedEntries;
 pub use held::HeldMultiplexer;
 pub use shared::SharedMultiplexer;
-pub use source_laws::multiplexer::Lent;
+pub use world_news_laws::multiplexer::Lent;

@@ -1,9 +1,9 @@
 //! The lock.
 ghost use Rattle.std.specs.Prelude.{◌≡◌, ◌+◌, ◌≤◌, length, None, is_some, IfOk, IfSome};
 ghost use mathlib.Core.List.{IsPrefix};
-ghost use Rattle.source_laws.specs.multiplexer.Spans.{IsLent};
-ghost use Rattle.source_laws.specs.multiplexer.Telling.{IsSource};
-ghost use Rattle.source_laws.specs.Sources.{cursors_at_of};
+ghost use Rattle.world_news_laws.specs.multiplexer.Spans.{IsLent};
+ghost use Rattle.world_news_laws.specs.multiplexer.Telling.{IsSource};
+ghost use Rattle.world_news_laws.specs.Sources.{cursors_at_of};
 ghost use Rattle.shared_store.specs.Store.{over};
 ghost use Rattle.shared_multiplexer.specs.Copied.{next_of, AreCopiedOf, AreBehind};
 ghost use Rattle.shared_multiplexer.specs.Told.{WasLent};
@@ -16,7 +16,7 @@ use pass_log::{Log, Note};
 use selector_match::Steps;
 use session_state::Sub;
 use shared_store::SharedStore;
-use source_laws::multiplexer::Lent;
+use world_news_laws::multiplexer::Lent;
 use std::alloc::Global;
 use std::marker::Brand;
 use std::sync::ledger::{Blank, Ledger};

@@ -1,11 +1,11 @@
 -- No place that a subscription may not show less than is behind the pass's list.
 use Rattle.std.specs.Prelude.{ℕ, List, length}
 use Rattle.std.proofs.Common.{sym, subst, arith}
-use Rattle.journal_model.specs.State.{State, started}
+use Rattle.session_model.specs.State.{State, started}
 use Rattle.shared_session.specs.Reached.{AreReached, reached_from}
-use Rattle.core_model.specs.Store.{moments}
-use Rattle.link_laws.specs.Moments.{moments_length}
-use Rattle.session_relation.specs.Stands.{items_of}
+use Rattle.world_model.specs.Store.{moments}
+use Rattle.world_invariant_laws.specs.Moments.{moments_length}
+use Rattle.session_journal_laws.specs.Stands.{items_of}
 use Rattle.shared_session.specs.Held.{AHeld, StandsFor}
 
 pub reached : (h : AHeld) (taken sent : List (List ℕ)) → StandsFor taken sent h → AreReached (length h.list) h.session.carried.own.subs

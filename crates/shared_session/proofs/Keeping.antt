@@ -11,15 +11,15 @@ use Rattle.app_model.specs.App.{App}
 use Rattle.program_steps.specs.declared.outcome.Status.{Status}
 use Rattle.program_steps.specs.Runs.{End}
 use Rattle.history_model.specs.declared.entry.Entry.{Entry}
-use Rattle.journal_model.specs.Moments.{Moment, moment_at}
-use Rattle.journal_model.specs.Methods.{Blocking, is_blocked_by}
-use Rattle.journal_model.specs.Subscriptions.{cursor_of}
-use Rattle.journal_model.specs.Taking.{Taken, at_once, to_queue, taken_text}
-use Rattle.journal_model.specs.Fits.{IsRefusedAt}
-use Rattle.journal_laws.specs.Shows.{AreInOrder}
-use Rattle.core_model.specs.Store.{held_in, moments}
-use Rattle.core_model.specs.StoreLaws.{later_moments, moments-append}
-use Rattle.link_laws.specs.Moments.{moments_in_order}
+use Rattle.session_model.specs.Moments.{Moment, moment_at}
+use Rattle.session_model.specs.Methods.{Blocking, is_blocked_by}
+use Rattle.session_model.specs.Subscriptions.{cursor_of}
+use Rattle.session_model.specs.Taking.{Taken, at_once, to_queue, taken_text}
+use Rattle.session_model.specs.Fits.{IsRefusedAt}
+use Rattle.session_journal_laws.specs.Shows.{AreInOrder}
+use Rattle.world_model.specs.Store.{held_in, moments}
+use Rattle.world_model.specs.StoreLaws.{later_moments, moments-append}
+use Rattle.world_invariant_laws.specs.Moments.{moments_in_order}
 use Rattle.session_laws.specs.Session.{ASession, new_session, is_at_work}
 use Rattle.session_laws.specs.Meaning.{Means}
 use Rattle.session_laws.specs.Longer.{new_means, longer_means}

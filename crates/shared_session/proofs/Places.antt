@@ -14,17 +14,17 @@ use Rattle.app_model.specs.App.{App}
 use Rattle.program_steps.specs.declared.outcome.Status.{Status}
 use Rattle.program_steps.specs.Runs.{End}
 use Rattle.publication.specs.Cursors.{ACursors}
-use Rattle.journal_model.specs.Publication.{queried}
-use Rattle.journal_model.specs.Methods.{Blocking}
-use Rattle.journal_model.specs.Subscriptions.{cursor_of}
-use Rattle.journal_model.specs.Moments.{Moment, moment_at, rows_of, rows_at, run_at}
-use Rattle.journal_model.specs.Fits.{IsRefusedAt}
+use Rattle.session_model.specs.Publication.{queried}
+use Rattle.session_model.specs.Methods.{Blocking}
+use Rattle.session_model.specs.Subscriptions.{cursor_of}
+use Rattle.session_model.specs.Moments.{Moment, moment_at, rows_of, rows_at, run_at}
+use Rattle.session_model.specs.Fits.{IsRefusedAt}
 use Rattle.history_model.specs.declared.entry.Entry.{Entry}
 use Rattle.history_model.specs.History.{Programs, Held, held_at, status_in, status_at, changes_from, changes_between, is_full}
 use Rattle.history_model.specs.HistoryLaws.{held_at-longer, between_leads}
-use Rattle.core_model.specs.Store.{programs, moment_of, moments}
-use Rattle.link_laws.specs.Places.{ended_there}
-use Rattle.link_laws.specs.Moments.{moments_length, moment_there, run_there}
+use Rattle.world_model.specs.Store.{programs, moment_of, moments}
+use Rattle.world_invariant_laws.specs.Places.{ended_there}
+use Rattle.world_invariant_laws.specs.Moments.{moments_length, moment_there, run_there}
 use Rattle.session_laws.specs.Session.{ASession}
 use Rattle.session_laws.specs.Events.{IsSnapshot, IsBatch, IsStatus, IsFeed, cursors_at}
 use Rattle.shared_session.specs.Standing.{WereThere, WereMade, WasSo, HadNoRoom, WereTold}

@@ -7,7 +7,7 @@ use Rattle.ejson_value.specs.Rows.{Rows}
 use Rattle.ddp_messages.specs.ClientMessage.{ClientMessage}
 use Rattle.program_steps.specs.declared.outcome.Status.{Status}
 use Rattle.program_steps.specs.Runs.{End}
-use Rattle.journal_model.specs.Taking.{Taken, at_once, to_queue}
+use Rattle.session_model.specs.Taking.{Taken, at_once, to_queue}
 use Rattle.session_laws.specs.Session.{ASession}
 use Rattle.session_laws.specs.Events.{Outcome, IsTakenAs, Takes, HasHandled, Handles, Loads, Advances, Feeds, IsLearnt, Learns, Refuses, Sends}
 

@@ -7,7 +7,7 @@ use Rattle.ejson_value.specs.Rows.{Rows}
 use Rattle.history_model.specs.declared.entry.Entry.{Entry}
 use Rattle.program_steps.specs.declared.outcome.Status.{Status}
 use Rattle.pass_log.specs.History.{longer}
-use Rattle.journal_model.specs.Subscriptions.{cursor_of}
+use Rattle.session_model.specs.Subscriptions.{cursor_of}
 use Rattle.session_laws.specs.declared.fault.EventFault.TheVariants as fault
 use Rattle.session_laws.specs.Session.{ASession}
 use Rattle.session_laws.specs.Events.{Outcome, Takes, Handles, Loads, Advances, Feeds, Learns, Refuses, Sends, Closes}

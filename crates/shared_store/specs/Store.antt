@@ -43,7 +43,8 @@ pub record IsBegun (app : App) (session k : ℕ) (method : List ℕ) (params : L
 -- it is begun, or refused and the history stays
 abbrev pub Begins : App → ℕ → ℕ → List ℕ → List Val → Value → List Entry → List Entry → Result Placed SharedBegin → Type 0
 Begins app session k method params seed before after (Ok placed) = IsBegun app session k method params seed before after placed
-Begins app session k method params seed before after (Err (shared.Full entries kept)) = (after ≡ before) × (begin_answer (over app before) session k method params seed ≡ Err (begin.Full entries kept))
+Begins app session k method params seed before after (Err (shared.Full entries kept)) =
+    (after ≡ before) × (begin_answer (over app before) session k method params seed ≡ Err (begin.Full entries kept))
 Begins app session k method params seed before after (Err (shared.NotNext last)) = (after ≡ before) × IsNotNext app session k last before
 Begins app session k method params seed before after (Err shared.Memory) = after ≡ before
 
@@ -122,7 +123,8 @@ IsTurnedDown m session k shared.Memory = ⊥
 
 -- ---- shared calls: the history at that moment, the caller's passes before and behind the call, and the caller
 
-pub record BeginsAt (app : App) (k : ℕ) (method : List ℕ) (params : List Val) (seed : Value) (before pass pass' : List Entry) (caller caller' : ACaller) (result : Result Placed SharedBegin) : Type 0 where
+pub record BeginsAt (app : App) (k : ℕ) (method : List ℕ) (params : List Val) (seed : Value) (before pass pass' : List Entry)
+    (caller caller' : ACaller) (result : Result Placed SharedBegin) : Type 0 where
   pub begins : Begins app caller.number k method params seed before pass' result
   pub shown : IsShown app before pass' pass pass'
   pub counted : HasCounted before pass' caller caller'

@@ -16,7 +16,8 @@ use Rattle.sort_window.specs.Sorting.{sort_value, key_cmp, docs_cmp, id_doc_cmp,
 key_total : (key : SortKey) → IsTotalOrder (key_cmp key)
 key_total key =
     let up : IsTotalOrder (on (sort_value key.path) compare) = on_total (sort_value key.path) compare_total in
-    elim key.descending as (λ b. IsTotalOrder (λ (x y : Entries). if b then compare (sort_value key.path y) (sort_value key.path x) else compare (sort_value key.path x) (sort_value key.path y))) [
+    elim key.descending as
+        (λ b. IsTotalOrder (λ (x y : Entries). if b then compare (sort_value key.path y) (sort_value key.path x) else compare (sort_value key.path x) (sort_value key.path y))) [
       | true ↦ back_total up
       | false ↦ up
     ]

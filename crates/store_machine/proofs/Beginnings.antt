@@ -17,8 +17,8 @@ use Rattle.history_model.specs.History.{run_cmp, steps_of, status_of, status_in,
 use Rattle.history_model.specs.HistoryLaws.{held_entries}
 use Rattle.history_log.specs.declared.log.Logged.{Logged}
 use Rattle.history_log.specs.Log.{entries_in}
-use Rattle.log_laws.specs.Places.{put}
-use Rattle.log_laws.specs.Keeping.{Kept, first_life, with_begun}
+use Rattle.store_machine.specs.Places.{put}
+use Rattle.store_machine.specs.Keeping.{Kept, first_life, with_begun}
 use Rattle.store_machine.specs.declared.called.Called.{Called}
 use Rattle.store_machine.specs.declared.fault.BeginFault.{BeginFault}
 use Rattle.store_machine.specs.declared.fault.BeginFault.TheVariants as fault

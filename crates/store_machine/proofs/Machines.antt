@@ -9,10 +9,10 @@ use Rattle.history_model.specs.declared.entry.Entry.{Entry}
 use Rattle.history_model.specs.History.{run_cmp, held, status_at, changes_between}
 use Rattle.history_log.specs.declared.log.Logged.{Logged}
 use Rattle.history_log.specs.Log.{entries_in, changes_behind, rows_after}
-use Rattle.log_laws.specs.LogOfLaws.{changes_behind-log_of, rows_after-log_of}
-use Rattle.log_laws.specs.Places.{status_by}
-use Rattle.log_laws.specs.Keeping.{Kept, Keeps, no_entries}
-use Rattle.log_laws.specs.KeepingLaws.{keeps_nothing}
+use Rattle.store_machine.specs.LogOfLaws.{changes_behind-log_of, rows_after-log_of}
+use Rattle.store_machine.specs.Places.{status_by}
+use Rattle.store_machine.specs.Keeping.{Kept, Keeps, no_entries}
+use Rattle.store_machine.specs.KeepingLaws.{keeps_nothing}
 use Rattle.store_machine.specs.declared.called.Called.{Called}
 use Rattle.store_machine.specs.declared.parts.Parts.{Parts}
 use Rattle.store_machine.specs.State.{MachineState, programs, held_by, held_after}

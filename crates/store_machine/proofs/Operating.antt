@@ -14,8 +14,8 @@ use Rattle.history_model.specs.Operations.{operation_in}
 use Rattle.history_model.specs.History.{room_in, is_full_for_operation, max_kept}
 use Rattle.history_log.specs.Log.{entries_in, settled}
 use Rattle.history_log.specs.LogLaws.{settled-push}
-use Rattle.log_laws.specs.Keeping.{with_operation_made}
-use Rattle.log_laws.specs.KeepingLaws.{same_answer, keeps_operated}
+use Rattle.store_machine.specs.Keeping.{with_operation_made}
+use Rattle.store_machine.specs.KeepingLaws.{same_answer, keeps_operated}
 use Rattle.store_machine.specs.declared.fault.AdminFault.{AdminFault}
 use Rattle.store_machine.specs.declared.parts.Parts.{Parts}
 use Rattle.store_machine.specs.State.{MachineState, programs, held_by, refusal_of, by_answer, by_operation, AdminGives}

@@ -27,9 +27,9 @@ use Rattle.history_model.specs.LimitLaws.{left_of}
 use Rattle.history_log.specs.declared.log.Logged.{Logged}
 use Rattle.history_log.specs.Log.{entries_in, settled, without_last}
 use Rattle.history_log.specs.LogLaws.{without_last-push, settled-push}
-use Rattle.log_laws.specs.Places.{Life, put, noted}
-use Rattle.log_laws.specs.Keeping.{Kept, Keeps, room_by, setting_with, next_life, with_begun, with_step_made, with_operation_made}
-use Rattle.log_laws.specs.KeepingLaws.{run_of_life, keeps_begun, keeps_stepped, keeps_operated, step_fits, steps_among, status_kept}
+use Rattle.store_machine.specs.Places.{Life, put, noted}
+use Rattle.store_machine.specs.Keeping.{Kept, Keeps, room_by, setting_with, next_life, with_begun, with_step_made, with_operation_made}
+use Rattle.store_machine.specs.KeepingLaws.{run_of_life, keeps_begun, keeps_stepped, keeps_operated, step_fits, steps_among, status_kept}
 use Rattle.store_machine.specs.declared.called.Called.{Called}
 use Rattle.store_machine.specs.declared.called.Made.{Made}
 use Rattle.store_machine.specs.declared.parts.Parts.{Parts}

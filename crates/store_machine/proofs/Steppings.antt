@@ -10,7 +10,7 @@ use Rattle.program_run.specs.declared.run.Effect.{Effect}
 use Rattle.program_run.specs.Progress.{Progress, run_of}
 use Rattle.program_run.specs.Planned.{setting_of, stepped_as}
 use Rattle.history_model.specs.History.{steps_of, status_of}
-use Rattle.log_laws.specs.Places.{noted}
+use Rattle.store_machine.specs.Places.{noted}
 use Rattle.store_machine.specs.declared.called.Called.{Called}
 use Rattle.store_machine.specs.declared.called.Made.{Made}
 use Rattle.store_machine.specs.Standing.{begun_of, end_in, HasStepped}

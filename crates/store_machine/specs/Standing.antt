@@ -13,8 +13,8 @@ use Rattle.program_run.specs.Planned.{setting_of}
 use Rattle.collection_store.specs.State.{StoreState}
 use Rattle.history_model.specs.History.{RunKey, run_cmp, Begun, status_of, steps_of}
 use Rattle.history_log.specs.Log.{entries_in}
-use Rattle.log_laws.specs.Places.{Life, Lives, is_by, told, noted}
-use Rattle.log_laws.specs.Keeping.{Kept, Keeps, with_begun}
+use Rattle.store_machine.specs.Places.{Life, Lives, is_by, told, noted}
+use Rattle.store_machine.specs.Keeping.{Kept, Keeps, with_begun}
 use Rattle.store_machine.specs.declared.called.Called.{Called}
 use Rattle.store_machine.specs.declared.called.Made.{Made}
 use Rattle.store_machine.specs.declared.parts.Parts.{Parts}
@@ -60,7 +60,8 @@ abbrev pub IsPut : Calls → RunKey → Called → Calls → Type 0
 IsPut calls key new calls' = (q : RunKey) → at run_cmp calls' q ≡ (if eq_by_cmp run_cmp q key then Some new else at run_cmp calls q)
 
 -- the step was that of the key's call
-pub record HasSteppedAt (app : App) (store : StoreState) (calls : Calls) (key : RunKey) (room place : ℕ) (store' : StoreState) (calls' : Calls) (made : Made) : Type 0 where
+pub record HasSteppedAt (app : App) (store : StoreState) (calls : Calls) (key : RunKey) (room place : ℕ) (store' : StoreState) (calls' : Calls)
+    (made : Made) : Type 0 where
   pub old : Called
   pub new : Called
   pub was : at run_cmp calls key ≡ Some old
@@ -72,7 +73,8 @@ AreSame calls calls' = (q : RunKey) → at run_cmp calls' q ≡ at run_cmp calls
 
 -- of the numbers below 2^64, the greatest that one of the session's calls has
 abbrev pub IsLastAmong : Calls → ℕ → Option ℕ → Type 0
-IsLastAmong calls session (Some last) = (is_some (at run_cmp calls (session, last)) ≡ true) × ((k : ℕ) → last < k → k < 2 ^ 64 → at run_cmp calls (session, k) ≡ None)
+IsLastAmong calls session (Some last) =
+    (is_some (at run_cmp calls (session, last)) ≡ true) × ((k : ℕ) → last < k → k < 2 ^ 64 → at run_cmp calls (session, k) ≡ None)
 IsLastAmong calls session None = (k : ℕ) → k < 2 ^ 64 → at run_cmp calls (session, k) ≡ None
 
 -- ---- the machine's parts
@@ -87,7 +89,8 @@ kept_of app p = record { rows = p.store.rows; lives = lives_of app p.calls.entri
 
 -- what is kept where a call and its entry are put there, its bytes and its steps not counted yet
 abbrev pub uncounted : App → Parts → ℕ → ℕ → List ℕ → List Val → Value → Kept
-uncounted app p session k name params seed = record (with_begun (programs app) (kept_of app p) session k name params seed) { bytes = p.kept; steps = p.reserved }
+uncounted app p session k name params seed =
+    record (with_begun (programs app) (kept_of app p) session k name params seed) { bytes = p.kept; steps = p.reserved }
 
 -- the parts are what the history of their log leads to, over the application's collections
 pub record Stand (app : App) (p : Parts) : Type 0 where

@@ -12,7 +12,8 @@ use Rattle.collection_store.specs.Applied.{Applied, applied}
 use Rattle.history_model.specs.declared.entry.Entry.{Entry}
 use Rattle.history_model.specs.declared.entry.Entry.TheVariants as entry
 use Rattle.history_model.specs.Operations.{operation_in}
-use Rattle.history_model.specs.History.{Programs, Held, run_cmp, steps_of, goes_on, room_in, held, held_at, status_in, entries_with, kept_with, is_full, is_full_for_operation}
+use Rattle.history_model.specs.History.{Programs, Held, run_cmp, steps_of, goes_on, room_in, held, held_at, status_in, entries_with, kept_with,
+    is_full, is_full_for_operation}
 use Rattle.store_machine.specs.declared.fault.BeginFault.{BeginFault}
 use Rattle.store_machine.specs.declared.fault.BeginFault.TheVariants as begin
 use Rattle.store_machine.specs.declared.fault.AdminFault.{AdminFault}
@@ -39,7 +40,8 @@ with_entry m e = record m { history = m.history ++ e ∷ [] }
 
 -- 503, with how many entries there would be, those to come counted, and how many bytes would be kept; each 2^64 - 1 where there are more
 abbrev pub full_with : MachineState → List ℕ → List Val → Val → BeginFault
-full_with m name params seed = begin.Full (capped (entries_with (held_by m) (length (steps_of (method m.app name))))) (capped (kept_with (held_by m) params seed))
+full_with m name params seed =
+    begin.Full (capped (entries_with (held_by m) (length (steps_of (method m.app name))))) (capped (kept_with (held_by m) params seed))
 
 -- what beginning a call leaves: nothing new where it has a run, and else its entry, unless the history is full
 abbrev pub begin_answer : MachineState → ℕ → ℕ → List ℕ → List Val → Value → Result MachineState BeginFault

@@ -5,7 +5,7 @@ ghost use Rattle.program_steps.specs.Runs.{outcome_view};
 ghost use Rattle.program_model.specs.Run.{begun};
 ghost use Rattle.ejson_value.specs.View.{view};
 ghost use Rattle.history_model.specs.History.{steps_of, status_of};
-ghost use Rattle.log_laws.specs.Places.{is_by, noted};
+ghost use Rattle.store_machine.specs.Places.{is_by, noted};
 ghost use Rattle.store_machine.specs.Standing.{end_in, called_by, begun_of, HasStepped};
 
 use app_model::App;

@@ -4,7 +4,7 @@ ghost use Rattle.app_model.specs.App.{method as method_of};
 ghost use Rattle.history_model.specs.History.{status_in, status_at, changes_between, is_next};
 ghost use Rattle.history_model.specs.Operations.{operation_in};
 ghost use Rattle.history_log.specs.Entries.{told_operation};
-ghost use Rattle.history_log.specs.Lines.{store_lines, history_lines};
+ghost use Rattle.history_model.specs.Lines.{store_lines, history_lines};
 ghost use Rattle.store_machine.specs.State.{programs, held_by, held_after, begin_answer, is_running, step_state, admin_answer, BeginGives, AdminGives, IsLastBegun};
 
 use crate::beginning::{begin, last_begun, may_begin};

@@ -1,5 +1,6 @@
 -- What the steps of a stub left so far, kept beside the view that they work on.
-use Rattle.std.specs.Prelude.{◌≡◌, ℕ, ◌+◌, Bool, true, false, not, ◌&&◌, ◌||◌, nat_lt, List, [], ◌∷◌, ◌++◌, length, map, filter, Option, Some, None, is_some, is_none, option_map, option_and_then}
+use Rattle.std.specs.Prelude.{◌≡◌, ℕ, ◌+◌, Bool, true, false, not, ◌&&◌, ◌||◌, nat_lt, List, [], ◌∷◌, ◌++◌, length, map, filter, Option, Some, None,
+    is_some, is_none, option_map, option_and_then}
 use Rattle.std.specs.List.{list_any}
 use Rattle.std.specs.Ordering.{eq_by_cmp}
 use Rattle.std.specs.BTreeMap.{insert_entry}
@@ -66,7 +67,8 @@ IsWindow params made rows (step.Require collection selector fault) window = IsFo
 IsWindow params made rows _ window = window ≡ []
 
 -- the step was made over the documents that it looks at
-pub record IsMade (names : List (List ℕ)) (params : List Val) (steps : List ProgramStep) (view : Rows) (draft : Draft) (s : ProgramStep) (run next : Progress) (effect : Effect) : Type 0 where
+pub record IsMade (names : List (List ℕ)) (params : List Val) (steps : List ProgramStep) (view : Rows) (draft : Draft) (s : ProgramStep)
+    (run next : Progress) (effect : Effect) : Type 0 where
   pub window : Rows
   pub looks : IsWindow params draft.made (shown_by view draft) s window
   pub left : Rows

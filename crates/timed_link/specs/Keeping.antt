@@ -81,7 +81,8 @@ answers_closed (_ ∷ xs) ys = answers_closed xs ys
 closed-append : (xs ys : List Call) → has_closed (answers_in (xs ++ ys)) ≡ (has_closed (answers_in xs) || has_closed (answers_in ys))
 closed-append xs ys = ap has_closed (answers_in-append xs ys) ∙ answers_closed (answers_in xs) (answers_in ys)
 
-own_closed-append : (xs ys : List Act) → has_closed (answers_in (own_calls (xs ++ ys))) ≡ (has_closed (answers_in (own_calls xs)) || has_closed (answers_in (own_calls ys)))
+own_closed-append : (xs ys : List Act) →
+    has_closed (answers_in (own_calls (xs ++ ys))) ≡ (has_closed (answers_in (own_calls xs)) || has_closed (answers_in (own_calls ys)))
 own_closed-append xs ys = ap (λ cs. has_closed (answers_in cs)) (own_calls-append xs ys) ∙ closed-append (own_calls xs) (own_calls ys)
 
 either : (a b : Bool) → (a || b) ≡ true → (a ≡ true) ⊎ (b ≡ true)
@@ -157,13 +158,16 @@ module _ {L C : Type 0} (steps : L → Call → L → Type 0) (told : C → Opti
       let due = subst (λ (w : Watch). pings_in q.acts ≡ pings_due w q.acts) p.watch q.due in
       record {
         acts = p.acts ++ q.acts;
-        leads = subst (λ cs. Leads steps a.link cs b.link) (sym (calls_in-append p.acts q.acts)) (leads_append steps a.link m.link b.link (calls_in p.acts) (calls_in q.acts) p.leads q.leads);
-        asked = subst (λ ts. HasTold (told a.clock) (told b.clock) ts) (sym (moments_in-append p.acts q.acts)) (told_then (told a.clock) (told m.clock) (told b.clock) (moments_in p.acts) (moments_in q.acts) p.asked q.asked);
+        leads = subst (λ cs. Leads steps a.link cs b.link) (sym (calls_in-append p.acts q.acts))
+            (leads_append steps a.link m.link b.link (calls_in p.acts) (calls_in q.acts) p.leads q.leads);
+        asked = subst (λ ts. HasTold (told a.clock) (told b.clock) ts) (sym (moments_in-append p.acts q.acts))
+            (told_then (told a.clock) (told m.clock) (told b.clock) (moments_in p.acts) (moments_in q.acts) p.asked q.asked);
         watch = watch;
         may = may-append a.watch p.acts q.acts p.may may;
         pings = are_pings-append p.acts q.acts p.pings q.pings;
         due = omega (arith, pings_in-append p.acts q.acts, pings_due-append a.watch p.acts q.acts, p.due, due);
-        texts = ap with_texts (own_calls-append p.acts q.acts) ∙ (with_texts-append (own_calls p.acts) (own_calls q.acts) ∙ (ap₂ (λ cs ds. cs ++ ds) p.texts q.texts ∙ sym (with_texts-append xs ys)));
+        texts = ap with_texts (own_calls-append p.acts q.acts)
+            ∙ (with_texts-append (own_calls p.acts) (own_calls q.acts) ∙ (ap₂ (λ cs ds. cs ++ ds) p.texts q.texts ∙ sym (with_texts-append xs ys)));
         closed = λ is. by_parts
             (λ (one : has_closed (answers_in xs) ≡ true). by_parts
             (λ (c : has_closed (answers_in (own_calls p.acts)) ≡ true). inl (own ∙ first_of (has_closed (answers_in (own_calls p.acts))) (has_closed (answers_in (own_calls q.acts))) c))
@@ -217,16 +221,19 @@ ticked_knows times past t heart is going = record {
   ends = subst (λ (p : Pulse). GivesUp times (ticked t ∷ past) (given_up_by (pulse_beat p t))) (sym is) (gives_up_by times past t going);
 }
 
-one_ping : (times : Times) (past : History) (t : ℕ) (heart : Pulse) → heart ≡ pulse_of times past → pings_of times (ticked t ∷ past) ≡ pings_of times past + pings_by (pulse_beat heart t)
+one_ping : (times : Times) (past : History) (t : ℕ) (heart : Pulse) → heart ≡ pulse_of times past →
+    pings_of times (ticked t ∷ past) ≡ pings_of times past + pings_by (pulse_beat heart t)
 one_ping times past t heart is =
     let same : pings_by (pulse_beat heart t) ≡ pings_by (beat times past t) = ap (λ (p : Pulse). pings_by (pulse_beat p t)) is in
     omega (arith, same)
 
-knows_all : (times : Times) (xs : List Act) (past : History) (w : Watch) → Knows times past w → MayAll w xs → Knows times (history_behind past xs) (all_after w xs)
+knows_all : (times : Times) (xs : List Act) (past : History) (w : Watch) → Knows times past w → MayAll w xs →
+    Knows times (history_behind past xs) (all_after w xs)
 knows_all times [] past w k may = k
 knows_all times (polled t (Message text) ∷ xs) past w k may =
     let going = going_on times past w.given_up may.0 k.ends in
-    knows_all times xs (ticked t ∷ heard t ∷ past) (after w (polled t (Message text))) (ticked_knows times (heard t ∷ past) t (pulse_heard w.heart t) (ap (λ (p : Pulse). pulse_heard p t) k.heart) going) may.1
+    knows_all times xs (ticked t ∷ heard t ∷ past) (after w (polled t (Message text)))
+        (ticked_knows times (heard t ∷ past) t (pulse_heard w.heart t) (ap (λ (p : Pulse). pulse_heard p t) k.heart) going) may.1
 knows_all times (polled t Quiet ∷ xs) past w k may =
     let going = going_on times past w.given_up may.0 k.ends in
     knows_all times xs (ticked t ∷ past) (after w (polled t Quiet)) (ticked_knows times past t w.heart k.heart going) may.1
@@ -236,7 +243,8 @@ knows_all times (polled t Memory ∷ xs) past w k may = knows_all times xs past 
 knows_all times (offered c ∷ xs) past w k may = knows_all times xs past w k may.1
 knows_all times (pinged c ∷ xs) past w k may = knows_all times xs past w k may.1
 
-pings_all : (times : Times) (xs : List Act) (past : History) (w : Watch) → Knows times past w → MayAll w xs → pings_of times (history_behind past xs) ≡ pings_of times past + pings_due w xs
+pings_all : (times : Times) (xs : List Act) (past : History) (w : Watch) → Knows times past w → MayAll w xs →
+    pings_of times (history_behind past xs) ≡ pings_of times past + pings_due w xs
 pings_all times [] past w k may = omega arith
 pings_all times (polled t (Message text) ∷ xs) past w k may =
     let going = going_on times past w.given_up may.0 k.ends in
@@ -257,7 +265,8 @@ pings_all times (pinged c ∷ xs) past w k may = omega (arith, pings_all times x
 
 module _ {L C : Type 0} (steps : L → Call → L → Type 0) (told : C → Option (List ℕ)) where
   -- the calls of a timed link that was new keep time
-  pub keeps_time : (times : Times) (a b : Timed L C) (calls : List Call) → IsNew times a.watch → Leads (TimedStep steps told) a calls b → KeepsTime steps told times a calls b
+  pub keeps_time : (times : Times) (a b : Timed L C) (calls : List Call) → IsNew times a.watch → Leads (TimedStep steps told) a calls b →
+      KeepsTime steps told times a calls b
   keeps_time times a b calls new leads =
       let w = all_within steps told calls a b leads in
       let first = knows_new times a.watch new in
@@ -273,5 +282,6 @@ module _ {L C : Type 0} (steps : L → Call → L → Type 0) (told : C → Opti
         texts = w.texts;
         closed = w.closed;
         told_on = w.told_on;
-        gives_up = λ is. by_parts (λ (given : is_some a.watch.given_up ≡ true). absurd (no_option a.watch.given_up given new.3)) (λ (c : has_closed (answers_in calls) ≡ true). c) (w.gives_up is);
+        gives_up = λ is. by_parts (λ (given : is_some a.watch.given_up ≡ true). absurd (no_option a.watch.given_up given new.3))
+            (λ (c : has_closed (answers_in calls) ≡ true). c) (w.gives_up is);
       }

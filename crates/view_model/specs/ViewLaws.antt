@@ -1,5 +1,6 @@
 -- The view is the server's copy at each key that no open simulation holds.
-use Rattle.std.specs.Prelude.{◌≡◌, ◌≢◌, ◌⊎◌, ℕ, Bool, true, false, cond, not, ◌&&◌, ◌||◌, List, [], ◌∷◌, Option, Some, None, is_some, option_and_then, unwrap_or, refl}
+use Rattle.std.specs.Prelude.{◌≡◌, ◌≢◌, ◌⊎◌, ℕ, Bool, true, false, cond, not, ◌&&◌, ◌||◌, List, [], ◌∷◌, Option, Some, None, is_some, option_and_then,
+    unwrap_or, refl}
 use Rattle.std.specs.List.{list_any}
 use Rattle.std.specs.declared.cmp.Ordering.{Ordering}
 use Rattle.std.specs.declared.cmp.Ordering.TheVariants.{Less, Equal, Greater}
@@ -15,7 +16,8 @@ use Rattle.view_model.specs.Views.{View, no_documents, shown_at, shown, told, si
 
 with_number-some : (hs : List ℕ) (n : ℕ) → with_number hs n ≢ []
 with_number-some [] n e = cc e
-with_number-some (h ∷ hs) n e = elim (nat_cmp n h) as (λ o. match_ordering o (n ∷ h ∷ hs) (h ∷ hs) (h ∷ with_number hs n) ≡ [] → ⊥) [ Less ↦ λ e. cc e | Equal ↦ λ e. cc e | Greater ↦ λ e. cc e ] e
+with_number-some (h ∷ hs) n e = elim (nat_cmp n h) as
+    (λ o. match_ordering o (n ∷ h ∷ hs) (h ∷ hs) (h ∷ with_number hs n) ≡ [] → ⊥) [ Less ↦ λ e. cc e | Equal ↦ λ e. cc e | Greater ↦ λ e. cc e ] e
 
 unless_none-some : (hs : List ℕ) → unless_none hs ≢ Some []
 unless_none-some [] e = cc e
@@ -28,21 +30,27 @@ module _ {K D : Type 0} {R : K → K → Ordering} (o : IsKeyOrder R) where
   -- ---- what is shown
 
   sorted-shown_at : (server : List (K × D)) (pending : Pending K) (v : List (K × D)) (k : K) → IsSorted R v → IsSorted R (shown_at R server pending v k)
-  sorted-shown_at server pending v k s = elim (is_held R pending k) as (λ b. IsSorted R (cond b v (set R v k (at R server k)))) [ true ↦ s | false ↦ sorted-set o v k (at R server k) s ]
+  sorted-shown_at server pending v k s = elim (is_held R pending k) as
+      (λ b. IsSorted R (cond b v (set R v k (at R server k)))) [ true ↦ s | false ↦ sorted-set o v k (at R server k) s ]
 
   pub sorted-shown : (server : List (K × D)) (pending : Pending K) (v : List (K × D)) (ks : List K) → IsSorted R v → IsSorted R (shown R server pending v ks)
   sorted-shown server pending v [] s = s
   sorted-shown server pending v (k ∷ ks) s = sorted-shown server pending (shown_at R server pending v k) ks (sorted-shown_at server pending v k s)
 
-  pub at-shown_at : (server : List (K × D)) (pending : Pending K) (v : List (K × D)) (k q : K) → IsSorted R v → at R (shown_at R server pending v k) q ≡ cond (eq_by_cmp R q k && not (is_held R pending q)) (at R server q) (at R v q)
+  pub at-shown_at : (server : List (K × D)) (pending : Pending K) (v : List (K × D)) (k q : K) → IsSorted R v →
+      at R (shown_at R server pending v k) q ≡ cond (eq_by_cmp R q k && not (is_held R pending q)) (at R server q) (at R v q)
   at-shown_at server pending v k q s =
-      elim (is_held R pending k) as (λ b. is_held R pending k ≡ b → at R (cond b v (set R v k (at R server k))) q ≡ cond (eq_by_cmp R q k && not (is_held R pending q)) (at R server q) (at R v q)) [
+      elim (is_held R pending k) as
+          (λ b. is_held R pending k ≡ b → at R (cond b v (set R v k (at R server k))) q ≡ cond (eq_by_cmp R q k && not (is_held R pending q)) (at R server q) (at R v q)) [
         | true ↦ λ h. elim (eq_by_cmp R q k) as (λ b. eq_by_cmp R q k ≡ b → at R v q ≡ cond (b && not (is_held R pending q)) (at R server q) (at R v q)) [
           | true ↦ λ t. ap (λ b. cond (not b) (at R server q) (at R v q)) (sym (ap (is_held R pending) (key_is o q k t) ∙ h))
           | false ↦ λ t. refl
         ] refl
-        | false ↦ λ h. at-set o v k (at R server k) q s ∙ elim (eq_by_cmp R q k) as (λ b. eq_by_cmp R q k ≡ b → cond b (at R server k) (at R v q) ≡ cond (b && not (is_held R pending q)) (at R server q) (at R v q)) [
-          | true ↦ λ t. ap (at R server) (sym (key_is o q k t)) ∙ ap (λ b. cond (not b) (at R server q) (at R v q)) (sym (ap (is_held R pending) (key_is o q k t) ∙ h))
+        | false ↦ λ h. at-set o v k (at R server k) q s
+            ∙ elim (eq_by_cmp R q k) as
+            (λ b. eq_by_cmp R q k ≡ b → cond b (at R server k) (at R v q) ≡ cond (b && not (is_held R pending q)) (at R server q) (at R v q)) [
+          | true ↦ λ t. ap (at R server) (sym (key_is o q k t))
+              ∙ ap (λ b. cond (not b) (at R server q) (at R v q)) (sym (ap (is_held R pending) (key_is o q k t) ∙ h))
           | false ↦ λ t. refl
         ] refl
       ] refl
@@ -53,12 +61,14 @@ module _ {K D : Type 0} {R : K → K → Ordering} (o : IsKeyOrder R) where
   either false true x y = refl
   either false false x y = refl
 
-  pub at-shown : (server : List (K × D)) (pending : Pending K) (v : List (K × D)) (ks : List K) (q : K) → IsSorted R v → at R (shown R server pending v ks) q ≡ cond (list_any (eq_by_cmp R q) ks && not (is_held R pending q)) (at R server q) (at R v q)
+  pub at-shown : (server : List (K × D)) (pending : Pending K) (v : List (K × D)) (ks : List K) (q : K) → IsSorted R v →
+      at R (shown R server pending v ks) q ≡ cond (list_any (eq_by_cmp R q) ks && not (is_held R pending q)) (at R server q) (at R v q)
   at-shown server pending v [] q s = refl
   at-shown server pending v (k ∷ ks) q s =
       at-shown server pending (shown_at R server pending v k) ks q (sorted-shown_at server pending v k s)
       ∙ ap (cond (list_any (eq_by_cmp R q) ks && not (is_held R pending q)) (at R server q)) (at-shown_at server pending v k q s)
-      ∙ elim (eq_by_cmp R q k) as (λ b. cond (list_any (eq_by_cmp R q) ks && not (is_held R pending q)) (at R server q) (cond (b && not (is_held R pending q)) (at R server q) (at R v q))
+      ∙ elim (eq_by_cmp R q k) as
+          (λ b. cond (list_any (eq_by_cmp R q) ks && not (is_held R pending q)) (at R server q) (cond (b && not (is_held R pending q)) (at R server q) (at R v q))
       ≡ cond ((b || list_any (eq_by_cmp R q) ks) && not (is_held R pending q)) (at R server q) (at R v q)) [
         | true ↦ either (is_held R pending q) (list_any (eq_by_cmp R q) ks) (at R server q) (at R v q)
         | false ↦ refl
@@ -84,7 +94,8 @@ module _ {K D : Type 0} {R : K → K → Ordering} (o : IsKeyOrder R) where
       }
 
   -- a simulation changes what it holds alone
-  pub simulated_view : (n : ℕ) (view : List (K × D)) (keys : List K) (s : View K D) → IsSorted R view → ((q : K) → list_any (eq_by_cmp R q) keys ≡ false → at R view q ≡ at R s.view q) → IsView R s → IsView R (simulated R n view keys s)
+  pub simulated_view : (n : ℕ) (view : List (K × D)) (keys : List K) (s : View K D) → IsSorted R view →
+      ((q : K) → list_any (eq_by_cmp R q) keys ≡ false → at R view q ≡ at R s.view q) → IsView R s → IsView R (simulated R n view keys s)
   simulated_view n view keys s sorted alone w = record {
     server = w.server;
     view = sorted;
@@ -93,20 +104,24 @@ module _ {K D : Type 0} {R : K → K → Ordering} (o : IsKeyOrder R) where
       | true ↦ λ e. with_number-some (holders R s.pending q) n (ap (λ w. unwrap_or w []) e)
       | false ↦ λ e. w.holders q e
     ] (sym (at-held_by o n keys s.pending q) ∙ none);
-    agrees = λ q free. elim (list_any (eq_by_cmp R q) keys) as (λ b. list_any (eq_by_cmp R q) keys ≡ b → is_some (cond b (Some (with_number (holders R s.pending q) n)) (at R s.pending q)) ≡ false → at R view q ≡ at R s.server q) [
+    agrees = λ q free. elim (list_any (eq_by_cmp R q) keys) as
+        (λ b. list_any (eq_by_cmp R q) keys ≡ b → is_some (cond b (Some (with_number (holders R s.pending q) n)) (at R s.pending q)) ≡ false → at R view q ≡ at R s.server q) [
       | true ↦ λ t e. cc e
       | false ↦ λ t e. alone q t ∙ w.agrees q e
     ] refl (ap is_some (sym (at-held_by o n keys s.pending q)) ∙ free);
   }
 
   -- afterwards the view has the server's document at each key that is free
-  pub at-released : (ns : List ℕ) (s : View K D) (q : K) → IsView R s → at R (released R ns s).view q ≡ cond (is_held R (let_go ns s.pending) q) (at R s.view q) (at R s.server q)
+  pub at-released : (ns : List ℕ) (s : View K D) (q : K) → IsView R s →
+      at R (released R ns s).view q ≡ cond (is_held R (let_go ns s.pending) q) (at R s.view q) (at R s.server q)
   at-released ns s q w =
       at-shown s.server (let_go ns s.pending) s.view (keys_of s.pending) q w.view
       ∙ ap (λ b. cond (b && not (is_held R (let_go ns s.pending) q)) (at R s.server q) (at R s.view q)) (sym (is_some-at R s.pending q))
-      ∙ elim (is_held R (let_go ns s.pending) q) as (λ b. cond (is_held R s.pending q && not b) (at R s.server q) (at R s.view q) ≡ cond b (at R s.view q) (at R s.server q)) [
+      ∙ elim (is_held R (let_go ns s.pending) q) as
+          (λ b. cond (is_held R s.pending q && not b) (at R s.server q) (at R s.view q) ≡ cond b (at R s.view q) (at R s.server q)) [
         | true ↦ elim (is_held R s.pending q) as (λ c. cond (c && false) (at R s.server q) (at R s.view q) ≡ at R s.view q) [ true ↦ refl | false ↦ refl ]
-        | false ↦ elim (is_held R s.pending q) as (λ c. is_held R s.pending q ≡ c → cond (c && true) (at R s.server q) (at R s.view q) ≡ at R s.server q) [ true ↦ λ t. refl | false ↦ λ t. w.agrees q t ] refl
+        | false ↦ elim (is_held R s.pending q) as
+            (λ c. is_held R s.pending q ≡ c → cond (c && true) (at R s.server q) (at R s.view q) ≡ at R s.server q) [ true ↦ λ t. refl | false ↦ λ t. w.agrees q t ] refl
       ]
 
   pub released_view : (ns : List ℕ) (s : View K D) → IsView R s → IsView R (released R ns s)

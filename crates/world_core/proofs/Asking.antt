@@ -5,25 +5,25 @@ use Rattle.std.specs.BTreeMap.{insert_entry}
 use Rattle.std.proofs.Common.{ap, sym, subst, ◌∙◌}
 use Rattle.map_model.specs.Maps.{at}
 use Rattle.value_model.specs.Order.{text_cmp}
-use Rattle.client_lanes.specs.core_model.declared.events.Event.{Event}
-use Rattle.client_lanes.specs.core_model.declared.events.Event.TheVariants as event
-use Rattle.client_lanes.specs.core_model.Asks.{Ask, can_ask}
-use Rattle.client_lanes.specs.core_model.Asks as ask
-use Rattle.client_lanes.specs.core_model.World.{World, asked_in}
-use Rattle.client_lanes.specs.core_model.Events.{step, IsEvent}
-use Rattle.client_lanes.specs.core_model.Lines.{idle_unless, ask_values, texts_of, lines_of}
-use Rattle.client_lanes.specs.link_laws.Lift.{IsAsk}
-use Rattle.client_lanes.specs.connection_laws.Connection.{AConnection, as_conn}
-use Rattle.client_lanes.specs.connection_laws.Asks.{IsAsked}
-use Rattle.client_lanes.specs.Answers.{DoesAsked}
-use Rattle.client_lanes.specs.Acting.{ask_in, AsksBy as AsksOf}
+use Rattle.world_core.specs.world_model.declared.events.Event.{Event}
+use Rattle.world_core.specs.world_model.declared.events.Event.TheVariants as event
+use Rattle.world_core.specs.world_model.Asks.{Ask, can_ask}
+use Rattle.world_core.specs.world_model.Asks as ask
+use Rattle.world_core.specs.world_model.World.{World, asked_in}
+use Rattle.world_core.specs.world_model.Events.{step, IsEvent}
+use Rattle.world_core.specs.world_model.Lines.{idle_unless, ask_values, texts_of, lines_of}
+use Rattle.world_core.specs.world_invariant_laws.Lift.{IsAsk}
+use Rattle.world_core.specs.connection_laws.Connection.{AConnection, as_conn}
+use Rattle.world_core.specs.connection_laws.Asks.{IsAsked}
+use Rattle.world_core.specs.Answers.{DoesAsked}
+use Rattle.world_core.specs.Acting.{ask_in, AsksBy as AsksOf}
 use Rattle.world_laws.specs.World.{Names, AConnections, AWorld, as_world, connection_of, IsWorld}
 use Rattle.world_laws.specs.Doing.{with_name, without_name, touched, is_drop, after_ask, after_drop, IsAskedIn, IsStep, IsLeft}
 use Rattle.world_laws.specs.Changing.{client_is}
 use Rattle.world_laws.specs.Making.{touch_stays}
 use Rattle.world_laws.specs.Asking.{not_asked, ask_made, drop_made, nobody_asked}
 use Rattle.world_laws.specs.Printing.{ask_printed, nobody_printed}
-use Rattle.client_lanes.specs.Clients.{AsksIn}
+use Rattle.world_core.specs.Clients.{AsksIn}
 use Rattle.world_core.specs.Happening.{IsSame, Happens, asked_one}
 use Rattle.world_core.proofs.Puts.{put_same, AsksBy}
 

@@ -7,11 +7,11 @@ use Rattle.map_model.specs.Maps.{at, IsSorted}
 use Rattle.map_model.specs.MapLaws.{same_maps, at-put, at-remove, sorted-put, sorted-remove, key_is}
 use Rattle.value_model.specs.Order.{text_cmp}
 use Rattle.ejson_value.specs.Key.{name_order}
-use Rattle.client_lanes.specs.core_model.declared.events.Event.TheVariants as event
-use Rattle.client_lanes.specs.core_model.Conn.{client_limit}
-use Rattle.client_lanes.specs.core_model.World.{can_open}
-use Rattle.client_lanes.specs.core_model.Lines.{idle_unless, texts_of}
-use Rattle.client_lanes.specs.connection_laws.Connection.{AConnection, new_connection}
+use Rattle.world_core.specs.world_model.declared.events.Event.TheVariants as event
+use Rattle.world_core.specs.world_model.Conn.{client_limit}
+use Rattle.world_core.specs.world_model.World.{can_open}
+use Rattle.world_core.specs.world_model.Lines.{idle_unless, texts_of}
+use Rattle.world_core.specs.connection_laws.Connection.{AConnection, new_connection}
 use Rattle.world_laws.specs.World.{Names, AConnections, AWorld, as_world, connection_of, is_among, is_there, IsWorld}
 use Rattle.world_laws.specs.Doing.{with_name, without_name, touched, IsOpened, after_open}
 use Rattle.world_laws.specs.Making.{touch_stays}

@@ -1,10 +1,21 @@
+mod PhaseVisits
+mod Answering
+mod Repeating
+mod Stepping
+mod Passing
+mod TellingLemmas
+mod Adding
+mod PhaseAsking
+pub mod Sends
+pub mod Sides
+pub mod Told
 mod Puts
-mod Acting
+mod ActingLemmas
 mod Asking
 mod Begun
 mod Operating
-mod Showing
+mod ShowingLemmas
 mod Workers
-mod Visits
+mod VisitsLemmas
 mod Runs
 mod Worlds

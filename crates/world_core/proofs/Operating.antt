@@ -6,15 +6,15 @@ use Rattle.value_model.specs.Val.{Val}
 use Rattle.collection_store.specs.declared.operation.Op.{Op}
 use Rattle.collection_store.specs.Outcome.{Outcome, code_of}
 use Rattle.collection_store.specs.Applied.{Applied}
-use Rattle.client_lanes.specs.history_model.declared.entry.Entry.TheVariants as entry
-use Rattle.client_lanes.specs.history_model.Operations.{operation_in}
-use Rattle.client_lanes.specs.history_model.History.{is_full_for_operation}
-use Rattle.client_lanes.specs.store_machine.declared.fault.AdminFault.{AdminFault}
-use Rattle.client_lanes.specs.store_machine.declared.fault.AdminFault.TheVariants as admin
-use Rattle.client_lanes.specs.store_machine.State.{MachineState, held_by, admin_answer, by_operation, by_answer, refusal_of as fault_of, with_entry}
-use Rattle.client_lanes.specs.core_model.declared.events.Event.TheVariants as event
-use Rattle.client_lanes.specs.core_model.Events.{IsEvent, refusal_of, by_operation as refused_operation, by_answer as refused_by, applied_in}
-use Rattle.client_lanes.specs.core_model.Lines.{idle_unless, refusal_values, texts_of}
+use Rattle.world_core.specs.history_model.declared.entry.Entry.TheVariants as entry
+use Rattle.world_core.specs.history_model.Operations.{operation_in}
+use Rattle.world_core.specs.history_model.History.{is_full_for_operation}
+use Rattle.world_core.specs.store_machine.declared.fault.AdminFault.{AdminFault}
+use Rattle.world_core.specs.store_machine.declared.fault.AdminFault.TheVariants as admin
+use Rattle.world_core.specs.store_machine.State.{MachineState, held_by, admin_answer, by_operation, by_answer, refusal_of as fault_of, with_entry}
+use Rattle.world_core.specs.world_model.declared.events.Event.TheVariants as event
+use Rattle.world_core.specs.world_model.Events.{IsEvent, refusal_of, by_operation as refused_operation, by_answer as refused_by, applied_in}
+use Rattle.world_core.specs.world_model.Lines.{idle_unless, refusal_values, texts_of}
 use Rattle.world_laws.specs.World.{AWorld, as_world, IsWorld}
 use Rattle.world_laws.specs.Doing.{IsAdministered, after_operation}
 use Rattle.world_laws.specs.Asking.{administered, refused}

@@ -7,17 +7,17 @@ use Rattle.map_model.specs.Maps.{at, set, IsSorted}
 use Rattle.map_model.specs.MapLaws.{at-put, set-at, eq_by_cmp-self}
 use Rattle.value_model.specs.Order.{text_cmp}
 use Rattle.ejson_value.specs.Key.{name_order}
-use Rattle.client_lanes.specs.store_machine.State.{MachineState}
-use Rattle.client_lanes.specs.core_model.declared.events.Act.{Act}
-use Rattle.client_lanes.specs.core_model.declared.events.Answer.{Answer}
-use Rattle.client_lanes.specs.core_model.declared.events.Answer.TheVariants as answer
-use Rattle.client_lanes.specs.core_model.declared.events.Event.{Event}
-use Rattle.client_lanes.specs.connection_laws.Connection.{AConnection}
-use Rattle.client_lanes.specs.Acting.{AsksFor}
-use Rattle.client_lanes.specs.multiplexer.Telling.{ANews}
+use Rattle.world_core.specs.store_machine.State.{MachineState}
+use Rattle.world_core.specs.world_model.declared.events.Act.{Act}
+use Rattle.world_core.specs.world_model.declared.events.Answer.{Answer}
+use Rattle.world_core.specs.world_model.declared.events.Answer.TheVariants as answer
+use Rattle.world_core.specs.world_model.declared.events.Event.{Event}
+use Rattle.world_core.specs.connection_laws.Connection.{AConnection}
+use Rattle.world_core.specs.Acting.{AsksFor}
+use Rattle.world_core.specs.multiplexer.Telling.{ANews}
 use Rattle.lanes.specs.Lanes.{VisitBy}
-use Rattle.client_lanes.specs.Clients.{Acts}
-use Rattle.client_lanes.specs.Visits.{Visits}
+use Rattle.world_core.specs.Clients.{Acts}
+use Rattle.world_core.specs.Visits.{Visits}
 use Rattle.world_laws.specs.World.{AConnections}
 
 module _ {X : Type 0} where

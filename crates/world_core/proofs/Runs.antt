@@ -9,15 +9,15 @@ use Rattle.map_model.specs.Maps.{at}
 use Rattle.map_model.specs.MapLaws.{at-put, key_is}
 use Rattle.value_model.specs.Order.{text_cmp}
 use Rattle.ejson_value.specs.Key.{name_order}
-use Rattle.client_lanes.specs.store_machine.State.{MachineState}
-use Rattle.client_lanes.specs.round_laws.Visits.{Side}
-use Rattle.client_lanes.specs.connection_laws.Connection.{AConnection, IsConnection}
-use Rattle.client_lanes.specs.Asks.{asks_nothing}
-use Rattle.client_lanes.specs.multiplexer.Telling.{ANews, nothing_told}
-use Rattle.client_lanes.specs.Visit.{visit}
-use Rattle.client_lanes.specs.Visit as one
+use Rattle.world_core.specs.store_machine.State.{MachineState}
+use Rattle.world_core.specs.world_rounds_laws.Visits.{Side}
+use Rattle.world_core.specs.connection_laws.Connection.{AConnection, IsConnection}
+use Rattle.world_core.specs.Asks.{asks_nothing}
+use Rattle.world_core.specs.multiplexer.Telling.{ANews, nothing_told}
+use Rattle.world_core.specs.Visit.{visit}
+use Rattle.world_core.specs.Visit as one
 use Rattle.lanes.specs.Lanes.{VisitBy, IsVisit, EachTold, IsAmong, AreLed}
-use Rattle.client_lanes.specs.Visits.{Tells, Leads, VisitsIn}
+use Rattle.world_core.specs.Visits.{Tells, Leads, VisitsIn}
 use Rattle.world_laws.specs.World.{AConnections, AWorld, as_world, connection_of}
 use Rattle.world_laws.specs.Doing.{IsWorker, after_visit}
 use Rattle.world_laws.specs.Names.{behind, behind_it}
@@ -27,7 +27,7 @@ use Rattle.world_core.specs.Rounds.{machine_of, IsNextFrom, IsLed}
 use Rattle.world_core.specs.Runs.{IsListener, IsRun, behind_all, TellsRun}
 use Rattle.world_core.proofs.Workers.{stays_behind, left_from, next_is_less}
 use Rattle.world_core.proofs.Puts.{VisitsBy}
-use Rattle.world_core.proofs.Visits.{IsOn, on_goes}
+use Rattle.world_core.proofs.VisitsLemmas.{IsOn, on_goes}
 
 -- ---- one more client
 

@@ -2,14 +2,14 @@
 use Rattle.ejson_value.specs.declared.memory.Mem.{Mem}
 use Rattle.std.specs.Prelude.{◌≡◌, ℕ, List, [], Result, Ok, Err, OnOk, OnErr, IfOk}
 use Rattle.std.proofs.Common.{ap, sym, subst, ◌∙◌}
-use Rattle.client_lanes.specs.core_model.declared.events.Event.{Event}
-use Rattle.client_lanes.specs.core_model.declared.events.Event.TheVariants as event
-use Rattle.client_lanes.specs.core_model.World.{World}
-use Rattle.client_lanes.specs.core_model.Settle.{round, settled}
-use Rattle.client_lanes.specs.core_model.Events.{step}
-use Rattle.client_lanes.specs.core_model.Lines.{lines_of}
-use Rattle.client_lanes.specs.core_model.Headline.{AreAtRest}
-use Rattle.world_laws.specs.resting_worlds_for_proofs.Rounds.{rounds_stay}
+use Rattle.world_core.specs.world_model.declared.events.Event.{Event}
+use Rattle.world_core.specs.world_model.declared.events.Event.TheVariants as event
+use Rattle.world_core.specs.world_model.World.{World}
+use Rattle.world_core.specs.world_model.Settle.{round, settled}
+use Rattle.world_core.specs.world_model.Events.{step}
+use Rattle.world_core.specs.world_model.Lines.{lines_of}
+use Rattle.world_core.specs.world_model.Headline.{AreAtRest}
+use Rattle.world_laws.specs.world_settles_laws_for_proofs.Rounds.{rounds_stay}
 use Rattle.world_laws.specs.World.{AWorld, as_world, IsWorld}
 use Rattle.world_laws.specs.Doing.{ActsLead, IsLeft as LeavesKept}
 use Rattle.world_laws.specs.Promises.{settled_rests}

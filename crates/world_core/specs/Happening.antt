@@ -1,13 +1,13 @@
 -- What happens in what is kept of a world.
 use Rattle.ejson_value.specs.declared.memory.Mem.{Mem}
 use Rattle.std.specs.Prelude.{◌≡◌, ℕ, List, Option, None, Some, Result, Ok, Err}
-use Rattle.client_lanes.specs.core_model.declared.events.Act.{Act}
-use Rattle.client_lanes.specs.core_model.declared.events.Event.{Event}
-use Rattle.client_lanes.specs.core_model.declared.events.Event.TheVariants as event
-use Rattle.client_lanes.specs.core_model.Lines.{act_values, texts_of, lines_of}
+use Rattle.world_core.specs.world_model.declared.events.Act.{Act}
+use Rattle.world_core.specs.world_model.declared.events.Event.{Event}
+use Rattle.world_core.specs.world_model.declared.events.Event.TheVariants as event
+use Rattle.world_core.specs.world_model.Lines.{act_values, texts_of, lines_of}
 use Rattle.std.specs.BTreeMap.{insert_entry}
 use Rattle.value_model.specs.Order.{text_cmp}
-use Rattle.client_lanes.specs.connection_laws.Connection.{AConnection, new_connection}
+use Rattle.world_core.specs.connection_laws.Connection.{AConnection, new_connection}
 use Rattle.world_laws.specs.World.{AWorld, as_world, IsWorld}
 use Rattle.world_laws.specs.Doing.{with_name, IsActed, IsStep, IsLeft}
 
@@ -46,7 +46,8 @@ asked_one e = None
 
 -- the client stands among the others, is there, and busy
 abbrev pub with_client : AWorld → List ℕ → AConnection → ℕ → AWorld
-with_client x name c opened = record x { opened = opened; conns = insert_entry text_cmp x.conns name c; present = with_name x.present name; busy = with_name x.busy name }
+with_client x name c opened =
+    record x { opened = opened; conns = insert_entry text_cmp x.conns name c; present = with_name x.present name; busy = with_name x.busy name }
 
 -- as the client with this number
 abbrev pub Begins : AWorld → List ℕ → ℕ → AWorld → Result (Unit {0}) Mem → Type 0

@@ -1,10 +1,10 @@
 -- What an event leaves: the world where memory runs out, and a world that settled.
 use Rattle.std.specs.Prelude.{◌≡◌}
-use Rattle.client_lanes.specs.core_model.declared.events.Event.{Event}
-use Rattle.client_lanes.specs.core_model.declared.events.Event.TheVariants as event
-use Rattle.client_lanes.specs.core_model.World.{World}
-use Rattle.client_lanes.specs.core_model.Settle.{round}
-use Rattle.client_lanes.specs.core_model.Headline.{AreAtRest}
+use Rattle.world_core.specs.world_model.declared.events.Event.{Event}
+use Rattle.world_core.specs.world_model.declared.events.Event.TheVariants as event
+use Rattle.world_core.specs.world_model.World.{World}
+use Rattle.world_core.specs.world_model.Settle.{round}
+use Rattle.world_core.specs.world_model.Headline.{AreAtRest}
 use Rattle.world_laws.specs.Doing.{ActsLead}
 
 -- the world as it was, or, where it was to settle, as the acts so far left it

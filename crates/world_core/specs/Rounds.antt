@@ -3,9 +3,9 @@ use Rattle.ejson_value.specs.declared.memory.Mem.{Mem}
 use Rattle.std.specs.Prelude.{◌≡◌, ℕ, List, Bool, true, false, Option, None, Some, Result, Ok, Err}
 use Rattle.std.specs.Ordering.{is_le, is_lt}
 use Rattle.value_model.specs.Order.{text_cmp}
-use Rattle.client_lanes.specs.store_machine.State.{MachineState}
-use Rattle.client_lanes.specs.core_model.declared.events.Event.TheVariants as event
-use Rattle.client_lanes.specs.core_model.Settle.{round, is_stuck, settled}
+use Rattle.world_core.specs.store_machine.State.{MachineState}
+use Rattle.world_core.specs.world_model.declared.events.Event.TheVariants as event
+use Rattle.world_core.specs.world_model.Settle.{round, is_stuck, settled}
 use Rattle.world_laws.specs.World.{AWorld, as_world, IsWorld}
 use Rattle.world_laws.specs.Doing.{IsPassed, IsWorker, IsStep, ActsLead}
 

@@ -3,10 +3,10 @@ use Rattle.ejson_value.specs.declared.memory.Mem.{Mem}
 use Rattle.std.specs.Prelude.{◌≡◌, ℕ, List, [], ◌∷◌, Bool, true, Result, Ok, Err, IfSome}
 use Rattle.map_model.specs.Maps.{at}
 use Rattle.value_model.specs.Order.{text_cmp}
-use Rattle.client_lanes.specs.connection_laws.Connection.{AConnection}
-use Rattle.client_lanes.specs.Asks.{asks_nothing}
+use Rattle.world_core.specs.connection_laws.Connection.{AConnection}
+use Rattle.world_core.specs.Asks.{asks_nothing}
 use Rattle.lanes.specs.Lanes.{EachTold, IsAmong, AreLed}
-use Rattle.client_lanes.specs.Visits.{Tells, Leads}
+use Rattle.world_core.specs.Visits.{Tells, Leads}
 use Rattle.world_laws.specs.World.{AConnections, AWorld}
 use Rattle.world_laws.specs.Names.{behind}
 use Rattle.world_core.specs.Rounds.{machine_of, IsNextFrom}

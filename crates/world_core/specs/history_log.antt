@@ -1,2 +1,2 @@
 -- What crates above name of `history_log`.
-pub use Rattle.client_lanes.specs.history_log.Entries
+pub use Rattle.connection.specs.history_log.Entries

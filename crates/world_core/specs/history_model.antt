@@ -1,2 +1,7 @@
 -- What crates above name of `history_model`.
-pub use Rattle.client_lanes.specs.history_model.Operations
+pub use Rattle.connection.specs.history_model.History
+pub use Rattle.connection.specs.history_model.HistoryLaws
+pub use Rattle.connection.specs.history_model.LimitLaws
+pub use Rattle.connection.specs.history_model.Operations
+pub use Rattle.connection.specs.history_model.declared
+pub use Rattle.connection.specs.history_model.Lines

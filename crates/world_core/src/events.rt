@@ -1,9 +1,9 @@
 //! What happens.
 ghost use Rattle.std.specs.Prelude.{◌≡◌, Some};
-ghost use Rattle.client_lanes.specs.core_model.declared.events.Event.TheVariants as happening;
-ghost use Rattle.client_lanes.specs.core_model.Events.{act_by, IsEvent};
-ghost use Rattle.client_lanes.specs.history_model.Operations.{operation_in};
-ghost use Rattle.client_lanes.specs.history_log.Entries.{told_operation};
+ghost use Rattle.world_core.specs.world_model.declared.events.Event.TheVariants as happening;
+ghost use Rattle.world_core.specs.world_model.Events.{act_by, IsEvent};
+ghost use Rattle.world_core.specs.history_model.Operations.{operation_in};
+ghost use Rattle.world_core.specs.history_log.Entries.{told_operation};
 ghost use Rattle.world_laws.specs.World.{as_world, IsWorld};
 ghost use Rattle.world_core.specs.Kept.{seen};
 ghost use Rattle.world_core.specs.Happening.{Happens, MakesAct, actor, asked_one};
@@ -12,13 +12,13 @@ use crate::inside::Inside;
 use crate::opening::open;
 use crate::printing::{history, journal, show, store};
 use crate::rounds::settle;
-use client_lanes::core_model::{Act, Event};
-use client_lanes::store_machine::AdminFault;
-use client_lanes::{Hands, acted, asked, named};
+use crate::world_model::{Act, Event};
+use crate::store_machine::AdminFault;
+use crate::{Hands, acted, asked, named};
 use collection_store::Op;
 use ejson_value::{Items, Mem, Text};
 use lanes::Lanes;
-use world_lines::Printed;
+use crate::Printed;
 
 // The act of the client that the event names, if it names one.
 fn act_named(inside: &Inside, client: &Text, event: &Event) -> Option<Act>

@@ -1,6 +1,6 @@
 //! What is kept of a world.
-use client_lanes::Clients;
-use client_lanes::store_machine::Machine;
+use crate::Clients;
+use crate::store_machine::Machine;
 use heard_messages::Heard;
 use lanes::Names;
 use std::alloc::Global;

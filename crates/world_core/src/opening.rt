@@ -3,20 +3,20 @@ ghost use Rattle.std.specs.Prelude.{◌≡◌, OnOk, OnErr, None};
 ghost use Rattle.std.specs.BTreeMap.{insert_entry};
 ghost use Rattle.map_model.specs.Maps.{at};
 ghost use Rattle.value_model.specs.Order.{text_cmp};
-ghost use Rattle.client_lanes.specs.core_model.declared.events.Event.TheVariants as event;
-ghost use Rattle.client_lanes.specs.core_model.World.{can_open};
+ghost use Rattle.world_core.specs.world_model.declared.events.Event.TheVariants as event;
+ghost use Rattle.world_core.specs.world_model.World.{can_open};
 ghost use Rattle.world_laws.specs.World.{as_world, connection_of, IsWorld};
-ghost use Rattle.client_lanes.specs.connection_laws.Connection.{new_connection};
+ghost use Rattle.world_core.specs.connection_laws.Connection.{new_connection};
 ghost use Rattle.world_core.specs.Kept.{seen};
 ghost use Rattle.world_core.specs.Happening.{Happens, Begins};
 
 use crate::inside::Inside;
-use client_lanes::store_machine::Machine;
-use client_lanes::{Clients, Connection};
+use crate::store_machine::Machine;
+use crate::{Clients, Connection};
 use ejson_value::{Mem, Text};
 use lanes::Lanes;
 use std::alloc::Global;
-use world_lines::Printed;
+use crate::Printed;
 
 /// How many clients may be there at once.
 const CLIENT_LIMIT: usize = 128;

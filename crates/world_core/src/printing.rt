@@ -1,15 +1,15 @@
 //! What is printed of a world.
 ghost use Rattle.std.specs.Prelude.{◌≡◌, IfOk};
-ghost use Rattle.client_lanes.specs.core_model.declared.events.Event.TheVariants as event;
-ghost use Rattle.client_lanes.specs.core_model.Lines.{lines_of};
+ghost use Rattle.world_core.specs.world_model.declared.events.Event.TheVariants as event;
+ghost use Rattle.world_core.specs.world_model.Lines.{lines_of};
 ghost use Rattle.world_laws.specs.World.{as_world, IsWorld};
 ghost use Rattle.world_core.specs.Kept.{seen};
 
 use crate::inside::Inside;
-use client_lanes::Hands;
+use crate::Hands;
 use ejson_value::{Mem, Text};
 use lanes::Lanes;
-use world_lines::Printed;
+use crate::Printed;
 
 /// What the client has.
 pub(crate) fn show(inside: &Inside, client: &Text) -> Result<Printed, Mem>

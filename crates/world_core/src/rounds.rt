@@ -1,7 +1,7 @@
 //! Rounds of a world that settles.
 ghost use Rattle.std.specs.Prelude.{◌≡◌, ◌++◌, ◌∷◌, [], ◌||◌, true, IfSome, IfOk, OnOk};
 ghost use Rattle.std.specs.Option.{option_copied};
-ghost use Rattle.client_lanes.specs.News.{AreNews};
+ghost use Rattle.world_core.specs.News.{AreNews};
 ghost use Rattle.world_laws.specs.World.{as_world, IsWorld};
 ghost use Rattle.world_core.specs.Kept.{seen};
 ghost use Rattle.world_core.specs.Names.{lesser};
@@ -9,8 +9,8 @@ ghost use Rattle.world_core.specs.Rounds.{IsNext, MakesRound, MakesRounds, Settl
 ghost use Rattle.world_core.specs.Runs.{AsksNothing, IsListener, IsRun, behind_all, TellsRun};
 
 use crate::inside::Inside;
-use client_lanes::multiplexer::Multiplexer;
-use client_lanes::{Hands, visited};
+use crate::multiplexer::Multiplexer;
+use crate::{Hands, visited};
 use ejson_value::{Mem, Text};
 use lanes::{Lanes, behind};
 use std::cmp::Ordering;

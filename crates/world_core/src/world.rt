@@ -1,16 +1,16 @@
 //! The world.
 ghost use Rattle.std.specs.Prelude.{◌≡◌, IfOk, OnOk, OnErr};
-ghost use Rattle.world_laws.specs.stored_values.Values.{HasValues};
-ghost use Rattle.client_lanes.specs.history_model.Operations.{operation_in};
-ghost use Rattle.client_lanes.specs.history_log.Entries.{told_operation};
-ghost use Rattle.client_lanes.specs.core_model.declared.events.Event.TheVariants.{Admin};
-ghost use Rattle.client_lanes.specs.core_model.declared.events.Event.TheVariants as happening;
-ghost use Rattle.client_lanes.specs.core_model.Store.{programs};
-ghost use Rattle.client_lanes.specs.core_model.World.{start};
-ghost use Rattle.client_lanes.specs.core_model.Settle.{round, settled};
-ghost use Rattle.client_lanes.specs.core_model.Events.{step, IsEvent, Reachable};
-ghost use Rattle.client_lanes.specs.core_model.Lines.{lines_of};
-ghost use Rattle.client_lanes.specs.core_model.Headline.{IsTrueWorld, HaveLongAlone, AreAtRest};
+ghost use Rattle.world_laws.specs.world_values_laws.Values.{HasValues};
+ghost use Rattle.world_core.specs.history_model.Operations.{operation_in};
+ghost use Rattle.world_core.specs.history_log.Entries.{told_operation};
+ghost use Rattle.world_core.specs.world_model.declared.events.Event.TheVariants.{Admin};
+ghost use Rattle.world_core.specs.world_model.declared.events.Event.TheVariants as happening;
+ghost use Rattle.world_core.specs.world_model.Store.{programs};
+ghost use Rattle.world_core.specs.world_model.World.{start};
+ghost use Rattle.world_core.specs.world_model.Settle.{round, settled};
+ghost use Rattle.world_core.specs.world_model.Events.{step, IsEvent, Reachable};
+ghost use Rattle.world_core.specs.world_model.Lines.{lines_of};
+ghost use Rattle.world_core.specs.world_model.Headline.{IsTrueWorld, HaveLongAlone, AreAtRest};
 ghost use Rattle.world_laws.specs.Doing.{ActsLead};
 ghost use Rattle.world_core.specs.Promises.{IsLeft, IsSettled};
 
@@ -18,8 +18,8 @@ use crate::events::{admin_told, happen};
 use crate::inside::Inside;
 use crate::rounds::settle;
 use app_model::App;
-use client_lanes::store_machine::Machine;
-use client_lanes::{Hands, InTurn, no_clients};
+use crate::store_machine::Machine;
+use crate::{Hands, InTurn, no_clients};
 use collection_store::Op;
 use ejson_value::{Mem, Text};
 use heard_messages::Heard;
@@ -27,7 +27,7 @@ use lanes::Names;
 use std::alloc::Global;
 use std::marker::Model;
 use world_events::Event;
-use world_lines::Printed;
+use crate::Printed;
 
 /// A world. A contract sees its application, the history of its store, how many clients there were so
 /// far, and the clients by name, each with its session and the texts between them.
@@ -48,8 +48,8 @@ impl Model for World {
     ghost use Rattle.value_model.specs.Coding.{val_code};
     ghost use Rattle.selector_match.specs.Coding.{query_code};
     ghost use Rattle.sort_window.specs.Coding.{window_code};
-    ghost use Rattle.client_lanes.specs.minimongo.State.{documents_code};
-    ghost use Rattle.client_lanes.specs.core_model.World.{World as AWorld};
+    ghost use Rattle.world_core.specs.minimongo.State.{documents_code};
+    ghost use Rattle.world_core.specs.world_model.World.{World as AWorld};
     ghost use Rattle.world_laws.specs.World.{as_world, IsWorld};
     ghost use Rattle.world_core.specs.Kept.{seen};
 

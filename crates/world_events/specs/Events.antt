@@ -5,10 +5,10 @@ use Rattle.value_model.specs.Val.{Val, int, text, list, Vals, list_of, no_vals, 
 use Rattle.value_model.specs.Depth.{depth}
 use Rattle.value_model.specs.Size.{is_name}
 use Rattle.ejson_codec.specs.Reading.{max_levels}
-use Rattle.core_model.specs.declared.events.Act.{Act}
-use Rattle.core_model.specs.declared.events.Act.TheVariants as act
-use Rattle.core_model.specs.declared.events.Event.{Event}
-use Rattle.core_model.specs.declared.events.Event.TheVariants as event
+use Rattle.world_model.specs.declared.events.Act.{Act}
+use Rattle.world_model.specs.declared.events.Act.TheVariants as act
+use Rattle.world_model.specs.declared.events.Event.{Event}
+use Rattle.world_model.specs.declared.events.Event.TheVariants as event
 
 -- the text that stands first, and what follows it
 abbrev pub text_first : Vals → Option (List ℕ × Vals)

@@ -1,6 +1,6 @@
 -- What reading a line answers, by what the definition says.
 use Rattle.std.specs.Prelude.{◌≡◌, Option, Some, None, Result, Ok, Err}
-use Rattle.core_model.specs.declared.events.Event.{Event}
+use Rattle.world_model.specs.declared.events.Event.{Event}
 use Rattle.world_events.specs.declared.fault.LineFault.{LineFault}
 use Rattle.world_events.specs.declared.fault.LineFault.TheVariants as line_fault
 

@@ -1,13 +1,13 @@
 //! Events of the program.
 ghost use Rattle.std.specs.Prelude.{◌≡◌};
 ghost use Rattle.ejson_value.specs.View.{view};
-ghost use Rattle.core_model.specs.Events.{IsEvent};
+ghost use Rattle.world_model.specs.Events.{IsEvent};
 ghost use Rattle.world_events.specs.Events.{event_in};
 ghost use Rattle.world_events.specs.Faults.{GivesEvent};
 
 use crate::fault::LineFault;
 use crate::grammar::event_in;
-use core_model::Event as Happening;
+use world_model::Event as Happening;
 use ejson_value::Value;
 use std::alloc::Global;
 use std::marker::Model;
@@ -20,7 +20,7 @@ pub struct Event {
 }
 
 impl Model for Event {
-    ghost use Rattle.core_model.specs.declared.events.Event.{Event as AnEvent};
+    ghost use Rattle.world_model.specs.declared.events.Event.{Event as AnEvent};
 
     ghost Value = { AnEvent };
 
@@ -29,7 +29,7 @@ impl Model for Event {
 
     ghost coded = { Prim.hlevel (codes, val_code) };
 
-    ghost use Rattle.core_model.specs.Events.{IsEvent};
+    ghost use Rattle.world_model.specs.Events.{IsEvent};
 
     ghost view = { λ a. a.happening };
 

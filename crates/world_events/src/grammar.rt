@@ -5,12 +5,12 @@ ghost use Rattle.value_model.specs.Val.{vals_of};
 ghost use Rattle.value_model.specs.Depth.{depth};
 ghost use Rattle.ejson_value.specs.View.{view, views};
 ghost use Rattle.ejson_codec.specs.Reading.{max_levels};
-ghost use Rattle.core_model.specs.declared.events.Event.TheVariants as event;
+ghost use Rattle.world_model.specs.declared.events.Event.TheVariants as event;
 ghost use Rattle.ddp_messages.specs.Limits.{AreShallow};
-ghost use Rattle.core_model.specs.Events.{IsEvent};
+ghost use Rattle.world_model.specs.Events.{IsEvent};
 ghost use Rattle.world_events.specs.Events.{text_first, number_first, is_nil, text_alone, texts_alone, params_in, admin_in, sub_with, sub_in, call_with, call_in, unsub_in, raw_in, number_in, placed_in, load_at, advance_by, called_in, run_step_in, learn_in, act_of, step_in, asked_in, placed_row, row_in, event_in};
 
-use core_model::{Act, Event};
+use world_model::{Act, Event};
 use ejson_value::{Items, Mem, Text, Value, Whole, depth};
 use std::alloc::Global;
 

@@ -1,5 +1,6 @@
 -- What is asked of a client, a client that begins, and an administrator's operation.
-use Rattle.std.specs.Prelude.{◌≡◌, ℕ, suc, nat_lt, List, [], ◌∷◌, length, Bool, true, false, cond, not, ◌&&◌, Option, Some, None, is_some, is_none, option_map, IfSome, refl}
+use Rattle.std.specs.Prelude.{◌≡◌, ℕ, suc, nat_lt, List, [], ◌∷◌, length, Bool, true, false, cond, not, ◌&&◌, Option, Some, None, is_some, is_none,
+    option_map, IfSome, refl}
 use Rattle.std.specs.Ordering.{eq_by_cmp}
 use Rattle.std.specs.BTreeMap.{insert_entry}
 use Rattle.std.proofs.Common.{ap, ap₂, sym, subst, ◌∙◌, arith, append-nil}
@@ -13,16 +14,17 @@ use Rattle.value_model.specs.Order.{text_cmp}
 use Rattle.ejson_value.specs.Key.{name_order}
 use Rattle.ddp_messages.specs.Limits.{AreShallow}
 use Rattle.app_model.specs.App.{App}
-use Rattle.resting_worlds.specs.history_model.declared.entry.Entry.{Entry}
-use Rattle.resting_worlds.specs.history_model.declared.entry.Entry.TheVariants as entry
-use Rattle.resting_worlds.specs.core_model.declared.events.Event.{Event}
-use Rattle.resting_worlds.specs.core_model.declared.events.Event.TheVariants as event
-use Rattle.resting_worlds.specs.core_model.Conn.{Conn, client_limit}
-use Rattle.resting_worlds.specs.core_model.Asks.{Ask, can_ask, asked}
-use Rattle.resting_worlds.specs.core_model.Asks as ask
-use Rattle.resting_worlds.specs.core_model.World.{World, conn_of, with_conn, present as present_in, can_open, opened_with, opens, asked_by, asked_in, can_ask_by}
-use Rattle.resting_worlds.specs.core_model.Events.{refusal_of, entered_by, administers, step, IsEvent, Reachable}
-use Rattle.resting_worlds.specs.link_laws.Lift.{IsAsk}
+use Rattle.world_settles_laws.specs.history_model.declared.entry.Entry.{Entry}
+use Rattle.world_settles_laws.specs.history_model.declared.entry.Entry.TheVariants as entry
+use Rattle.world_settles_laws.specs.world_model.declared.events.Event.{Event}
+use Rattle.world_settles_laws.specs.world_model.declared.events.Event.TheVariants as event
+use Rattle.world_settles_laws.specs.world_model.Conn.{Conn, client_limit}
+use Rattle.world_settles_laws.specs.world_model.Asks.{Ask, can_ask, asked}
+use Rattle.world_settles_laws.specs.world_model.Asks as ask
+use Rattle.world_settles_laws.specs.world_model.World.{World, conn_of, with_conn, present as present_in, can_open, opened_with, opens, asked_by,
+    asked_in, can_ask_by}
+use Rattle.world_settles_laws.specs.world_model.Events.{refusal_of, entered_by, administers, step, IsEvent, Reachable}
+use Rattle.world_settles_laws.specs.world_invariant_laws.Lift.{IsAsk}
 use Rattle.connection_laws.specs.Connection.{AConnection, new_connection, as_conn, IsConnection}
 use Rattle.connection_laws.specs.Asks.{IsAsked}
 use Rattle.connection_laws.specs.Standing.{new_stays}
@@ -40,7 +42,8 @@ module _ (x : AWorld) (p : IsWorld x) (name : List ℕ) (new : AConnection) (ope
   next_of h = record x { history = h; opened = opened; conns = insert_entry text_cmp x.conns name new; present = present; busy = with_name x.busy name }
 
   pub client_changes : Reachable (as_world (next_of x.history)) → IsConnection x.app name x.history new →
-      IsSorted text_cmp present × ((q : List ℕ) → is_among present q ≡ is_there (at text_cmp (insert_entry text_cmp x.conns name new) q)) → IsWorld (next_of x.history)
+      IsSorted text_cmp present × ((q : List ℕ) → is_among present q ≡ is_there (at text_cmp (insert_entry text_cmp x.conns name new) q)) →
+          IsWorld (next_of x.history)
   client_changes reach conn there =
       let nil = append-nil x.history in
       subst (λ (h : List Entry). IsWorld (next_of h)) nil
@@ -86,8 +89,10 @@ module _ (x : AWorld) (p : IsWorld x) (name : List ℕ) (old : AConnection) (is 
   pub can_is : can_ask_by a (conn_of (as_world x) name) ≡ can_ask (as_conn old) a
   can_is = ap (can_ask_by a) (conn_there x name old is)
 
-  asked_as : (b : Bool) → can_ask (as_conn old) a ≡ b → asked_in name a (as_world x) ≡ cond b (with_conn (as_world x) name (asked x.app (as_conn old) a)) (as_world x)
-  asked_as b may = ap (asked_by (as_world x) name a) (conn_there x name old is) ∙ ap (λ b. cond b (with_conn (as_world x) name (asked x.app (as_conn old) a)) (as_world x)) may
+  asked_as : (b : Bool) → can_ask (as_conn old) a ≡ b →
+      asked_in name a (as_world x) ≡ cond b (with_conn (as_world x) name (asked x.app (as_conn old) a)) (as_world x)
+  asked_as b may = ap (asked_by (as_world x) name a) (conn_there x name old is)
+      ∙ ap (λ b. cond b (with_conn (as_world x) name (asked x.app (as_conn old) a)) (as_world x)) may
 
   -- where it can't, the world stays
   pub not_asked : can_ask (as_conn old) a ≡ false → asked_in name a (as_world x) ≡ as_world x
@@ -107,7 +112,8 @@ module _ (x : AWorld) (p : IsWorld x) (name : List ℕ) (old : AConnection) (is 
       does = asked_does;
     }
 
-    gone_absent : new.is_dropped ≡ true → (q : List ℕ) → is_among (without_name x.present name) q ≡ is_there (at text_cmp (insert_entry text_cmp x.conns name new) q)
+    gone_absent : new.is_dropped ≡ true → (q : List ℕ) →
+        is_among (without_name x.present name) q ≡ is_there (at text_cmp (insert_entry text_cmp x.conns name new) q)
     gone_absent gone q =
         ap is_some (at-remove name_order x.present name q p.present.0)
         ∙ (by (eq_by_cmp text_cmp q name) ∙ ap is_there (sym (at-put name_order x.conns name new q)))
@@ -118,7 +124,8 @@ module _ (x : AWorld) (p : IsWorld x) (name : List ℕ) (old : AConnection) (is 
 
     pub drop_made : new.is_dropped ≡ true → IsAskedIn x name a (after_drop x name new)
     drop_made gone = record {
-      stays = client_changes x p name new x.opened (without_name x.present name) reach d.stays (sorted-remove name_order x.present name p.present.0, gone_absent gone);
+      stays = client_changes x p name new x.opened (without_name x.present name) reach d.stays
+          (sorted-remove name_order x.present name p.present.0, gone_absent gone);
       does = asked_does;
     }
 
@@ -166,7 +173,8 @@ module _ (x : AWorld) (p : IsWorld x) (name : List ℕ) where
       ∙ sym (ap (λ b. cond b (opened_with (as_world x) name) (as_world x)) may) in
       record {
         stays = client_changes x p name fresh (suc x.opened) (with_name x.present name)
-            (subst (λ (w : World). Reachable w) (sym does_it) (step_reaches (as_world x) p.reachable (event.Client name) tt)) (new_stays x.app name (suc x.opened) x.history)
+            (subst (λ (w : World). Reachable w) (sym does_it) (step_reaches (as_world x) p.reachable (event.Client name) tt))
+                (new_stays x.app name (suc x.opened) x.history)
             (sorted-put name_order x.present name tt p.present.0, there);
         does = does_it;
       }
@@ -183,7 +191,8 @@ module _ (x : AWorld) (p : IsWorld x) (name : List ℕ) where
 
 -- ---- an administrator's operation
 
-pub administered : (x : AWorld) → IsWorld x → (op : List Val) → AreValues (vals_of op) × AreShallow op → refusal_of (as_world x) op ≡ None → IsAdministered x op (after_operation x op)
+pub administered : (x : AWorld) → IsWorld x → (op : List Val) → AreValues (vals_of op) × AreShallow op → refusal_of (as_world x) op ≡ None →
+    IsAdministered x op (after_operation x op)
 administered x p op good may =
     let y = after_operation x op in
     let does_it : as_world y ≡ administers (as_world x) op = sym (ap (entered_by (as_world x) op) may) in

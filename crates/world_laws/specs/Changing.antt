@@ -10,10 +10,10 @@ use Rattle.map_model.specs.MapLaws.{at-put, sorted-put, same_maps, key_is, eq_by
 use Rattle.value_model.specs.Order.{text_cmp}
 use Rattle.ejson_value.specs.Key.{name_order}
 use Rattle.app_model.specs.App.{App}
-use Rattle.resting_worlds.specs.history_model.declared.entry.Entry.{Entry}
-use Rattle.resting_worlds.specs.core_model.World.{conn_of}
-use Rattle.resting_worlds.specs.core_model.Events.{Reachable}
-use Rattle.resting_worlds.specs.link_laws.Lift.{IsNumbered}
+use Rattle.world_settles_laws.specs.history_model.declared.entry.Entry.{Entry}
+use Rattle.world_settles_laws.specs.world_model.World.{conn_of}
+use Rattle.world_settles_laws.specs.world_model.Events.{Reachable}
+use Rattle.world_settles_laws.specs.world_invariant_laws.Lift.{IsNumbered}
 use Rattle.connection_laws.specs.Connection.{AConnection, as_conn, IsConnection}
 use Rattle.connection_laws.specs.Standing.{longer_stays}
 use Rattle.world_laws.specs.World.{Names, AConnections, AWorld, as_conns, as_world, connection_of, is_among, IsIdle, is_there, IsClient, IsWorld}
@@ -30,7 +30,8 @@ conn_is x name = at_mapped as_conn x.conns name
 pub conn_there : (x : AWorld) (name : List ℕ) (c : AConnection) → connection_of x name ≡ Some c → conn_of (as_world x) name ≡ Some (as_conn c)
 conn_there x name c is = conn_is x name ∙ ap (option_map as_conn) is
 
-pub put_seen : (conns : AConnections) (name : List ℕ) (c : AConnection) → IsSorted text_cmp conns → as_conns (insert_entry text_cmp conns name c) ≡ insert_entry text_cmp (as_conns conns) name (as_conn c)
+pub put_seen : (conns : AConnections) (name : List ℕ) (c : AConnection) → IsSorted text_cmp conns →
+    as_conns (insert_entry text_cmp conns name c) ≡ insert_entry text_cmp (as_conns conns) name (as_conn c)
 put_seen conns name c sorted =
     same_maps name_order (as_conns (insert_entry text_cmp conns name c)) (insert_entry text_cmp (as_conns conns) name (as_conn c))
     (sorted_mapped as_conn (insert_entry text_cmp conns name c) (sorted-put name_order conns name c sorted))
@@ -43,7 +44,8 @@ put_seen conns name c sorted =
     ∙ sym (at-put name_order (as_conns conns) name (as_conn c) q)))))
 
 -- clients with different names have different numbers
-pub numbers_differ : (x : AWorld) → IsWorld x → (q name : List ℕ) (c d : AConnection) → connection_of x q ≡ Some c → connection_of x name ≡ Some d → eq_by_cmp text_cmp q name ≡ false →
+pub numbers_differ : (x : AWorld) → IsWorld x → (q name : List ℕ) (c d : AConnection) → connection_of x q ≡ Some c → connection_of x name ≡ Some d →
+    eq_by_cmp text_cmp q name ≡ false →
     (c.session.carried.number == d.session.carried.number) ≡ false
 numbers_differ x p q name c d isc isd differ =
     ne_eqb c.session.carried.number d.session.carried.number
@@ -63,13 +65,16 @@ nil_length (e ∷ more) is = absurd (omega (arith, is))
 -- ---- the others
 
 -- so it is of a client that didn't change, as long as others only grow busy
-pub other_stays : (x y : AWorld) → IsWorld x → (more : List Entry) → y.app ≡ x.app → y.history ≡ x.history ++ more → y.settled ≡ x.settled → (q : List ℕ) (c : AConnection) → connection_of x q ≡ Some c →
+pub other_stays : (x y : AWorld) → IsWorld x → (more : List Entry) → y.app ≡ x.app → y.history ≡ x.history ++ more → y.settled ≡ x.settled →
+    (q : List ℕ) (c : AConnection) → connection_of x q ≡ Some c →
     AreNotBy c.session.carried.number more → (is_among y.busy q ≡ false → is_among x.busy q ≡ false) → IsClient y q c
 other_stays x y p more sa sh ss q c is apart busier =
     let k = client_is x p q c is in
     record {
-      connection = subst (λ (app : App). IsConnection app q y.history c) (sym sa) (subst (λ (h : List Entry). IsConnection x.app q h c) (sym sh) (longer_stays x.app q x.history more c k.connection));
-      rests = λ free why. subst (λ (app : App). IsIdle app y.history (as_conn c)) (sym sa) (subst (λ (h : List Entry). IsIdle x.app h (as_conn c)) (sym sh) (by k (busier free) why));
+      connection = subst (λ (app : App). IsConnection app q y.history c) (sym sa)
+          (subst (λ (h : List Entry). IsConnection x.app q h c) (sym sh) (longer_stays x.app q x.history more c k.connection));
+      rests = λ free why. subst (λ (app : App). IsIdle app y.history (as_conn c)) (sym sa)
+          (subst (λ (h : List Entry). IsIdle x.app h (as_conn c)) (sym sh) (by k (busier free) why));
     }
   where
     by : IsClient x q c → is_among x.busy q ≡ false → (length y.history ≡ y.settled) ⊎ (c.is_dropped ≡ true) → IsIdle x.app (x.history ++ more) (as_conn c)
@@ -79,7 +84,8 @@ other_stays x y p more sa sh ss q c is apart busier =
         let within = p.settled in
         let none : more ≡ [] = nil_length more (omega (arith, many, within)) in
         let was : IsIdle x.app x.history (as_conn c) = k.rests free (inl (omega (arith, many, within))) in
-        subst (λ (es : List Entry). IsIdle x.app (x.history ++ es) (as_conn c)) (sym none) (subst (λ (h : List Entry). IsIdle x.app h (as_conn c)) (sym (append-nil x.history)) was)
+        subst (λ (es : List Entry). IsIdle x.app (x.history ++ es) (as_conn c)) (sym none)
+            (subst (λ (h : List Entry). IsIdle x.app h (as_conn c)) (sym (append-nil x.history)) was)
 
 -- ---- one client changes
 
@@ -95,7 +101,8 @@ module _ (x : AWorld) (p : IsWorld x) (name : List ℕ) (new : AConnection) (mor
     values = p.values;
     reachable = reach;
     order = sorted-put name_order x.conns name new p.order;
-    clients = λ q. subst (λ (o : Option AConnection). IfSome o (IsClient next q)) (sym (at-put name_order x.conns name new q)) (by q (eq_by_cmp text_cmp q name) refl);
+    clients = λ q. subst (λ (o : Option AConnection). IfSome o (IsClient next q)) (sym (at-put name_order x.conns name new q))
+        (by q (eq_by_cmp text_cmp q name) refl);
     present = there;
     busy = sorted;
     settled = let within = p.settled in omega (arith, within, length-append x.history more);

@@ -5,18 +5,18 @@ use Rattle.std.specs.Ordering.{is_le}
 use Rattle.std.specs.BTreeMap.{is_at, insert_entry}
 use Rattle.value_model.specs.Val.{Val}
 use Rattle.value_model.specs.Order.{text_cmp}
-use Rattle.resting_worlds.specs.history_model.declared.entry.Entry.{Entry}
-use Rattle.resting_worlds.specs.history_model.declared.entry.Entry.TheVariants as entry
-use Rattle.settling.specs.Rounds.{made}
-use Rattle.resting_worlds.specs.core_model.declared.events.Act.{Act}
-use Rattle.resting_worlds.specs.core_model.declared.events.Act.TheVariants as act
-use Rattle.resting_worlds.specs.core_model.declared.events.Event.{Event}
-use Rattle.resting_worlds.specs.core_model.declared.events.Event.TheVariants as event
-use Rattle.resting_worlds.specs.core_model.Asks.{Ask}
-use Rattle.resting_worlds.specs.core_model.Asks as ask
-use Rattle.resting_worlds.specs.core_model.World.{World, conn_of, done, opens, asked_in}
-use Rattle.resting_worlds.specs.core_model.Events.{administers, step}
-use Rattle.round_laws.specs.Visits.{visits}
+use Rattle.world_settles_laws.specs.history_model.declared.entry.Entry.{Entry}
+use Rattle.world_settles_laws.specs.history_model.declared.entry.Entry.TheVariants as entry
+use Rattle.rounds_model.specs.Rounds.{made}
+use Rattle.world_settles_laws.specs.world_model.declared.events.Act.{Act}
+use Rattle.world_settles_laws.specs.world_model.declared.events.Act.TheVariants as act
+use Rattle.world_settles_laws.specs.world_model.declared.events.Event.{Event}
+use Rattle.world_settles_laws.specs.world_model.declared.events.Event.TheVariants as event
+use Rattle.world_settles_laws.specs.world_model.Asks.{Ask}
+use Rattle.world_settles_laws.specs.world_model.Asks as ask
+use Rattle.world_settles_laws.specs.world_model.World.{World, conn_of, done, opens, asked_in}
+use Rattle.world_settles_laws.specs.world_model.Events.{administers, step}
+use Rattle.world_rounds_laws.specs.Visits.{visits}
 use Rattle.connection_laws.specs.Connection.{AConnection, new_connection}
 use Rattle.world_laws.specs.World.{Names, AWorld, as_world, is_among, IsIdle, IsWorld}
 use Rattle.world_laws.specs.Names.{names_from, visited}
@@ -35,7 +35,8 @@ without_name names name = remove_entry (is_at (text_cmp name)) names
 
 -- the world with another client of this name, with these entries behind the others, and with these names
 abbrev pub changed : AWorld → List ℕ → AConnection → List Entry → ℕ → Names → Names → AWorld
-changed x name new more opened present busy = record x { history = x.history ++ more; opened = opened; conns = insert_entry text_cmp x.conns name new; present = present; busy = busy }
+changed x name new more opened present busy =
+    record x { history = x.history ++ more; opened = opened; conns = insert_entry text_cmp x.conns name new; present = present; busy = busy }
 
 -- the world after an act of this client, who is busy then
 abbrev pub after_act : AWorld → List ℕ → AConnection → List Entry → AWorld

@@ -1,5 +1,6 @@
 -- A client that is gone has nothing to do where its runs have ended, and then no entry of another session gives it anything.
-use Rattle.std.specs.Prelude.{◌≡◌, ℕ, zero, suc, ◌-◌, ◌==◌, nat_lt, nat_le, is_none, if◌then◌else◌, List, [], ◌∷◌, ◌++◌, length, map, replicate, Bool, true, false, cond, not, ◌&&◌, Option, Some, None, is_some, refl}
+use Rattle.std.specs.Prelude.{◌≡◌, ℕ, zero, suc, ◌-◌, ◌==◌, nat_lt, nat_le, is_none, if◌then◌else◌, List, [], ◌∷◌, ◌++◌, length, map, replicate, Bool,
+    true, false, cond, not, ◌&&◌, Option, Some, None, is_some, refl}
 use Rattle.std.specs.List.{list_all}
 use Rattle.std.specs.Ordering.{eq_by_cmp, is_eq}
 use Rattle.std.proofs.Common.{ap, sym, ◌∙◌}
@@ -10,28 +11,30 @@ use Rattle.value_model.specs.Val.{Val}
 use Rattle.ejson_value.specs.View.{view}
 use Rattle.program_steps.specs.declared.step.ProgramStep.{ProgramStep}
 use Rattle.app_model.specs.App.{App}
-use Rattle.resting_worlds.specs.history_model.declared.entry.Entry.{Entry}
-use Rattle.resting_worlds.specs.history_model.declared.entry.Entry.TheVariants as entry
-use Rattle.resting_worlds.specs.history_model.History.{Programs, Held, RunKey, Runs, Begun, run_cmp, goes_on, no_steps, with_begin, with_step, later, with_stepped, setting_in, carried, nothing, held_from, steps_of as steps_in}
-use Rattle.resting_worlds.specs.history_model.HistoryLaws.{run_order, held_from-append}
-use Rattle.resting_worlds.specs.history_model.Operations.{operation_in}
-use Rattle.resting_worlds.specs.history_model.RunsLaws as runs
-use Rattle.resting_worlds.specs.history_model.Bounds.{IsHeld}
-use Rattle.resting_worlds.specs.program_model.Run.{begun}
-use Rattle.resting_worlds.specs.program_model.Steps.{stepped}
-use Rattle.resting_worlds.specs.core_model.declared.events.Act.{Act}
-use Rattle.resting_worlds.specs.core_model.declared.events.Act.TheVariants as act
-use Rattle.resting_worlds.specs.core_model.Store.{programs, held_in}
+use Rattle.world_settles_laws.specs.history_model.declared.entry.Entry.{Entry}
+use Rattle.world_settles_laws.specs.history_model.declared.entry.Entry.TheVariants as entry
+use Rattle.world_settles_laws.specs.history_model.History.{Programs, Held, RunKey, Runs, Begun, run_cmp, goes_on, no_steps, with_begin, with_step,
+    later, with_stepped, setting_in, carried, nothing, held_from, steps_of as steps_in}
+use Rattle.world_settles_laws.specs.history_model.HistoryLaws.{run_order, held_from-append}
+use Rattle.world_settles_laws.specs.history_model.Operations.{operation_in}
+use Rattle.world_settles_laws.specs.history_model.RunsLaws as runs
+use Rattle.world_settles_laws.specs.history_model.Bounds.{IsHeld}
+use Rattle.world_settles_laws.specs.program_model.Run.{begun}
+use Rattle.world_settles_laws.specs.program_model.Steps.{stepped}
+use Rattle.world_settles_laws.specs.world_model.declared.events.Act.{Act}
+use Rattle.world_settles_laws.specs.world_model.declared.events.Act.TheVariants as act
+use Rattle.world_settles_laws.specs.world_model.Store.{programs, held_in}
 use Rattle.client_model.specs.Asking.{can_take}
-use Rattle.resting_worlds.specs.journal_model.Subscriptions.{Live, cursor_of, may_load}
-use Rattle.resting_worlds.specs.core_model.Conn.{Conn, state_in, link_limit, outbox_limit, is_full, is_at_work, has_some}
-use Rattle.resting_worlds.specs.core_model.declared.events.Answer.TheVariants as answer
-use Rattle.resting_worlds.specs.core_model.Acts.{enabled, unbegun, learnt, may_advance, is_done, is_of_session, is_queue_full, can}
-use Rattle.resting_worlds.specs.core_model.Settle.{Phase, ups, recvs, handles, begins, steps, learns, loadings, advancings, sendings, takings, steps_of, running_from, loads, advance_to, advances}
-use Rattle.resting_worlds.specs.link_laws.Lift.{is_by}
+use Rattle.world_settles_laws.specs.session_model.Subscriptions.{Live, cursor_of, may_load}
+use Rattle.world_settles_laws.specs.world_model.Conn.{Conn, state_in, link_limit, outbox_limit, is_full, is_at_work, has_some}
+use Rattle.world_settles_laws.specs.world_model.declared.events.Answer.TheVariants as answer
+use Rattle.world_settles_laws.specs.world_model.Acts.{enabled, unbegun, learnt, may_advance, is_done, is_of_session, is_queue_full, can}
+use Rattle.world_settles_laws.specs.world_model.Settle.{Phase, ups, recvs, handles, begins, steps, learns, loadings, advancings, sendings, takings,
+    steps_of, running_from, loads, advance_to, advances}
+use Rattle.world_settles_laws.specs.world_invariant_laws.Lift.{is_by}
 use Rattle.connection_laws.specs.Links.{is_step}
-use Rattle.settling.specs.Rounds.{none_of}
-use Rattle.round_laws.specs.Visits.{can_on, phase_on}
+use Rattle.rounds_model.specs.Rounds.{none_of}
+use Rattle.world_rounds_laws.specs.Visits.{can_on, phase_on}
 use Rattle.world_laws.specs.World.{IsIdle}
 use Rattle.world_laws.specs.Idle.{idle_from, steps_idle}
 
@@ -51,14 +54,18 @@ module _ (n k : ℕ) where
       by true e = let same : n ≡ m = ap (λ (q : RunKey). q.0) (key_is run_order (n, k) (m, j) e) in cc (sym (eq-eqb n m same) ∙ apart)
 
   -- what is put at the key of another session
-  put_apart : (rs : Runs) (m j : ℕ) (b : Begun) → IsSorted run_cmp rs → (n == m) ≡ false → at run_cmp (set run_cmp rs (m, j) (Some b)) (n, k) ≡ at run_cmp rs (n, k)
+  put_apart : (rs : Runs) (m j : ℕ) (b : Begun) → IsSorted run_cmp rs → (n == m) ≡ false →
+      at run_cmp (set run_cmp rs (m, j) (Some b)) (n, k) ≡ at run_cmp rs (n, k)
   put_apart rs m j b sorted apart = at-set run_order rs (m, j) (Some b) (n, k) sorted ∙ ap (λ c. cond c (Some b) (at run_cmp rs (n, k))) (apart_keys m j apart)
 
-  begin_apart : (app : Programs) (h : Held) (m j : ℕ) (method : List ℕ) (params : List Val) (seed : Val) (o : Option Begun) → IsHeld h → (n == m) ≡ false → at run_cmp (with_begin app h (m, j) method params seed o).runs (n, k) ≡ at run_cmp h.runs (n, k)
-  begin_apart app h m j method params seed None i apart = put_apart h.runs m j (record { run = begun params seed (steps_in (app.method method)); at = suc h.entries }) i.sorted apart
+  begin_apart : (app : Programs) (h : Held) (m j : ℕ) (method : List ℕ) (params : List Val) (seed : Val) (o : Option Begun) → IsHeld h →
+      (n == m) ≡ false → at run_cmp (with_begin app h (m, j) method params seed o).runs (n, k) ≡ at run_cmp h.runs (n, k)
+  begin_apart app h m j method params seed None i apart =
+      put_apart h.runs m j (record { run = begun params seed (steps_in (app.method method)); at = suc h.entries }) i.sorted apart
   begin_apart app h m j method params seed (Some b) i apart = refl
 
-  step_apart : (app : Programs) (h : Held) (m j : ℕ) (o : Option Begun) → IsHeld h → (n == m) ≡ false → at run_cmp (with_step app h (m, j) o).runs (n, k) ≡ at run_cmp h.runs (n, k)
+  step_apart : (app : Programs) (h : Held) (m j : ℕ) (o : Option Begun) → IsHeld h → (n == m) ≡ false →
+      at run_cmp (with_step app h (m, j) o).runs (n, k) ≡ at run_cmp h.runs (n, k)
   step_apart app h m j None i apart = refl
   step_apart app h m j (Some b) i apart =
       let s = stepped (setting_in app h) h.rows b.run in
@@ -76,9 +83,11 @@ module _ (n k : ℕ) where
   from_runs app h [] i apart = refl
   from_runs app h (e ∷ es) i apart = from_runs app (carried app h e) es (runs.carried_is app h e i) apart.1 ∙ other_runs app h e i apart.0
 
-  same_run : (app : App) (history more : List Entry) → AreNotBy n more → at run_cmp (held_in app (history ++ more)).runs (n, k) ≡ at run_cmp (held_in app history).runs (n, k)
+  same_run : (app : App) (history more : List Entry) → AreNotBy n more →
+      at run_cmp (held_in app (history ++ more)).runs (n, k) ≡ at run_cmp (held_in app history).runs (n, k)
   same_run app history more apart =
-      ap (λ (h : Held). at run_cmp h.runs (n, k)) (held_from-append (programs app) nothing history more) ∙ from_runs (programs app) (held_in app history) more (runs.held_is (programs app) history) apart
+      ap (λ (h : Held). at run_cmp h.runs (n, k)) (held_from-append (programs app) nothing history more)
+          ∙ from_runs (programs app) (held_in app history) more (runs.held_is (programs app) history) apart
 
 -- ---- what is listed
 
@@ -90,14 +99,17 @@ none_behind : (f : Act → Bool) (xs ys : List Act) → list_all f (xs ++ ys) �
 none_behind f [] ys e = e
 none_behind f (x ∷ xs) ys e = none_behind f xs ys (both (f x) (list_all f (xs ++ ys)) e).1
 
-first_of : (f : Act → Bool) (k : ℕ) (left : List ProgramStep) (more : List Act) → no_steps left ≡ false → list_all f (replicate (length left) (act.Step k) ++ more) ≡ true → f (act.Step k) ≡ true
+first_of : (f : Act → Bool) (k : ℕ) (left : List ProgramStep) (more : List Act) → no_steps left ≡ false →
+    list_all f (replicate (length left) (act.Step k) ++ more) ≡ true → f (act.Step k) ≡ true
 first_of f k [] more going e = cc going
 first_of f k (s ∷ left) more going e = (both (f (act.Step k)) (list_all f (replicate (length left) (act.Step k) ++ more)) e).0
 
-step_listed : (f : Act → Bool) (n k : ℕ) (rs : Runs) (b : Begun) → at run_cmp rs (n, k) ≡ Some b → no_steps b.run.left ≡ false → list_all f (steps_of n rs) ≡ true → f (act.Step k) ≡ true
+step_listed : (f : Act → Bool) (n k : ℕ) (rs : Runs) (b : Begun) → at run_cmp rs (n, k) ≡ Some b → no_steps b.run.left ≡ false →
+    list_all f (steps_of n rs) ≡ true → f (act.Step k) ≡ true
 step_listed f n k [] b is going e = cc is
 step_listed f n k (r ∷ rs) b is going e =
-    elim (is_eq (run_cmp (n, k) r.0)) as (λ (o : Bool). is_eq (run_cmp (n, k) r.0) ≡ o → cond o (Some r.1) (at run_cmp rs (n, k)) ≡ Some b → f (act.Step k) ≡ true) [
+    elim (is_eq (run_cmp (n, k) r.0)) as
+        (λ (o : Bool). is_eq (run_cmp (n, k) r.0) ≡ o → cond o (Some r.1) (at run_cmp rs (n, k)) ≡ Some b → f (act.Step k) ≡ true) [
       | false ↦ λ o there. step_listed f n k rs b there going (later_of (n == r.0.0) e)
       | true ↦ λ o there.
           let same : (n, k) ≡ r.0 = key_is run_order (n, k) r.0 o in
@@ -107,7 +119,8 @@ step_listed f n k (r ∷ rs) b is going e =
           ap (λ (q : RunKey). f (act.Step q.1)) same ∙ first_of f r.0.1 r.1.run.left (steps_of n rs) (ap (λ (x : Begun). no_steps x.run.left) mine ∙ going) its
     ] refl is
   where
-    later_of : (b : Bool) → list_all f (cond b (replicate (length r.1.run.left) (act.Step r.0.1) ++ steps_of n rs) (steps_of n rs)) ≡ true → list_all f (steps_of n rs) ≡ true
+    later_of : (b : Bool) → list_all f (cond b (replicate (length r.1.run.left) (act.Step r.0.1) ++ steps_of n rs) (steps_of n rs)) ≡ true →
+        list_all f (steps_of n rs) ≡ true
     later_of true h = none_behind f (replicate (length r.1.run.left) (act.Step r.0.1)) (steps_of n rs) h
     later_of false h = h
 
@@ -126,7 +139,8 @@ steps_not f n (r ∷ rs) off_is =
 
 -- ---- a client that is gone
 
-step_can : (app : App) (history : List Entry) (c : Conn) (k : ℕ) → can app history c (act.Step k) ≡ goes_on (at run_cmp (held_in app history).runs (c.number, k))
+step_can : (app : App) (history : List Entry) (c : Conn) (k : ℕ) →
+    can app history c (act.Step k) ≡ goes_on (at run_cmp (held_in app history).runs (c.number, k))
 step_can app history c k = by (goes_on (at run_cmp (held_in app history).runs (c.number, k)))
   where
     by : (b : Bool) → is_done (if not b then answer.Idle else answer.Done) ≡ b
@@ -202,7 +216,8 @@ module _ (app : App) (history : List Entry) (c : Conn) (gone : c.is_dropped ≡ 
   abbrev idle : Act → Bool
   idle a = not (can app history c a)
 
-  each_idle : HasEnded app history c.number → (p : Phase) → none_of (can_on app) (phase_on app p (record { history = history; conn = c })) (record { history = history; conn = c }) ≡ true
+  each_idle : HasEnded app history c.number → (p : Phase) →
+      none_of (can_on app) (phase_on app p (record { history = history; conn = c })) (record { history = history; conn = c }) ≡ true
   each_idle ended ups = again idle off (length c.client.waiting) act.Up refl
   each_idle ended recvs = again idle off (length c.upward) act.Recv refl
   each_idle ended handles = again idle off (length c.queue) act.Handle refl
@@ -218,6 +233,7 @@ module _ (app : App) (history : List Entry) (c : Conn) (gone : c.is_dropped ≡ 
   ended_idle ended = idle_from app (record { history = history; conn = c }) (each_idle ended)
 
 -- Entries of other sessions leave a client idle that is gone.
-pub gone_stays : (app : App) (history more : List Entry) (c : Conn) → c.is_dropped ≡ true → AreNotBy c.number more → IsIdle app history c → IsIdle app (history ++ more) c
+pub gone_stays : (app : App) (history more : List Entry) (c : Conn) → c.is_dropped ≡ true → AreNotBy c.number more → IsIdle app history c →
+    IsIdle app (history ++ more) c
 gone_stays app history more c gone apart was =
     let ended = idle_ended app history c was in ended_idle app (history ++ more) c gone (λ k. ap goes_on (same_run c.number k app history more apart) ∙ ended k)

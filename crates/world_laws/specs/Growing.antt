@@ -3,14 +3,14 @@ use Rattle.std.specs.Prelude.{◌≡◌, ℕ, ◌==◌, List, [], ◌∷◌, ◌
 use Rattle.std.proofs.Common.{ap, sym, ◌∙◌, append-nil}
 use Rattle.std.proofs.lemmas.List.{append_assoc}
 use Rattle.app_model.specs.App.{App}
-use Rattle.resting_worlds.specs.history_model.declared.entry.Entry.{Entry}
-use Rattle.settling.specs.Rounds.{made, through}
-use Rattle.resting_worlds.specs.core_model.declared.events.Act.{Act}
-use Rattle.resting_worlds.specs.core_model.Acts.{can, does, entries}
-use Rattle.resting_worlds.specs.core_model.Settle.{order}
+use Rattle.world_settles_laws.specs.history_model.declared.entry.Entry.{Entry}
+use Rattle.rounds_model.specs.Rounds.{made, through}
+use Rattle.world_settles_laws.specs.world_model.declared.events.Act.{Act}
+use Rattle.world_settles_laws.specs.world_model.Acts.{can, does, entries}
+use Rattle.world_settles_laws.specs.world_model.Settle.{order}
 use Rattle.world_laws.specs.Gone.{AreNotBy}
 use Rattle.world_laws.specs.Making.{same_number, does_there, entries_apart}
-use Rattle.round_laws.specs.Visits.{Side, act_on, phase_on, visited}
+use Rattle.world_rounds_laws.specs.Visits.{Side, act_on, phase_on, visited}
 
 pub record Grows (s t : Side) : Type 0 where
   pub more : List Entry
@@ -38,7 +38,8 @@ grows_on s t u a b = record {
 one_grows : (app : App) (a : Act) (s : Side) → Grows s (act_on app a s)
 one_grows app a s = by (can app s.history s.conn a)
   where
-    by : (b : Bool) → Grows s (if b then (let t : Side = record { history = s.history ++ entries app s.history s.conn a; conn = does app s.history s.conn a } in t) else s)
+    by : (b : Bool) →
+        Grows s (if b then (let t : Side = record { history = s.history ++ entries app s.history s.conn a; conn = does app s.history s.conn a } in t) else s)
     by false = grows_none s
     by true = record {
       more = entries app s.history s.conn a;
@@ -54,7 +55,8 @@ made_grows app (a ∷ acts) s = grows_on s (act_on app a s) (made (act_on app) a
 
 through_grows : (app : App) (ps : List (Side → List Act)) (s : Side) → Grows s (through (act_on app) ps s)
 through_grows app [] s = grows_none s
-through_grows app (p ∷ ps) s = grows_on s (made (act_on app) (p s) s) (through (act_on app) ps (made (act_on app) (p s) s)) (made_grows app (p s) s) (through_grows app ps (made (act_on app) (p s) s))
+through_grows app (p ∷ ps) s = grows_on s (made (act_on app) (p s) s) (through (act_on app) ps (made (act_on app) (p s) s)) (made_grows app (p s) s)
+    (through_grows app ps (made (act_on app) (p s) s))
 
 pub visit_grows : (app : App) (s : Side) → Grows s (visited app s)
 visit_grows app s = through_grows app (map (phase_on app) order) s

@@ -3,9 +3,9 @@ use Rattle.std.specs.Prelude.{◌≡◌, List, [], ◌∷◌, map, Bool, true, �
 use Rattle.std.proofs.Common.{ap, ◌∙◌}
 use Rattle.std.proofs.lemmas.Bool.{and_parts}
 use Rattle.app_model.specs.App.{App}
-use Rattle.settling.specs.Rounds.{none_of, none_in}
-use Rattle.resting_worlds.specs.core_model.Settle.{Phase, ups, recvs, handles, begins, steps, learns, loadings, advancings, sendings, takings, order}
-use Rattle.round_laws.specs.Visits.{Side, can_on, phase_on, is_idle}
+use Rattle.rounds_model.specs.Rounds.{none_of, none_in}
+use Rattle.world_settles_laws.specs.world_model.Settle.{Phase, ups, recvs, handles, begins, steps, learns, loadings, advancings, sendings, takings, order}
+use Rattle.world_rounds_laws.specs.Visits.{Side, can_on, phase_on, is_idle}
 
 module _ (app : App) (x : Side) where
   abbrev none : Phase → Bool
@@ -18,7 +18,8 @@ module _ (app : App) (x : Side) where
   pub idle_from : ((p : Phase) → none p ≡ true) → is_idle app x ≡ true
   idle_from each = all_of each order
 
-  behind : (p : Phase) (ps : List Phase) → none_in (can_on app) (map (phase_on app) (p ∷ ps)) x ≡ true → (none p ≡ true) × (none_in (can_on app) (map (phase_on app) ps) x ≡ true)
+  behind : (p : Phase) (ps : List Phase) → none_in (can_on app) (map (phase_on app) (p ∷ ps)) x ≡ true →
+      (none p ≡ true) × (none_in (can_on app) (map (phase_on app) ps) x ≡ true)
   behind p ps e = and_parts (none p) (none_in (can_on app) (map (phase_on app) ps) x) e
 
   pub steps_idle : is_idle app x ≡ true → none steps ≡ true

@@ -11,10 +11,9 @@ pub mod Settling
 pub mod Asking
 pub mod Promises
 pub mod Printing
-pub use Rattle.resting_worlds.specs.AtRest
-pub use Rattle.resting_worlds.specs.Rounds as RestingRounds
+pub use Rattle.world_settles_laws.specs.AtRest
+pub use Rattle.world_settles_laws.specs.Rounds as RestingRounds
 -- what lies below, for the crates above
 pub mod headline_for_proofs
-pub mod polite_clients_for_proofs
-pub mod resting_worlds_for_proofs
-pub mod stored_values
+pub mod world_settles_laws_for_proofs
+pub mod world_values_laws

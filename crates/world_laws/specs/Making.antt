@@ -1,5 +1,6 @@
 -- An act of a client is the act of the world's definitions, and what is kept of the world stays right.
-use Rattle.std.specs.Prelude.{◌≡◌, ℕ, ◌==◌, List, [], ◌∷◌, ◌++◌, length, Bool, true, false, cond, not, Option, Some, None, is_some, IfSome, option_map, option_and_then, if◌then◌else◌, refl}
+use Rattle.std.specs.Prelude.{◌≡◌, ℕ, ◌==◌, List, [], ◌∷◌, ◌++◌, length, Bool, true, false, cond, not, Option, Some, None, is_some, IfSome,
+    option_map, option_and_then, if◌then◌else◌, refl}
 use Rattle.std.specs.Ordering.{eq_by_cmp}
 use Rattle.std.specs.BTreeMap.{insert_entry}
 use Rattle.std.proofs.Common.{ap, sym, subst, ◌∙◌}
@@ -8,18 +9,19 @@ use Rattle.map_model.specs.MapLaws.{at-put, sorted-put, key_is, eq_by_cmp-self}
 use Rattle.value_model.specs.Order.{text_cmp}
 use Rattle.ejson_value.specs.Key.{name_order}
 use Rattle.app_model.specs.App.{App}
-use Rattle.resting_worlds.specs.history_model.declared.entry.Entry.{Entry}
-use Rattle.resting_worlds.specs.journal_model.Items.{Item}
-use Rattle.resting_worlds.specs.journal_model.Methods.{Blocking}
-use Rattle.resting_worlds.specs.journal_model.Taking.{Taken, at_once, to_queue, taken_text}
-use Rattle.resting_worlds.specs.core_model.declared.events.Act.{Act}
-use Rattle.resting_worlds.specs.core_model.declared.events.Act.TheVariants as act
-use Rattle.resting_worlds.specs.core_model.declared.events.Answer.TheVariants as answer
-use Rattle.resting_worlds.specs.core_model.declared.events.Event.{Event}
-use Rattle.resting_worlds.specs.core_model.Conn.{Waiting, Conn, state_in}
-use Rattle.resting_worlds.specs.core_model.Acts.{goes_up, received_as, receives, handles, is_kept, unbegun, is_refused, begin_entry, begun, learnt, learns_item, sends, takes, outcome, is_done, can, does, entries}
-use Rattle.resting_worlds.specs.core_model.World.{World, conn_of, acted, done_by, done, outcome_by}
-use Rattle.resting_worlds.specs.core_model.Events.{act_in, act_by, done_if, acts, step, Reachable}
+use Rattle.world_settles_laws.specs.history_model.declared.entry.Entry.{Entry}
+use Rattle.world_settles_laws.specs.session_model.Items.{Item}
+use Rattle.world_settles_laws.specs.session_model.Methods.{Blocking}
+use Rattle.world_settles_laws.specs.session_model.Taking.{Taken, at_once, to_queue, taken_text}
+use Rattle.world_settles_laws.specs.world_model.declared.events.Act.{Act}
+use Rattle.world_settles_laws.specs.world_model.declared.events.Act.TheVariants as act
+use Rattle.world_settles_laws.specs.world_model.declared.events.Answer.TheVariants as answer
+use Rattle.world_settles_laws.specs.world_model.declared.events.Event.{Event}
+use Rattle.world_settles_laws.specs.world_model.Conn.{Waiting, Conn, state_in}
+use Rattle.world_settles_laws.specs.world_model.Acts.{goes_up, received_as, receives, handles, is_kept, unbegun, is_refused, begin_entry, begun,
+    learnt, learns_item, sends, takes, outcome, is_done, can, does, entries}
+use Rattle.world_settles_laws.specs.world_model.World.{World, conn_of, acted, done_by, done, outcome_by}
+use Rattle.world_settles_laws.specs.world_model.Events.{act_in, act_by, done_if, acts, step, Reachable}
 use Rattle.connection_laws.specs.Connection.{AConnection, as_conn}
 use Rattle.connection_laws.specs.Acting.{IsDone}
 use Rattle.connection_laws.specs.Standing.{longer_stays}
@@ -66,7 +68,8 @@ does_there app history c act.Recv = recv_there app history c c.upward
 does_there app history c act.Handle = handle_there app history c c.queue
 does_there app history c act.Begin = refl
 does_there app history c (act.Step k) = refl
-does_there app history c (act.Learn k place) = learn_there app history (record c { kept = if is_kept k c.kept then None else c.kept }) (learnt app history c k place)
+does_there app history c (act.Learn k place) =
+    learn_there app history (record c { kept = if is_kept k c.kept then None else c.kept }) (learnt app history c k place)
 does_there app history c (act.Load sub place) = refl
 does_there app history c (act.Advance sub count) = refl
 does_there app history c act.Send = send_there c c.outbox
@@ -74,7 +77,8 @@ does_there app history c act.Take = take_there c c.downward
 
 begun_apart : (app : App) (history : List Entry) (m n : ℕ) (o : Option Blocking) → (n == m) ≡ false → AreNotBy n (begun app history m o)
 begun_apart app history m n None apart = tt
-begun_apart app history m n (Some b) apart = elim (is_refused app history b) as (λ r. AreNotBy n (cond r [] (begin_entry m b ∷ []))) [ true ↦ tt | false ↦ (apart, tt) ]
+begun_apart app history m n (Some b) apart =
+    elim (is_refused app history b) as (λ r. AreNotBy n (cond r [] (begin_entry m b ∷ []))) [ true ↦ tt | false ↦ (apart, tt) ]
 
 -- its entries are of its session
 pub entries_apart : (app : App) (history : List Entry) (c : Conn) (a : Act) (n : ℕ) → (n == c.number) ≡ false → AreNotBy n (entries app history c a)
@@ -134,7 +138,9 @@ same_number app h c act.Take = take_number c c.downward
 
 pub among_put : (names : Names) (name q : List ℕ) → is_among (with_name names name) q ≡ cond (eq_by_cmp text_cmp q name) true (is_among names q)
 among_put names name q =
-    ap is_some (at-put name_order names name tt q) ∙ elim (eq_by_cmp text_cmp q name) as (λ b. is_some (cond b (Some (let u : Unit {0} = tt in u)) (at text_cmp names q)) ≡ cond b true (is_among names q)) [ true ↦ refl | false ↦ refl ]
+    ap is_some (at-put name_order names name tt q)
+        ∙ elim (eq_by_cmp text_cmp q name) as
+        (λ b. is_some (cond b (Some (let u : Unit {0} = tt in u)) (at text_cmp names q)) ≡ cond b true (is_among names q)) [ true ↦ refl | false ↦ refl ]
 
 pub is_busy : (names : Names) (name : List ℕ) → is_among (with_name names name) name ≡ true
 is_busy names name = among_put names name name ∙ ap (λ b. cond b true (is_among names name)) (eq_by_cmp-self name_order name)
@@ -170,7 +176,8 @@ module _ (x : AWorld) (p : IsWorld x) (name : List ℕ) (old : AConnection) (is 
       (λ j. record (as_world x) { history = x.history ++ more; conns = (put_seen x.conns name new p.order ∙ ap (insert_entry text_cmp (as_world x).conns name) d.does) j })
       ∙ sym (done_is (ap is_done d.can)) in
       record {
-        stays = change_stays x p name new more x.opened x.present (with_name x.busy name) (subst (λ (w : World). Reachable w) (sym does_it) (done_reaches (name, a) (as_world x) p.reachable))
+        stays = change_stays x p name new more x.opened x.present (with_name x.busy name)
+            (subst (λ (w : World). Reachable w) (sym does_it) (done_reaches (name, a) (as_world x) p.reachable))
             (record { connection = longer_stays x.app name x.history more new d.stays; rests = λ free why. cc (sym (is_busy x.busy name) ∙ free) })
             (λ q c isc differ. entries_apart x.app x.history (as_conn old) a c.session.carried.number (numbers_differ x p q name c old isc is differ))
             (p.present.0, present_stays x p name old new is (ap (λ (c : Conn). c.is_dropped) d.does ∙ does_there x.app x.history (as_conn old) a))
@@ -212,11 +219,14 @@ nobody_answers x name a is = ap (outcome_by (as_world x) a) (conn_is x name ∙ 
 
 -- ---- the act that an event names
 
-pub acts_are : (x : AWorld) (name : List ℕ) (old : AConnection) (e : Event) → connection_of x name ≡ Some old → acts (as_world x) name e ≡ done_if (as_world x) name (act_in x.history (as_conn old) e)
-acts_are x name old e is = ap (λ (o : Option Conn). done_if (as_world x) name (option_and_then (λ (c : Conn). act_in x.history c e) o)) (conn_there x name old is)
+pub acts_are : (x : AWorld) (name : List ℕ) (old : AConnection) (e : Event) → connection_of x name ≡ Some old →
+    acts (as_world x) name e ≡ done_if (as_world x) name (act_in x.history (as_conn old) e)
+acts_are x name old e is =
+    ap (λ (o : Option Conn). done_if (as_world x) name (option_and_then (λ (c : Conn). act_in x.history c e) o)) (conn_there x name old is)
 
 pub nobody_is_named : (x : AWorld) (name : List ℕ) (e : Event) → connection_of x name ≡ None → acts (as_world x) name e ≡ as_world x
-nobody_is_named x name e is = ap (λ (o : Option Conn). done_if (as_world x) name (option_and_then (λ (c : Conn). act_in x.history c e) o)) (conn_is x name ∙ ap (option_map as_conn) is)
+nobody_is_named x name e is = ap (λ (o : Option Conn). done_if (as_world x) name (option_and_then (λ (c : Conn). act_in x.history c e) o))
+    (conn_is x name ∙ ap (option_map as_conn) is)
 
 -- ---- events that name acts
 

@@ -1,5 +1,6 @@
 -- Names in order, from one on: as a round goes through them that looks for the next one.
-use Rattle.std.specs.Prelude.{◌≡◌, ◌⊎◌, ℕ, zero, suc, List, map, option_map, [], ◌∷◌, ◌++◌, filter, Bool, true, false, cond, ◌||◌, Option, Some, None, is_some, refl}
+use Rattle.std.specs.Prelude.{◌≡◌, ◌⊎◌, ℕ, zero, suc, List, map, option_map, [], ◌∷◌, ◌++◌, filter, Bool, true, false, cond, ◌||◌, Option, Some, None,
+    is_some, refl}
 use Rattle.std.specs.Map.{keys_of}
 use Rattle.std.specs.declared.cmp.Ordering.{Ordering}
 use Rattle.std.specs.declared.cmp.Ordering.TheVariants.{Less, Equal, Greater}
@@ -35,14 +36,17 @@ behind_it [] [] = refl
 behind_it [] (x ∷ q) = zero_first x q
 behind_it (n ∷ name) [] = refl
 behind_it (n ∷ name) (x ∷ q) =
-    elim (nat_cmp n x) as (λ (o : Ordering). is_le (ordering_then o (text_cmp (behind name) q)) ≡ is_lt (ordering_then o (text_cmp name q))) [ Less ↦ refl | Equal ↦ behind_it name q | Greater ↦ refl ]
+    elim (nat_cmp n x) as
+        (λ (o : Ordering). is_le (ordering_then o (text_cmp (behind name) q)) ≡ is_lt (ordering_then o (text_cmp name q))) [ Less ↦ refl | Equal ↦ behind_it name q | Greater ↦ refl ]
 
 -- ---- maps with the same keys
 
-pub at_mapped : {X Y : Type 0} (f : X → Y) (es : List (List ℕ × X)) (q : List ℕ) → at text_cmp (map (λ (e : List ℕ × X). (e.0, f e.1)) es) q ≡ option_map f (at text_cmp es q)
+pub at_mapped : {X Y : Type 0} (f : X → Y) (es : List (List ℕ × X)) (q : List ℕ) →
+    at text_cmp (map (λ (e : List ℕ × X). (e.0, f e.1)) es) q ≡ option_map f (at text_cmp es q)
 at_mapped f [] q = refl
 at_mapped f (e ∷ es) q =
-    elim (is_eq (text_cmp q e.0)) as (λ b. cond b (Some (f e.1)) (at text_cmp (map (λ e. (e.0, f e.1)) es) q) ≡ option_map f (cond b (Some e.1) (at text_cmp es q))) [ true ↦ refl | false ↦ at_mapped f es q ]
+    elim (is_eq (text_cmp q e.0)) as
+        (λ b. cond b (Some (f e.1)) (at text_cmp (map (λ e. (e.0, f e.1)) es) q) ≡ option_map f (cond b (Some e.1) (at text_cmp es q))) [ true ↦ refl | false ↦ at_mapped f es q ]
 
 pub sorted_mapped : {X Y : Type 0} (f : X → Y) (es : List (List ℕ × X)) → IsSorted text_cmp es → IsSorted text_cmp (map (λ (e : List ℕ × X). (e.0, f e.1)) es)
 sorted_mapped f es s = subst (IsStrictlySortedBy text_cmp) (sym (keys_of-map_values f es)) s
@@ -56,7 +60,8 @@ unit_same None (Some y) e = cc e
 unit_same (Some x) None e = cc e
 unit_same (Some x) (Some y) e = refl
 
-pub same_keys : {X Y : Type 0} (a : List (List ℕ × X)) (b : List (List ℕ × Y)) → IsSorted text_cmp a → IsSorted text_cmp b → ((q : List ℕ) → is_some (at text_cmp a q) ≡ is_some (at text_cmp b q)) → keys_of a ≡ keys_of b
+pub same_keys : {X Y : Type 0} (a : List (List ℕ × X)) (b : List (List ℕ × Y)) → IsSorted text_cmp a → IsSorted text_cmp b →
+    ((q : List ℕ) → is_some (at text_cmp a q) ≡ is_some (at text_cmp b q)) → keys_of a ≡ keys_of b
 same_keys a b s t same =
     let as_ = map (λ e. (e.0, unit_of e.1)) a in
     let bs = map (λ e. (e.0, unit_of e.1)) b in
@@ -66,7 +71,8 @@ same_keys a b s t same =
 
 -- ---- which stand behind one
 
-all_behind : (name n : List ℕ) (ns : List (List ℕ)) → text_cmp name n ≡ Less → AllByRecursion (λ y. text_cmp n y ≡ Less) ns → AllByRecursion (λ y. text_cmp name y ≡ Less) ns
+all_behind : (name n : List ℕ) (ns : List (List ℕ)) → text_cmp name n ≡ Less → AllByRecursion (λ y. text_cmp n y ≡ Less) ns →
+    AllByRecursion (λ y. text_cmp name y ≡ Less) ns
 all_behind name n [] l all = tt
 all_behind name n (m ∷ ns) l all = (name_order.total.trans name n m l all.0, all_behind name n ns l all.1)
 
@@ -83,14 +89,17 @@ le_less from name q le less = by (text_cmp from name) refl
     by Equal e = ap is_le (name_order.total.congr from name q e ∙ less)
     by Greater e = cc (sym le ∙ ap is_le e)
 
-all_from : (from name : List ℕ) (ns : List (List ℕ)) → is_le (text_cmp from name) ≡ true → AllByRecursion (λ y. text_cmp name y ≡ Less) ns → names_from from ns ≡ ns
+all_from : (from name : List ℕ) (ns : List (List ℕ)) → is_le (text_cmp from name) ≡ true → AllByRecursion (λ y. text_cmp name y ≡ Less) ns →
+    names_from from ns ≡ ns
 all_from from name [] le all = refl
-all_from from name (m ∷ ns) le all = ap (λ b. cond b (m ∷ names_from from ns) (names_from from ns)) (le_less from name m le all.0) ∙ ap (λ (xs : List (List ℕ)). m ∷ xs) (all_from from name ns le all.1)
+all_from from name (m ∷ ns) le all = ap (λ b. cond b (m ∷ names_from from ns) (names_from from ns)) (le_less from name m le all.0)
+    ∙ ap (λ (xs : List (List ℕ)). m ∷ xs) (all_from from name ns le all.1)
 
 all_next : (name : List ℕ) (ns : List (List ℕ)) → AllByRecursion (λ y. text_cmp name y ≡ Less) ns → names_from (behind name) ns ≡ ns
 all_next name [] all = refl
 all_next name (m ∷ ns) all =
-    ap (λ b. cond b (m ∷ names_from (behind name) ns) (names_from (behind name) ns)) (behind_it name m ∙ ap is_lt all.0) ∙ ap (λ (xs : List (List ℕ)). m ∷ xs) (all_next name ns all.1)
+    ap (λ b. cond b (m ∷ names_from (behind name) ns) (names_from (behind name) ns)) (behind_it name m ∙ ap is_lt all.0)
+        ∙ ap (λ (xs : List (List ℕ)). m ∷ xs) (all_next name ns all.1)
 
 -- ---- a round that looks for the next name
 
@@ -111,7 +120,8 @@ module _ {W : Type 0} (visit : List ℕ → W → W) where
   next_comes from name le [] sorted w passed (inr e) = sym e
   next_comes from name le (n ∷ ns) sorted w passed comes = by (text_cmp name n) refl (next_comes from name le ns sorted.1 w passed)
     where
-      here : (o : Ordering) → text_cmp name n ≡ o → names_from (behind name) (n ∷ ns) ≡ cond (is_lt o) (n ∷ names_from (behind name) ns) (names_from (behind name) ns)
+      here : (o : Ordering) → text_cmp name n ≡ o →
+          names_from (behind name) (n ∷ ns) ≡ cond (is_lt o) (n ∷ names_from (behind name) ns) (names_from (behind name) ns)
       here o e = ap (λ b. cond b (n ∷ names_from (behind name) ns) (names_from (behind name) ns)) (behind_it name n ∙ ap is_lt e)
 
       there : (b : Bool) → is_le (text_cmp from n) ≡ b → names_from from (n ∷ ns) ≡ cond b (n ∷ names_from from ns) (names_from from ns)
@@ -125,11 +135,13 @@ module _ {W : Type 0} (visit : List ℕ → W → W) where
       later e (inr c) = inr c
 
       skip : (b : Bool) → is_le (text_cmp from n) ≡ b → text_cmp name n ≡ Greater → visited (names_from from (n ∷ ns)) w ≡ visited (names_from from ns) w
-      skip true t e = ap (λ (xs : List (List ℕ)). visited xs w) (there true t) ∙ ap (visited (names_from from ns)) (passed n t (ap is_lt (name_order.total.antisymm n name ∙ ap ordering_reverse e)))
+      skip true t e = ap (λ (xs : List (List ℕ)). visited xs w) (there true t)
+          ∙ ap (visited (names_from from ns)) (passed n t (ap is_lt (name_order.total.antisymm n name ∙ ap ordering_reverse e)))
       skip false t e = ap (λ (xs : List (List ℕ)). visited xs w) (there false t)
 
       stays : text_cmp name n ≡ Less → Comes name (n ∷ ns) w → visit name w ≡ w
-      stays e (inl c) = cc (sym c ∙ (ap (λ (o : Ordering). is_eq o || list_any (eq_by_cmp text_cmp name) ns) e ∙ none_equal name ns (all_behind name n ns e sorted.0)))
+      stays e (inl c) = cc
+          (sym c ∙ (ap (λ (o : Ordering). is_eq o || list_any (eq_by_cmp text_cmp name) ns) e ∙ none_equal name ns (all_behind name n ns e sorted.0)))
       stays e (inr c) = c
 
       by : (o : Ordering) → text_cmp name n ≡ o → (Comes name ns w → visited (names_from from ns) w ≡ visited (names_from (behind name) ns) (visit name w)) →
@@ -149,7 +161,8 @@ module _ {W : Type 0} (visit : List ℕ → W → W) where
           skip (is_le (text_cmp from n)) refl e ∙ (rest (later e comes) ∙ ap (λ (xs : List (List ℕ)). visited xs (visit name w)) (sym (here Greater e)))
 
   -- where all from there on change nothing, the round is over
-  pub none_comes : (from : List ℕ) (names : List (List ℕ)) (w : W) → ((q : List ℕ) → is_le (text_cmp from q) ≡ true → visit q w ≡ w) → visited (names_from from names) w ≡ w
+  pub none_comes : (from : List ℕ) (names : List (List ℕ)) (w : W) → ((q : List ℕ) → is_le (text_cmp from q) ≡ true → visit q w ≡ w) →
+      visited (names_from from names) w ≡ w
   none_comes from [] w passed = refl
   none_comes from (n ∷ ns) w passed = by (is_le (text_cmp from n)) refl (none_comes from ns w passed)
     where

@@ -8,18 +8,18 @@ use Rattle.map_model.specs.MapLaws.{at-put, sorted-put, set-at, same_maps, eq_by
 use Rattle.value_model.specs.Order.{text_cmp}
 use Rattle.ejson_value.specs.Key.{name_order}
 use Rattle.app_model.specs.App.{App}
-use Rattle.settling.specs.Rounds.{made, through}
-use Rattle.resting_worlds.specs.core_model.declared.events.Act.{Act}
-use Rattle.resting_worlds.specs.core_model.declared.events.Event.{Event}
-use Rattle.resting_worlds.specs.core_model.declared.events.Event.TheVariants as event
-use Rattle.resting_worlds.specs.core_model.Conn.{Conn}
-use Rattle.resting_worlds.specs.core_model.Acts.{does, entries}
-use Rattle.resting_worlds.specs.core_model.World.{World, start, conn_of, acted, done_by, done}
-use Rattle.resting_worlds.specs.core_model.Settle.{order}
-use Rattle.resting_worlds.specs.core_model.Events.{done_if, step, run, IsEvent, AreEvents, Reachable}
-use Rattle.resting_worlds.specs.headline_for_proofs.Worlds.{worlds_hold}
-use Rattle.resting_worlds.specs.settled_worlds_for_proofs.Tidy.{Stands}
-use Rattle.round_laws.specs.Visits.{Side, can_on, act_on, phase_on, with_side, visited_by, visits}
+use Rattle.rounds_model.specs.Rounds.{made, through}
+use Rattle.world_settles_laws.specs.world_model.declared.events.Act.{Act}
+use Rattle.world_settles_laws.specs.world_model.declared.events.Event.{Event}
+use Rattle.world_settles_laws.specs.world_model.declared.events.Event.TheVariants as event
+use Rattle.world_settles_laws.specs.world_model.Conn.{Conn}
+use Rattle.world_settles_laws.specs.world_model.Acts.{does, entries}
+use Rattle.world_settles_laws.specs.world_model.World.{World, start, conn_of, acted, done_by, done}
+use Rattle.world_settles_laws.specs.world_model.Settle.{order}
+use Rattle.world_settles_laws.specs.world_model.Events.{done_if, step, run, IsEvent, AreEvents, Reachable}
+use Rattle.world_settles_laws.specs.headline_for_proofs.Worlds.{worlds_hold}
+use Rattle.world_settles_laws.specs.Tidy.{Stands}
+use Rattle.world_rounds_laws.specs.Visits.{Side, can_on, act_on, phase_on, with_side, visited_by, visits}
 
 abbrev Comes : App → World → Type 0
 Comes app w = (events : List Event) × AreEvents events × (run (start app) events ≡ w)
@@ -65,7 +65,8 @@ module _ (w : World) (name : List ℕ) (sorted : IsSorted text_cmp w.conns) wher
   put_again : (c d : Conn) → insert_entry text_cmp (insert_entry text_cmp w.conns name c) name d ≡ insert_entry text_cmp w.conns name d
   put_again c d =
       let once = insert_entry text_cmp w.conns name c in
-      same_maps name_order (insert_entry text_cmp once name d) (insert_entry text_cmp w.conns name d) (sorted-put name_order once name d (sorted-put name_order w.conns name c sorted)) (sorted-put name_order w.conns name d sorted)
+      same_maps name_order (insert_entry text_cmp once name d) (insert_entry text_cmp w.conns name d)
+          (sorted-put name_order once name d (sorted-put name_order w.conns name c sorted)) (sorted-put name_order w.conns name d sorted)
       (λ q.
       at-put name_order once name d q
       ∙ (ap (cond (eq_by_cmp text_cmp q name) (Some d)) (at-put name_order w.conns name c q)
@@ -84,7 +85,8 @@ module _ (w : World) (name : List ℕ) (sorted : IsSorted text_cmp w.conns) wher
   done_put : (a : Act) (x : Side) → done (name, a) (with_side w name x) ≡ with_side w name (act_on w.app a x)
   done_put a x =
       ap (done_by (with_side w name x) name a) (conn_put x)
-      ∙ elim (can_on w.app x a) as (λ b. cond b (acted (with_side w name x) name a x.conn) (with_side w name x) ≡ with_side w name (cond b (made_on a x) x)) [ true ↦ acted_put a x | false ↦ refl ]
+      ∙ elim (can_on w.app x a) as
+          (λ b. cond b (acted (with_side w name x) name a x.conn) (with_side w name x) ≡ with_side w name (cond b (made_on a x) x)) [ true ↦ acted_put a x | false ↦ refl ]
 
   -- the client's acts, in the world
   pub made_put : (acts : List Act) (x : Side) → made done (map (λ a. (name, a)) acts) (with_side w name x) ≡ with_side w name (made (act_on w.app) acts x)
@@ -106,7 +108,8 @@ module _ (w : World) (name : List ℕ) (sorted : IsSorted text_cmp w.conns) wher
 
   visited_reaches : Reachable w → (o : Option Conn) → conn_of w name ≡ o → Reachable (visited_by w name o)
   visited_reaches r None is = r
-  visited_reaches r (Some c) is = through_reaches (map (phase_on w.app) order) (record { history = w.history; conn = c }) (subst Reachable (sym (put_itself c is)) r)
+  visited_reaches r (Some c) is =
+      through_reaches (map (phase_on w.app) order) (record { history = w.history; conn = c }) (subst Reachable (sym (put_itself c is)) r)
 
   pub visit_reaches : Reachable w → Reachable (visits name w)
   visit_reaches r = visited_reaches r (conn_of w name) refl

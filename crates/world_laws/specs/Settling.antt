@@ -1,5 +1,6 @@
 -- A world settles as the code does it: by name, those that may have something to do, in rounds until nothing is made.
-use Rattle.std.specs.Prelude.{◌≡◌, ◌⊎◌, ℕ, zero, suc, List, [], ◌∷◌, ◌++◌, length, map, Bool, true, false, cond, not, ◌&&◌, Option, Some, None, is_some, option_map, IfSome, refl}
+use Rattle.std.specs.Prelude.{◌≡◌, ◌⊎◌, ℕ, zero, suc, List, [], ◌∷◌, ◌++◌, length, map, Bool, true, false, cond, not, ◌&&◌, Option, Some, None,
+    is_some, option_map, IfSome, refl}
 use Rattle.std.specs.List.{list_all, list_any}
 use Rattle.std.specs.Map.{keys_of}
 use Rattle.std.specs.declared.cmp.Ordering.{Ordering}
@@ -13,29 +14,30 @@ use Rattle.map_model.specs.Maps.{at, IsSorted}
 use Rattle.map_model.specs.MapLaws.{at-put, sorted-nil, sorted-put, key_is, is_some-at}
 use Rattle.value_model.specs.Order.{text_cmp}
 use Rattle.ejson_value.specs.Key.{name_order}
-use Rattle.resting_worlds.specs.history_model.declared.entry.Entry.{Entry}
-use Rattle.settling.specs.Tower.{often}
-use Rattle.settling.specs.TowerLaws.{tower_makes}
-use Rattle.settling.specs.Rounds.{made, through, none_of, none_in}
-use Rattle.resting_worlds.specs.stored_values.Values.{HasValues}
-use Rattle.round_laws.specs.Repeats.{made-append}
-use Rattle.resting_worlds.specs.core_model.declared.events.Act.{Act}
-use Rattle.resting_worlds.specs.core_model.declared.events.Event.TheVariants as event
-use Rattle.resting_worlds.specs.core_model.Store.{programs}
-use Rattle.resting_worlds.specs.core_model.Conn.{Conn}
-use Rattle.resting_worlds.specs.core_model.Acts.{can}
-use Rattle.resting_worlds.specs.core_model.World.{World, conn_of, done, can_by, can_in}
-use Rattle.resting_worlds.specs.core_model.Settle.{Phase, acts_by, phase, order, phases_of, round, is_stuck, measures, settled}
-use Rattle.resting_worlds.specs.core_model.Events.{Reachable}
-use Rattle.resting_worlds.specs.link_laws.Lift.{round_holds}
-use Rattle.resting_worlds.specs.link_laws.Links.{IsLinked}
-use Rattle.resting_worlds.specs.headline_for_proofs.Worlds.{IsSound, sound_kept}
-use Rattle.resting_worlds.specs.settle_laws_for_proofs.Stuck.{none_of_phase}
-use Rattle.resting_worlds.specs.settled_worlds_for_proofs.Tidy.{Stands}
-use Rattle.resting_worlds.specs.settled_worlds_for_proofs.Settling as settling
+use Rattle.world_settles_laws.specs.history_model.declared.entry.Entry.{Entry}
+use Rattle.rounds_model.specs.Tower.{often}
+use Rattle.rounds_model.specs.TowerLaws.{tower_makes}
+use Rattle.rounds_model.specs.Rounds.{made, through, none_of, none_in}
+use Rattle.world_settles_laws.specs.world_values_laws.Values.{HasValues}
+use Rattle.world_rounds_laws.specs.Repeats.{made-append}
+use Rattle.world_settles_laws.specs.world_model.declared.events.Act.{Act}
+use Rattle.world_settles_laws.specs.world_model.declared.events.Event.TheVariants as event
+use Rattle.world_settles_laws.specs.world_model.Store.{programs}
+use Rattle.world_settles_laws.specs.world_model.Conn.{Conn}
+use Rattle.world_settles_laws.specs.world_model.Acts.{can}
+use Rattle.world_settles_laws.specs.world_model.World.{World, conn_of, done, can_by, can_in}
+use Rattle.world_settles_laws.specs.world_model.Settle.{Phase, acts_by, phase, order, phases_of, round, is_stuck, measures, settled}
+use Rattle.world_settles_laws.specs.world_model.Events.{Reachable}
+use Rattle.world_settles_laws.specs.world_invariant_laws.Lift.{round_holds}
+use Rattle.world_settles_laws.specs.world_invariant_laws.Links.{IsLinked}
+use Rattle.world_settles_laws.specs.headline_for_proofs.Worlds.{IsSound, sound_kept}
+use Rattle.world_settles_laws.specs.Stuck.{none_of_phase}
+use Rattle.world_settles_laws.specs.Tidy.{Stands}
+use Rattle.world_settles_laws.specs.Settling as settling
 use Rattle.connection_laws.specs.Connection.{AConnection, as_conn, IsConnection}
 use Rattle.world_laws.specs.World.{AWorld, as_world, connection_of, is_among, IsIdle, is_there, IsClient, IsWorld}
-use Rattle.round_laws.specs.Visits.{Side, can_on, act_on, phase_on, with_side, visited as client_visited, visited_by, visits, all_visited, round_is, idle_left}
+use Rattle.world_rounds_laws.specs.Visits.{Side, can_on, act_on, phase_on, with_side, visited as client_visited, visited_by, visits, all_visited,
+    round_is, idle_left}
 use Rattle.world_laws.specs.Idle.{idle_from}
 use Rattle.world_laws.specs.Names.{names_from, behind, behind_it, empty_first, visited, next_comes, none_comes, all_come, same_keys, sorted_mapped}
 use Rattle.world_laws.specs.Reaching.{reached_stands, put_itself, made_put, made_reaches, visit_reaches}
@@ -84,7 +86,8 @@ module _ (x : AWorld) (p : IsWorld x) where
   nobody_visited : (name : List ℕ) → conn_of (as_world x) name ≡ None → visits name (as_world x) ≡ as_world x
   nobody_visited name e = left_out name None e tt
 
-  comes : (name : List ℕ) (o : Option Conn) → conn_of (as_world x) name ≡ o → (list_any (eq_by_cmp text_cmp name) (keys_of (as_world x).conns) ≡ true) ⊎ (visits name (as_world x) ≡ as_world x)
+  comes : (name : List ℕ) (o : Option Conn) → conn_of (as_world x) name ≡ o →
+      (list_any (eq_by_cmp text_cmp name) (keys_of (as_world x).conns) ≡ true) ⊎ (visits name (as_world x) ≡ as_world x)
   comes name None e = inr (nobody_visited name e)
   comes name (Some c) e = inl (sym (is_some-at text_cmp (as_world x).conns name) ∙ ap is_some e)
 
@@ -95,14 +98,17 @@ module _ (x : AWorld) (p : IsWorld x) where
       let w = as_world x in
       let s = client_visited w.app (record { history = w.history; conn = c }) in
       ap (λ (v : World). keys_of v.conns) (ap (visited_by w name) e)
-      ∙ same_keys (insert_entry text_cmp w.conns name s.conn) w.conns (sorted-put name_order w.conns name s.conn seen_sorted) seen_sorted (λ q. ap is_some (at-put name_order w.conns name s.conn q) ∙ by q s.conn (eq_by_cmp text_cmp q name) refl)
+      ∙ same_keys (insert_entry text_cmp w.conns name s.conn) w.conns (sorted-put name_order w.conns name s.conn seen_sorted) seen_sorted
+          (λ q. ap is_some (at-put name_order w.conns name s.conn q) ∙ by q s.conn (eq_by_cmp text_cmp q name) refl)
     where
-      by : (q : List ℕ) (d : Conn) (b : Bool) → eq_by_cmp text_cmp q name ≡ b → is_some (cond b (Some d) (at text_cmp (as_world x).conns q)) ≡ is_some (at text_cmp (as_world x).conns q)
+      by : (q : List ℕ) (d : Conn) (b : Bool) → eq_by_cmp text_cmp q name ≡ b →
+          is_some (cond b (Some d) (at text_cmp (as_world x).conns q)) ≡ is_some (at text_cmp (as_world x).conns q)
       by q d true is = sym (ap (λ (n : List ℕ). is_some (at text_cmp (as_world x).conns n)) (key_is name_order q name is) ∙ ap is_some e)
       by q d false is = refl
 
   -- The next one is visited, where all between are passed over; what is left of the round then leads where it led before.
-  pub round_goes_on : (from name : List ℕ) → is_le (text_cmp from name) ≡ true → ((q : List ℕ) → is_le (text_cmp from q) ≡ true → is_lt (text_cmp q name) ≡ true → IsPassed x q) →
+  pub round_goes_on : (from name : List ℕ) → is_le (text_cmp from name) ≡ true →
+      ((q : List ℕ) → is_le (text_cmp from q) ≡ true → is_lt (text_cmp q name) ≡ true → IsPassed x q) →
       visits_from (behind name) (visits name (as_world x)) ≡ visits_from from (as_world x)
   round_goes_on from name le between =
       let w = as_world x in
@@ -123,9 +129,11 @@ module _ (x : AWorld) (p : IsWorld x) (name : List ℕ) (old : AConnection) (is 
   -- where it goes on so
   module _ (t : Side) (g : Grows alone t) (same : as_conn new ≡ t.conn) where
     now_is : as_world (after_visit x name new (x.history ++ g.more)) ≡ with_side (as_world x) name t
-    now_is = λ j. record (as_world x) { history = sym g.behind j; conns = (put_seen x.conns name new p.order ∙ ap (insert_entry text_cmp (as_world x).conns name) same) j }
+    now_is = λ j. record
+        (as_world x) { history = sym g.behind j; conns = (put_seen x.conns name new p.order ∙ ap (insert_entry text_cmp (as_world x).conns name) same) j }
 
-    new_rests : IsWorker x name → is_among x.busy name ≡ false → (length (x.history ++ g.more) ≡ x.settled) ⊎ (new.is_dropped ≡ true) → IsIdle x.app (x.history ++ g.more) (as_conn new)
+    new_rests : IsWorker x name → is_among x.busy name ≡ false → (length (x.history ++ g.more) ≡ x.settled) ⊎ (new.is_dropped ≡ true) →
+        IsIdle x.app (x.history ++ g.more) (as_conn new)
     new_rests (inl busy) free why = cc (sym busy ∙ free)
     new_rests (inr there) free (inl many) =
         let within = p.settled in absurd (there.1 (omega (arith, many, within, length-append x.history g.more)))
@@ -150,7 +158,8 @@ module _ (x : AWorld) (p : IsWorld x) (name : List ℕ) (old : AConnection) (is 
   seen = ap (visited_by (as_world x) name) (conn_there x name old is)
 
   -- A client that goes through its phases makes its part of the round.
-  pub visit_made : (history : List Entry) → history ≡ (client_visited x.app alone).history → as_conn new ≡ (client_visited x.app alone).conn → IsConnection x.app name history new → IsWorker x name →
+  pub visit_made : (history : List Entry) → history ≡ (client_visited x.app alone).history → as_conn new ≡ (client_visited x.app alone).conn →
+      IsConnection x.app name history new → IsWorker x name →
       IsVisited x name (after_visit x name new history)
   visit_made history grown same conn worker =
       let reach : Reachable (with_side (as_world x) name (client_visited x.app alone)) = subst (λ (w : World). Reachable w) seen (visit_reaches (as_world x) name (seen_sorted x p) p.reachable) in
@@ -161,7 +170,8 @@ module _ (x : AWorld) (p : IsWorld x) (name : List ℕ) (old : AConnection) (is 
   itself = put_itself (as_world x) name (seen_sorted x p) (as_conn old) (conn_there x name old is)
 
   -- One that makes some acts alone makes these.
-  pub part_made : (acts : List Act) (history : List Entry) → history ≡ (made (act_on x.app) acts alone).history → as_conn new ≡ (made (act_on x.app) acts alone).conn → IsConnection x.app name history new → IsWorker x name →
+  pub part_made : (acts : List Act) (history : List Entry) → history ≡ (made (act_on x.app) acts alone).history →
+      as_conn new ≡ (made (act_on x.app) acts alone).conn → IsConnection x.app name history new → IsWorker x name →
       IsWorld (after_visit x name new history) × ActsLead (as_world x) (as_world (after_visit x name new history))
   part_made acts history grown same conn worker =
       let t = made (act_on x.app) acts alone in
@@ -172,7 +182,8 @@ module _ (x : AWorld) (p : IsWorld x) (name : List ℕ) (old : AConnection) (is 
 -- ---- a world in which nobody has anything to do
 
 module _ (w : World) where
-  acts_stuck : (name : List ℕ) (c : Conn) → conn_of w name ≡ Some c → (acts : List Act) → list_all (λ a. not (can w.app w.history c a)) acts ≡ true → list_all (λ e. not (can_in w e)) (map (λ a. (name, a)) acts) ≡ true
+  acts_stuck : (name : List ℕ) (c : Conn) → conn_of w name ≡ Some c → (acts : List Act) → list_all (λ a. not (can w.app w.history c a)) acts ≡ true →
+      list_all (λ e. not (can_in w e)) (map (λ a. (name, a)) acts) ≡ true
   acts_stuck name c is [] e = refl
   acts_stuck name c is (a ∷ acts) e =
       let parts = and_parts (not (can w.app w.history c a)) (list_all (λ a. not (can w.app w.history c a)) acts) e in
@@ -180,7 +191,8 @@ module _ (w : World) where
       ∙ (ap (λ b. b && list_all (λ e. not (can_in w e)) (map (λ a. (name, a)) acts)) parts.0 ∙ acts_stuck name c is acts parts.1)
 
   -- the phases of one client
-  phases_stuck : (name : List ℕ) (c : Conn) → conn_of w name ≡ Some c → (more : List (World → List (List ℕ × Act))) → none_in can_in more w ≡ true → (ps : List Phase) →
+  phases_stuck : (name : List ℕ) (c : Conn) → conn_of w name ≡ Some c → (more : List (World → List (List ℕ × Act))) → none_in can_in more w ≡ true →
+      (ps : List Phase) →
       none_in (can_on w.app) (map (phase_on w.app) ps) (record { history = w.history; conn = c }) ≡ true → none_in can_in (map (phase name) ps ++ more) w ≡ true
   phases_stuck name c is more rest [] idle = rest
   phases_stuck name c is more rest (q ∷ ps) idle =
@@ -189,12 +201,15 @@ module _ (w : World) where
       ap (λ (o : Option Conn). none_of can_in (map (λ a. (name, a)) (acts_by w q o)) w && none_in can_in (map (phase name) ps ++ more) w) is
       ∙ (ap (λ b. b && none_in can_in (map (phase name) ps ++ more) w) (acts_stuck name c is (phase_on w.app q x) parts.0) ∙ phases_stuck name c is more rest ps parts.1)
 
-  nobody_stuck : (name : List ℕ) → conn_of w name ≡ None → (more : List (World → List (List ℕ × Act))) → none_in can_in more w ≡ true → (ps : List Phase) → none_in can_in (map (phase name) ps ++ more) w ≡ true
+  nobody_stuck : (name : List ℕ) → conn_of w name ≡ None → (more : List (World → List (List ℕ × Act))) → none_in can_in more w ≡ true →
+      (ps : List Phase) → none_in can_in (map (phase name) ps ++ more) w ≡ true
   nobody_stuck name is more rest [] = rest
   nobody_stuck name is more rest (q ∷ ps) =
-      ap (λ (o : Option Conn). none_of can_in (map (λ a. (name, a)) (acts_by w q o)) w && none_in can_in (map (phase name) ps ++ more) w) is ∙ nobody_stuck name is more rest ps
+      ap (λ (o : Option Conn). none_of can_in (map (λ a. (name, a)) (acts_by w q o)) w && none_in can_in (map (phase name) ps ++ more) w) is
+          ∙ nobody_stuck name is more rest ps
 
-  one_stuck : (name : List ℕ) (o : Option Conn) → conn_of w name ≡ o → IfSome o (IsIdle w.app w.history) → (more : List (World → List (List ℕ × Act))) → none_in can_in more w ≡ true → none_in can_in (map (phase name) order ++ more) w ≡ true
+  one_stuck : (name : List ℕ) (o : Option Conn) → conn_of w name ≡ o → IfSome o (IsIdle w.app w.history) → (more : List (World → List (List ℕ × Act))) →
+      none_in can_in more w ≡ true → none_in can_in (map (phase name) order ++ more) w ≡ true
   one_stuck name None is idle more rest = nobody_stuck name is more rest order
   one_stuck name (Some c) is idle more rest = phases_stuck name c is more rest order idle
 
@@ -212,7 +227,8 @@ module _ (x : AWorld) (p : IsWorld x) where
   idle_begins q e = cc (sym (empty_first q) ∙ e)
 
   -- one more has nothing to do, and those between are passed over
-  pub idle_goes_on : (from name : List ℕ) → IsIdleBefore x from → ((q : List ℕ) → is_le (text_cmp from q) ≡ true → is_lt (text_cmp q name) ≡ true → IsPassed x q) →
+  pub idle_goes_on : (from name : List ℕ) → IsIdleBefore x from →
+      ((q : List ℕ) → is_le (text_cmp from q) ≡ true → is_lt (text_cmp q name) ≡ true → IsPassed x q) →
       IfSome (conn_of (as_world x) name) (IsIdle x.app x.history) → IsIdleBefore x (behind name)
   idle_goes_on from name before between own q e = by (is_le (text_cmp from q)) refl (text_cmp q name) refl
     where
@@ -223,7 +239,8 @@ module _ (x : AWorld) (p : IsWorld x) where
       by false f o s = before q f
       by true f Less s = passed_idle x p q (between q f (ap is_lt s))
       by true f Equal s = subst (λ (n : List ℕ). IfSome (conn_of (as_world x) n) (IsIdle x.app x.history)) (sym (name_order.exact q name s)) own
-      by true f Greater s = let less : is_lt (text_cmp name q) ≡ true = ap is_lt (name_order.total.antisymm name q ∙ ap ordering_reverse s) in cc (sym less ∙ later)
+      by true f Greater s =
+          let less : is_lt (text_cmp name q) ≡ true = ap is_lt (name_order.total.antisymm name q ∙ ap ordering_reverse s) in cc (sym less ∙ later)
 
   -- nobody is left
   pub idle_ends : (from : List ℕ) → IsIdleBefore x from → ((q : List ℕ) → is_le (text_cmp from q) ≡ true → IsPassed x q) → is_stuck (as_world x) ≡ true

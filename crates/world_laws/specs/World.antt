@@ -3,13 +3,13 @@ use Rattle.std.specs.Prelude.{◌≡◌, ◌⊎◌, ℕ, ◌≤◌, List, [], le
 use Rattle.map_model.specs.Maps.{at, IsSorted}
 use Rattle.value_model.specs.Order.{text_cmp}
 use Rattle.app_model.specs.App.{App}
-use Rattle.resting_worlds.specs.history_model.declared.entry.Entry.{Entry}
-use Rattle.resting_worlds.specs.stored_values.Values.{HasValues}
-use Rattle.resting_worlds.specs.core_model.Store.{programs}
-use Rattle.resting_worlds.specs.core_model.Conn.{Conn}
-use Rattle.resting_worlds.specs.core_model.World.{World, Conns}
-use Rattle.resting_worlds.specs.core_model.Events.{Reachable}
-use Rattle.round_laws.specs.Visits.{is_idle}
+use Rattle.world_settles_laws.specs.history_model.declared.entry.Entry.{Entry}
+use Rattle.world_settles_laws.specs.world_values_laws.Values.{HasValues}
+use Rattle.world_settles_laws.specs.world_model.Store.{programs}
+use Rattle.world_settles_laws.specs.world_model.Conn.{Conn}
+use Rattle.world_settles_laws.specs.world_model.World.{World, Conns}
+use Rattle.world_settles_laws.specs.world_model.Events.{Reachable}
+use Rattle.world_rounds_laws.specs.Visits.{is_idle}
 use Rattle.connection_laws.specs.Connection.{AConnection, as_conn, IsConnection}
 
 -- names in order, each with nothing

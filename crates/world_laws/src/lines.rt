@@ -1,17 +1,17 @@
 //! What an event prints.
 ghost use Rattle.std.specs.Prelude.{◌≡◌, ℕ, List, [], ◌∷◌, map, Option, None, Some, false};
 ghost use Rattle.connection_laws.specs.client_core.State.{show_lines};
-ghost use Rattle.connection_laws.specs.client_parts.Lines.{line_texts};
-ghost use Rattle.resting_worlds.specs.core_model.declared.events.Act.{Act as AnAct};
-ghost use Rattle.resting_worlds.specs.core_model.declared.events.Act.TheVariants as act;
-ghost use Rattle.resting_worlds.specs.core_model.declared.events.Answer.{Answer as AnAnswer};
-ghost use Rattle.resting_worlds.specs.core_model.declared.events.Answer.TheVariants as answer;
-ghost use Rattle.resting_worlds.specs.core_model.declared.events.Event.{Event as AnEvent};
-ghost use Rattle.resting_worlds.specs.core_model.declared.events.Event.TheVariants as event;
-ghost use Rattle.resting_worlds.specs.core_model.Acts.{outcome};
-ghost use Rattle.resting_worlds.specs.core_model.Asks.{Ask, can_ask};
-ghost use Rattle.resting_worlds.specs.core_model.Lines.{line_text, idle, idle_unless, answer_values, broken_values, act_values, ask_values, texts_of, lines_of};
-ghost use Rattle.resting_worlds.specs.core_model.Events.{act_in, act_by};
+ghost use Rattle.connection_laws.specs.client_core.Lines.{line_texts};
+ghost use Rattle.world_settles_laws.specs.world_model.declared.events.Act.{Act as AnAct};
+ghost use Rattle.world_settles_laws.specs.world_model.declared.events.Act.TheVariants as act;
+ghost use Rattle.world_settles_laws.specs.world_model.declared.events.Answer.{Answer as AnAnswer};
+ghost use Rattle.world_settles_laws.specs.world_model.declared.events.Answer.TheVariants as answer;
+ghost use Rattle.world_settles_laws.specs.world_model.declared.events.Event.{Event as AnEvent};
+ghost use Rattle.world_settles_laws.specs.world_model.declared.events.Event.TheVariants as event;
+ghost use Rattle.world_settles_laws.specs.world_model.Acts.{outcome};
+ghost use Rattle.world_settles_laws.specs.world_model.Asks.{Ask, can_ask};
+ghost use Rattle.world_settles_laws.specs.world_model.Lines.{line_text, idle, idle_unless, answer_values, broken_values, act_values, ask_values, texts_of, lines_of};
+ghost use Rattle.world_settles_laws.specs.world_model.Events.{act_in, act_by};
 ghost use Rattle.connection_laws.specs.Connection.{AConnection, as_conn};
 ghost use Rattle.connection_laws.specs.Printing.{kept_journal};
 ghost use Rattle.world_laws.specs.World.{AWorld, as_world, connection_of, IsWorld};

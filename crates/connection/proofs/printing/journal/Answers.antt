@@ -1,7 +1,7 @@
 use Rattle.std.proofs.Common.{◌≡◌, ℕ, List, ap, subst, ◌∙◌}
 use Rattle.std.specs.Prelude.{IfOk}
-use Rattle.session_lines.specs.Printed.{session_lines}
-use Rattle.session_lines.specs.PrintedLaws.{session_lines_are}
+use Rattle.connection.specs.Printed.{session_lines}
+use Rattle.connection.specs.PrintedLaws.{session_lines_are}
 use Rattle.connection.specs.Kept.{seen}
 use Rattle.connection.proofs.printing.journal.Goals as goal
 

@@ -1,4 +1,4 @@
-use Rattle.history_log.specs.Lines.{entry_value}
+use Rattle.history_model.specs.Lines.{entry_value}
 use Rattle.history_log.proofs.ReadBack.{says}
 use Rattle.history_log.proofs.kept_entry.line_told.Goals as goal
 

@@ -1,5 +1,5 @@
 use Rattle.std.proofs.Common.{[], ◌∷◌}
-use Rattle.history_log.specs.Lines.{worded, number}
+use Rattle.history_model.specs.Lines.{worded, number}
 use Rattle.history_log.proofs.Printed.{line_if_printed}
 use Rattle.history_log.proofs.lines.count_line.Goals as goal
 

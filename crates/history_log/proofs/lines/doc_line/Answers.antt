@@ -1,4 +1,4 @@
-use Rattle.history_log.specs.Lines.{doc_value}
+use Rattle.history_model.specs.Lines.{doc_value}
 use Rattle.history_log.proofs.Printed.{line_if_printed}
 use Rattle.history_log.proofs.lines.doc_line.Goals as goal
 

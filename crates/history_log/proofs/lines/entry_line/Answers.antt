@@ -1,4 +1,4 @@
-use Rattle.history_log.specs.Lines.{entry_value}
+use Rattle.history_model.specs.Lines.{entry_value}
 use Rattle.history_log.proofs.Printed.{line_if_printed}
 use Rattle.history_log.proofs.lines.entry_line.Goals as goal
 

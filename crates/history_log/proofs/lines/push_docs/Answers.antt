@@ -1,6 +1,6 @@
 use Rattle.std.proofs.Common.{◌∷◌, [], ◌++◌, ap, sym, ◌∙◌}
 use Rattle.std.proofs.lemmas.List.{append_assoc}
-use Rattle.history_log.specs.Lines.{doc_value}
+use Rattle.history_model.specs.Lines.{doc_value}
 use Rattle.history_log.proofs.Turns.{next_line}
 use Rattle.history_log.proofs.lines.push_docs.Goals as goal
 

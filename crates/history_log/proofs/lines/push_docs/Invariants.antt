@@ -1,6 +1,6 @@
 use Rattle.std.proofs.Common.{◌≡◌, ◌++◌, map}
 use Rattle.ejson_value.specs.Rows.{Rows}
-use Rattle.history_log.specs.Lines.{doc_value, line_of}
+use Rattle.history_model.specs.Lines.{doc_value, line_of}
 use Rattle.history_log.proofs.lines.push_docs.Given as goal
 
 abbrev pub invariant-loop-key : goal.invariant-loop-key

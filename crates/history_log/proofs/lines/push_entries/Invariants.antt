@@ -1,6 +1,6 @@
 use Rattle.std.proofs.Common.{◌≡◌, ◌++◌, map, drop}
 use Rattle.history_log.specs.Log.{entries_in}
-use Rattle.history_log.specs.Lines.{entry_value, line_of}
+use Rattle.history_model.specs.Lines.{entry_value, line_of}
 use Rattle.history_log.proofs.lines.push_entries.Given as goal
 
 abbrev pub invariant-loop-one : goal.invariant-loop-one

@@ -1,5 +1,5 @@
 use Rattle.history_model.specs.declared.entry.Entry.TheVariants.{Step}
-use Rattle.history_log.specs.Lines.{entry_value}
+use Rattle.history_model.specs.Lines.{entry_value}
 use Rattle.history_log.proofs.Printed.{line_if_printed}
 use Rattle.history_log.proofs.lines.step_line.Goals as goal
 

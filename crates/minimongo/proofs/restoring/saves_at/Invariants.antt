@@ -1,5 +1,5 @@
 use Rattle.std.proofs.Common.{◌≡◌, ◌++◌, drop}
-use Rattle.reconcile.specs.Originals.{saves_of}
+use Rattle.minimongo.specs.Originals.{saves_of}
 use Rattle.minimongo.specs.Restored.{saves_at}
 use Rattle.minimongo.proofs.restoring.saves_at.Given as goal
 

@@ -1,7 +1,7 @@
 use Rattle.std.specs.Prelude.{◌≡◌, ℕ, [], false, is_err}
 use Rattle.std.proofs.Common.{sym, subst, ◌∙◌}
 use mathlib.Core.List.{IsPrefix}
-use Rattle.session_work.specs.Work.{running_from}
+use Rattle.session_state.specs.Work.{running_from}
 use Rattle.shared_session.specs.Held.{AHeld, StandsFor}
 use Rattle.server_connection.specs.Ends.{AreOver, IsNew}
 use Rattle.server_connection.proofs.Rounds.{new_stands, new_served, no_calls, cause_longer, runs_over, not_err}

@@ -1,4 +1,4 @@
-use Rattle.journal_model.specs.State.{state_of}
+use Rattle.session_model.specs.State.{state_of}
 use Rattle.session_laws.specs.Handled.{read_back}
 use Rattle.session_laws.proofs.laws.handled_messages_read_back.Goals as goal
 

@@ -1,5 +1,5 @@
 use Rattle.std.proofs.Common.{◌≡◌, map, drop, cond}
-use Rattle.journal_model.specs.Subscriptions.{loaded}
+use Rattle.session_model.specs.Subscriptions.{loaded}
 use Rattle.session_state.specs.Subs.{as_live}
 use Rattle.session_state.specs.Progress.{nowhere, progress_with}
 use Rattle.session_state.proofs.progress.progress_loaded.Given as goal

@@ -1,5 +1,5 @@
 use Rattle.std.proofs.Common.{◌≡◌, map, drop}
-use Rattle.journal_model.specs.Subscriptions.{cursor_of}
+use Rattle.session_model.specs.Subscriptions.{cursor_of}
 use Rattle.session_state.specs.Subs.{as_live}
 use Rattle.session_state.proofs.subs.cursor_of.Given as goal
 

@@ -1,5 +1,5 @@
 use Rattle.std.proofs.Common.{◌≡◌, map, drop}
-use Rattle.journal_model.specs.Subscriptions.{may_load}
+use Rattle.session_model.specs.Subscriptions.{may_load}
 use Rattle.session_state.specs.Subs.{as_live}
 use Rattle.session_state.proofs.subs.may_load.Given as goal
 

@@ -1,5 +1,5 @@
 use Rattle.std.proofs.Common.{◌≡◌, map, drop}
-use Rattle.journal_model.specs.Subscriptions.{sub_named}
+use Rattle.session_model.specs.Subscriptions.{sub_named}
 use Rattle.session_state.specs.Subs.{as_live}
 use Rattle.session_state.proofs.subs.sub_named.Given as goal
 

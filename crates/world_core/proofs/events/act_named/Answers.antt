@@ -1,6 +1,6 @@
 use Rattle.std.proofs.Common.{◌<◌, sym, subst}
 use Rattle.world_core.specs.Kept.{seen}
-use Rattle.world_core.proofs.Showing.{few_enough, names_act, names_none, connected}
+use Rattle.world_core.proofs.ShowingLemmas.{few_enough, names_act, names_none, connected}
 use Rattle.world_core.proofs.events.act_named.Goals as goal
 
 pub named-requires : goal.named-requires

@@ -1,4 +1,4 @@
-use Rattle.client_lanes.specs.history_log.Entries.{told_operation}
+use Rattle.world_core.specs.history_log.Entries.{told_operation}
 use Rattle.world_core.specs.Kept.{seen}
 use Rattle.world_core.proofs.Operating.{admin_happens, admin_refused}
 use Rattle.world_core.proofs.events.admin_told.Goals as goal

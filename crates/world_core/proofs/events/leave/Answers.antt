@@ -1,11 +1,11 @@
 use Rattle.std.proofs.Common.{Ok, true, false, sym, subst}
 use Rattle.std.proofs.lemmas.Result.{err_from_is_err_and}
-use Rattle.client_lanes.specs.core_model.declared.events.Event.{Event}
-use Rattle.client_lanes.specs.core_model.declared.events.Event.TheVariants as happening
+use Rattle.world_core.specs.world_model.declared.events.Event.{Event}
+use Rattle.world_core.specs.world_model.declared.events.Event.TheVariants as happening
 use Rattle.world_laws.specs.World.{Names}
 use Rattle.world_core.specs.Kept.{seen}
 use Rattle.world_core.specs.Happening.{Happens}
-use Rattle.client_lanes.specs.Clients.{AsksIn}
+use Rattle.world_core.specs.Clients.{AsksIn}
 use Rattle.world_core.proofs.Asking.{leaves, stays, leave_left}
 use Rattle.world_core.proofs.events.leave.Goals as goal
 

@@ -1,9 +1,9 @@
 use Rattle.std.proofs.Common.{ap, sym, ◌∙◌}
 use Rattle.std.proofs.lemmas.Result.{err_from_is_err_and}
-use Rattle.client_lanes.specs.core_model.Lines.{texts_of}
+use Rattle.world_core.specs.world_model.Lines.{texts_of}
 use Rattle.world_core.specs.Kept.{seen}
-use Rattle.world_core.proofs.Showing.{ready}
-use Rattle.world_core.proofs.Acting.{told_acts, err_acts}
+use Rattle.world_core.proofs.ShowingLemmas.{ready}
+use Rattle.world_core.proofs.ActingLemmas.{told_acts, err_acts}
 use Rattle.world_core.proofs.events.make.Goals as goal
 
 pub acted-requires : goal.acted-requires

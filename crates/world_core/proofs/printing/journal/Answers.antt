@@ -1,6 +1,6 @@
 use Rattle.std.proofs.Common.{◌∙◌}
 use Rattle.world_core.specs.Kept.{seen}
-use Rattle.world_core.proofs.Showing.{journals, nobody_journals}
+use Rattle.world_core.proofs.ShowingLemmas.{journals, nobody_journals}
 use Rattle.world_core.proofs.printing.journal.Goals as goal
 
 pub returns-in_ok-journal_lines-in-Some : goal.returns-in_ok-journal_lines-in-Some

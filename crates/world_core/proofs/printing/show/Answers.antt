@@ -1,6 +1,6 @@
 use Rattle.std.proofs.Common.{◌∙◌}
 use Rattle.world_core.specs.Kept.{seen}
-use Rattle.world_core.proofs.Showing.{shows, nobody_shows}
+use Rattle.world_core.proofs.ShowingLemmas.{shows, nobody_shows}
 use Rattle.world_core.proofs.printing.show.Goals as goal
 
 pub returns-in_ok-show_lines-in-Some : goal.returns-in_ok-show_lines-in-Some

@@ -5,7 +5,7 @@ use Rattle.world_laws.specs.World.{AWorld}
 use Rattle.world_core.specs.Kept.{seen}
 use Rattle.world_core.specs.Rounds.{machine_of, IsNextFrom, IsNext}
 use Rattle.world_core.proofs.Workers.{left_from, next_is_less}
-use Rattle.world_core.proofs.Visits.{IsOn, can_visit, on_begins, on_goes, on_led, on_left, on_ends, news_after}
+use Rattle.world_core.proofs.VisitsLemmas.{IsOn, can_visit, on_begins, on_goes, on_led, on_left, on_ends, news_after}
 use Rattle.world_core.proofs.Runs.{run_on, run_left, told_less, or_none}
 use Rattle.world_core.proofs.rounds.round.Goals as goal
 

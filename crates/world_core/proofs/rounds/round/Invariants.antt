@@ -1,6 +1,6 @@
-use Rattle.client_lanes.specs.News.{AreNews}
+use Rattle.world_core.specs.News.{AreNews}
 use Rattle.world_core.specs.Kept.{seen}
-use Rattle.world_core.proofs.Visits.{IsOn}
+use Rattle.world_core.proofs.VisitsLemmas.{IsOn}
 use Rattle.world_core.proofs.Workers.{left_from}
 use Rattle.world_core.proofs.rounds.round.Given as goal
 

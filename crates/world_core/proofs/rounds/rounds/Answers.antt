@@ -1,6 +1,6 @@
 use Rattle.std.proofs.lemmas.Result.{err_from_is_err_and}
 use Rattle.world_core.specs.Kept.{seen}
-use Rattle.world_core.proofs.Visits.{led_on, rounds_go_on}
+use Rattle.world_core.proofs.VisitsLemmas.{led_on, rounds_go_on}
 use Rattle.world_core.proofs.rounds.rounds.Goals as goal
 
 pub returns-in_err-made : goal.returns-in_err-made

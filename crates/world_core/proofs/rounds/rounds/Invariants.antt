@@ -1,6 +1,6 @@
-use Rattle.client_lanes.specs.News.{AreNews}
+use Rattle.world_core.specs.News.{AreNews}
 use Rattle.world_core.specs.Kept.{seen}
-use Rattle.world_core.proofs.Visits.{HaveComeTo}
+use Rattle.world_core.proofs.VisitsLemmas.{HaveComeTo}
 use Rattle.world_core.proofs.rounds.rounds.Given as goal
 
 abbrev pub invariant-loop : goal.invariant-loop

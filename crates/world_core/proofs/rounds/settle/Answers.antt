@@ -1,5 +1,5 @@
 use Rattle.world_core.specs.Kept.{seen}
-use Rattle.world_core.proofs.Visits.{settles}
+use Rattle.world_core.proofs.VisitsLemmas.{settles}
 use Rattle.world_core.proofs.rounds.settle.Goals as goal
 
 pub returns : goal.returns

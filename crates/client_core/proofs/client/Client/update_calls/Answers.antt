@@ -5,7 +5,7 @@ use Rattle.ejson_value.specs.Key.{key_cmp}
 use Rattle.ddp_messages.specs.ServerMessage as server
 use Rattle.client_model.specs.Client.{Call}
 use Rattle.client_model.specs.Taking.{message_refusal, told_message, all_changed, with_update}
-use Rattle.client_parts.specs.Numbered.{AreUpdated}
+use Rattle.client_core.specs.Numbered.{AreUpdated}
 use Rattle.client_core.specs.State.{Own, state_of}
 use Rattle.client_core.proofs.Shown.{updated_shown}
 use Rattle.client_core.proofs.Told.{updated_told, given}

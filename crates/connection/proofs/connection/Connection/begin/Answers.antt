@@ -1,6 +1,6 @@
 use Rattle.std.proofs.Common.{sym, subst}
-use Rattle.session_lines.specs.link_laws.Session.{IsServed}
-use Rattle.session_lines.specs.connection_laws.Connection.{AConnection, as_conn}
+use Rattle.connection.specs.world_invariant_laws.Session.{IsServed}
+use Rattle.connection.specs.connection_laws.Connection.{AConnection, as_conn}
 use Rattle.connection.proofs.connection.Connection.begin.Goals as goal
 
 pub begin-requires-clause-served : goal.begin-requires-clause-served

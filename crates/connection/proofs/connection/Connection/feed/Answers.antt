@@ -1,7 +1,7 @@
 use Rattle.std.proofs.Common.{sym, subst}
 use Rattle.ejson_value.specs.Changes.{news_of}
-use Rattle.session_lines.specs.session_parts.Known.{AreRight, AreLearnt}
-use Rattle.session_lines.specs.connection_laws.Connection.{AConnection}
+use Rattle.connection.specs.session_core.Known.{AreRight, AreLearnt}
+use Rattle.connection.specs.connection_laws.Connection.{AConnection}
 use Rattle.connection.specs.Storing.{FeedsBy}
 use Rattle.connection.specs.Kept.{seen}
 use Rattle.connection.proofs.connection.Connection.feed.Goals as goal

@@ -6,7 +6,7 @@ use Rattle.value_model.specs.Order.{text_cmp}
 use Rattle.view_model.specs.Views.{refusal, told}
 use Rattle.ejson_value.specs.Key.{key_cmp}
 use Rattle.ejson_value.specs.Messages.{said}
-use Rattle.reconcile.specs.Originals.{ServedFrom}
+use Rattle.minimongo.specs.Originals.{ServedFrom}
 use Rattle.minimongo.specs.Faults.{IsFitting}
 use Rattle.minimongo.specs.State.{Documents, documents_of}
 use Rattle.minimongo.proofs.States.{saved_told, shown_told, own_copy, none_served, saved_fits, fault_fits}

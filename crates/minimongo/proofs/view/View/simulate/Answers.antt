@@ -8,7 +8,7 @@ use Rattle.ejson_value.specs.declared.key.Key.{Key}
 use Rattle.ejson_value.specs.Key.{key_cmp}
 use Rattle.ejson_value.specs.Changes.{changes_of}
 use Rattle.ejson_value.specs.ChangeLaws.{AllFit}
-use Rattle.reconcile.specs.Originals.{saves_of}
+use Rattle.minimongo.specs.Originals.{saves_of}
 use Rattle.minimongo.specs.State.{Documents, documents_of}
 use Rattle.minimongo.proofs.States.{is_free, is_simulated, is_undone}
 use Rattle.minimongo.proofs.view.View.simulate.Goals as goal

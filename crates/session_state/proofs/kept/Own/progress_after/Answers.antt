@@ -1,6 +1,6 @@
 use Rattle.std.proofs.Common.{◌≡◌, ℕ, List, [], ◌∷◌, ◌++◌, map, refl, ap, sym, ◌∙◌}
-use Rattle.journal_model.specs.Subscriptions.{loaded, closed}
-use Rattle.journal_model.specs.State.{State}
+use Rattle.session_model.specs.Subscriptions.{loaded, closed}
+use Rattle.session_model.specs.State.{State}
 use Rattle.session_state.specs.declared.subs.Sub.{Sub}
 use Rattle.session_state.specs.declared.own.Step.{Step}
 use Rattle.session_state.specs.declared.own.Step.TheVariants as step

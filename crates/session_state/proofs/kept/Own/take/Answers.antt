@@ -1,6 +1,6 @@
 use Rattle.std.proofs.Common.{List, ap, ◌∙◌}
-use Rattle.journal_model.specs.Methods.{Method, fire}
-use Rattle.journal_model.specs.State.{State}
+use Rattle.session_model.specs.Methods.{Method, fire}
+use Rattle.session_model.specs.State.{State}
 use Rattle.session_state.specs.declared.progress.Progress.{Progress}
 use Rattle.session_state.specs.Calls.{fire_by}
 use Rattle.session_state.specs.Own.{as_state, stepped}

@@ -1,4 +1,4 @@
-use Rattle.source_laws.specs.Sources.{cursors_at_of}
+use Rattle.world_news_laws.specs.Sources.{cursors_at_of}
 use Rattle.shared_store.specs.Store.{over}
 use Rattle.shared_multiplexer.proofs.Lists.{theirs_longer, lent_in}
 use Rattle.shared_multiplexer.proofs.held.HeldMultiplexer.learn.Goals as goal

@@ -1,7 +1,7 @@
 use Rattle.std.proofs.Common.{sym, subst}
-use Rattle.source_laws.specs.multiplexer.Longer.{nothing_told_yet}
-use Rattle.source_laws.specs.multiplexer.Telling.{ANews}
-use Rattle.source_laws.specs.Sources.{cursors_at_of}
+use Rattle.world_news_laws.specs.multiplexer.Longer.{nothing_told_yet}
+use Rattle.world_news_laws.specs.multiplexer.Telling.{ANews}
+use Rattle.world_news_laws.specs.Sources.{cursors_at_of}
 use Rattle.shared_store.specs.Store.{over}
 use Rattle.shared_multiplexer.specs.Told.{AreTheirs}
 use Rattle.shared_multiplexer.proofs.held.HeldMultiplexer.make.Goals as goal

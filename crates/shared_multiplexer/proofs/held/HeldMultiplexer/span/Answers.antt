@@ -1,7 +1,7 @@
 use Rattle.std.proofs.Common.{◌+◌, ◌≤◌, length, sym, subst, arith, ap}
 use Rattle.store_machine.specs.State.{programs}
-use Rattle.source_laws.specs.multiplexer.Looks.{looks, known_in}
-use Rattle.source_laws.specs.multiplexer.Telling.{ANews}
+use Rattle.world_news_laws.specs.multiplexer.Looks.{looks, known_in}
+use Rattle.world_news_laws.specs.multiplexer.Telling.{ANews}
 use Rattle.shared_store.specs.Store.{over}
 use Rattle.shared_multiplexer.proofs.Lists.{copied_longer, within_of, lent_back, looks_longer}
 use Rattle.shared_multiplexer.proofs.held.HeldMultiplexer.span.Goals as goal

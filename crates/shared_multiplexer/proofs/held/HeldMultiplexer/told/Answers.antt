@@ -1,8 +1,8 @@
 use Rattle.std.proofs.Common.{◌+◌, ◌≤◌, length, sym, subst}
 use Rattle.std.specs.Prelude.{IfOk, IfSome}
-use Rattle.source_laws.specs.multiplexer.Looks.{looks, known_in}
-use Rattle.source_laws.specs.multiplexer.Spans.{IsLent}
-use Rattle.source_laws.specs.Sources.{cursors_at_of}
+use Rattle.world_news_laws.specs.multiplexer.Looks.{looks, known_in}
+use Rattle.world_news_laws.specs.multiplexer.Spans.{IsLent}
+use Rattle.world_news_laws.specs.Sources.{cursors_at_of}
 use Rattle.shared_multiplexer.specs.Copied.{AreCopiedOf}
 use Rattle.shared_store.specs.Store.{over}
 use Rattle.shared_multiplexer.specs.Told.{AHeldNews}

@@ -1,6 +1,6 @@
 use Rattle.std.specs.Prelude.{IfOk}
 use Rattle.std.proofs.Common.{◌≡◌, ap, subst}
-use Rattle.history_log.specs.Lines.{history_lines}
+use Rattle.history_model.specs.Lines.{history_lines}
 use Rattle.store_machine.specs.State.{MachineState}
 use Rattle.store_machine.proofs.machine.Machine.history_lines.Goals as goal
 

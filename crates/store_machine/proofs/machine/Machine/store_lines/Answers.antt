@@ -1,6 +1,6 @@
 use Rattle.std.specs.Prelude.{IfOk}
 use Rattle.std.proofs.Common.{◌≡◌, ap, ap₂, length, subst, ◌∙◌}
-use Rattle.history_log.specs.Lines.{store_lines}
+use Rattle.history_model.specs.Lines.{store_lines}
 use Rattle.store_machine.specs.State.{MachineState}
 use Rattle.store_machine.proofs.Machines.{length_seen}
 use Rattle.store_machine.proofs.machine.Machine.store_lines.Goals as goal

@@ -1,5 +1,5 @@
-use Rattle.client_lanes.specs.history_log.Entries.{told_operation}
-use Rattle.client_lanes.specs.core_model.declared.events.Event.TheVariants.{Admin}
+use Rattle.world_core.specs.history_log.Entries.{told_operation}
+use Rattle.world_core.specs.world_model.declared.events.Event.TheVariants.{Admin}
 use Rattle.world_laws.specs.Promises.{worlds_true, worlds_long}
 use Rattle.world_core.specs.Kept.{seen}
 use Rattle.world_core.proofs.Worlds.{stays}

@@ -1,8 +1,8 @@
 use Rattle.std.proofs.Common.{subst}
-use Rattle.world_laws.specs.stored_values.Values.{HasValues}
-use Rattle.client_lanes.specs.core_model.Store.{programs}
-use Rattle.client_lanes.specs.core_model.World.{World}
-use Rattle.client_lanes.specs.core_model.Headline.{IsTrueWorld, HaveLongAlone}
+use Rattle.world_laws.specs.world_values_laws.Values.{HasValues}
+use Rattle.world_core.specs.world_model.Store.{programs}
+use Rattle.world_core.specs.world_model.World.{World}
+use Rattle.world_core.specs.world_model.Headline.{IsTrueWorld, HaveLongAlone}
 use Rattle.world_laws.specs.Promises.{worlds_true, worlds_long}
 use Rattle.world_core.specs.Kept.{seen}
 use Rattle.world_core.proofs.world.World.known.Goals as goal

@@ -1,5 +1,0 @@
-use Rattle.client_lanes.proofs.Told.{no_news}
-use Rattle.client_lanes.proofs.hands.told_alone.Goals as goal
-
-pub told_in_turn-requires-clause-news : goal.told_in_turn-requires-clause-news
-told_in_turn-requires-clause-news c = no_news c.args.machine.now c.new-news.result c.new-news.ensures

@@ -1,2 +1,0 @@
--- What proofs of crates above name of `history_log`.
-pub use Rattle.client_rounds.specs.history_log_for_proofs.ToldLaws

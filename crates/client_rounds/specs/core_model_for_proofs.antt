@@ -1,2 +1,0 @@
--- What proofs of crates above name of `core_model`.
-pub use Rattle.connection.specs.core_model_for_proofs.contracts

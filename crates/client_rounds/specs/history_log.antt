@@ -1,3 +1,0 @@
--- What crates above name of `history_log`.
-pub use Rattle.connection.specs.history_log.Entries
-pub use Rattle.connection.specs.history_log.Lines

@@ -1,6 +1,0 @@
--- What crates above name of `history_model`.
-pub use Rattle.connection.specs.history_model.History
-pub use Rattle.connection.specs.history_model.HistoryLaws
-pub use Rattle.connection.specs.history_model.LimitLaws
-pub use Rattle.connection.specs.history_model.Operations
-pub use Rattle.connection.specs.history_model.declared

@@ -1,2 +1,0 @@
--- What proofs of crates above name of `session_parts`.
-pub use Rattle.connection.specs.session_parts_for_proofs.contracts

@@ -1,5 +1,0 @@
-use Rattle.core_model.specs.WorldLaws.{idle_acts_leave}
-use Rattle.core_model.proofs.laws.acts_that_are_not_made_leave_the_world.Goals as goal
-
-pub returns : goal.returns
-returns c = idle_acts_leave

@@ -1,5 +1,0 @@
-use Rattle.core_model.specs.StoreLaws.{moments-append}
-use Rattle.core_model.proofs.laws.longer_histories_keep_earlier_moments.Goals as goal
-
-pub returns : goal.returns
-returns c = moments-append

@@ -1,5 +1,0 @@
-use Rattle.core_model.specs.StoreLaws.{view-value_of}
-use Rattle.core_model.proofs.laws.values_are_seen_as_they_are.Goals as goal
-
-pub returns : goal.returns
-returns c = view-value_of

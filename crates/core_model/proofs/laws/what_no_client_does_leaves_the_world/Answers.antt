@@ -1,5 +1,0 @@
-use Rattle.core_model.specs.WorldLaws.{idle_asks_leave}
-use Rattle.core_model.proofs.laws.what_no_client_does_leaves_the_world.Goals as goal
-
-pub returns : goal.returns
-returns c = idle_asks_leave

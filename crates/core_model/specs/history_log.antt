@@ -1,2 +1,0 @@
--- What crates above name of `history_log`.
-pub use Rattle.history_log.specs.Lines

@@ -1,2 +1,0 @@
--- What proofs of crates above name of `link_laws`.
-pub use Rattle.link_laws.specs.Sessions

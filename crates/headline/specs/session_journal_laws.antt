@@ -1,0 +1,3 @@
+-- What crates above name of `session_journal_laws`.
+pub use Rattle.world_invariant_laws.specs.session_journal_laws.Blocking
+pub use Rattle.world_invariant_laws.specs.session_journal_laws.Counts

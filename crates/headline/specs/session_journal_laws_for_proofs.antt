@@ -1,0 +1,3 @@
+-- What proofs of crates above name of `session_journal_laws`.
+pub use Rattle.world_invariant_laws.specs.session_journal_laws_for_proofs.Fences
+pub use Rattle.world_invariant_laws.specs.session_journal_laws_for_proofs.Readable

@@ -1,0 +1,2 @@
+-- What proofs of crates above name of `world_invariant_laws`.
+pub use Rattle.world_invariant_laws.specs.Sessions

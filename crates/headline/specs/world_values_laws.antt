@@ -1,0 +1,2 @@
+-- What crates above name of `world_values_laws`.
+pub use Rattle.world_values_laws.specs.Values

@@ -1,0 +1,40 @@
+-- The lines that are printed of a store: each the EJSON text of a list.
+use Rattle.std.specs.Prelude.{ℕ, pos, List, [], ◌∷◌, ◌++◌, length, map, codes, decimal}
+use Rattle.value_model.specs.Val.{Val, int, text, list, object, Entries, vals_of, fields_of}
+use Rattle.serde_json.specs.Written.{compact_text}
+use Rattle.ejson_codec.specs.Written.{written}
+use Rattle.ejson_value.specs.View.{view}
+use Rattle.ejson_value.specs.declared.key.Key.{Key}
+use Rattle.ejson_value.specs.Rows.{Rows}
+use Rattle.history_model.specs.declared.entry.Entry.{Entry}
+use Rattle.history_model.specs.declared.entry.Entry.TheVariants as entry
+
+abbrev pub worded : List ℕ → List Val → Val
+worded word rest = list (vals_of (text word ∷ rest))
+
+abbrev pub number : ℕ → Val
+number n = int (pos n)
+
+-- the text of a session: `S` and its number
+abbrev pub session_text : ℕ → List ℕ
+session_text session = codes "S" ++ decimal session
+
+abbrev pub doc_value : Key × Entries → Val
+doc_value row = worded (codes "doc") (text row.0.collection ∷ text row.0.id ∷ object (fields_of row.1) ∷ [])
+
+abbrev pub entry_value : Entry → Val
+entry_value (entry.Begin session k method params seed) =
+    worded (codes "begin") (text (session_text session) ∷ number k ∷ text method ∷ list (vals_of params) ∷ view seed ∷ [])
+entry_value (entry.Step session k) = worded (codes "step") (text (session_text session) ∷ number k ∷ [])
+entry_value (entry.Admin op) = worded (codes "admin") (list (vals_of op) ∷ [])
+
+abbrev pub line_of : Val → List ℕ
+line_of v = compact_text (written v)
+
+-- the documents by collection and id, behind the length of the history
+abbrev pub store_lines : ℕ → Rows → List (List ℕ)
+store_lines entries rows = map line_of (worded (codes "store") (number entries ∷ []) ∷ map doc_value rows)
+
+-- the entries in order, behind their number
+abbrev pub history_lines : List Entry → List (List ℕ)
+history_lines history = map line_of (worded (codes "history") (number (length history) ∷ []) ∷ map entry_value history)

@@ -1,5 +1,0 @@
-use Rattle.journal_laws.specs.Tracking.{cursor_looks_back}
-use Rattle.journal_laws.proofs.cursor_looks_back.Goals as goal
-
-pub returns : goal.returns
-returns c = cursor_looks_back

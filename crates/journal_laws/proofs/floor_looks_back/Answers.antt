@@ -1,5 +1,0 @@
-use Rattle.journal_laws.specs.Floors.{floor_looks_back}
-use Rattle.journal_laws.proofs.floor_looks_back.Goals as goal
-
-pub returns : goal.returns
-returns c = floor_looks_back

@@ -1,5 +1,0 @@
-use Rattle.journal_laws.specs.Lengths.{journals_are_short}
-use Rattle.journal_laws.proofs.journals_are_short.Goals as goal
-
-pub returns : goal.returns
-returns c = journals_are_short

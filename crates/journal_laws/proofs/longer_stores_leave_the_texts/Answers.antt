@@ -1,5 +1,0 @@
-use Rattle.journal_laws.specs.Longer.{out_texts-longer}
-use Rattle.journal_laws.proofs.longer_stores_leave_the_texts.Goals as goal
-
-pub returns : goal.returns
-returns c = out_texts-longer

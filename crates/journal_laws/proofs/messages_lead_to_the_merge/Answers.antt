@@ -1,5 +1,0 @@
-use Rattle.journal_laws.specs.Taken.{out-taken}
-use Rattle.journal_laws.proofs.messages_lead_to_the_merge.Goals as goal
-
-pub returns : goal.returns
-returns c = out-taken

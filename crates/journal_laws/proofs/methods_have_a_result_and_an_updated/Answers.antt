@@ -1,5 +1,0 @@
-use Rattle.journal_laws.specs.Counts.{methods_are_answered}
-use Rattle.journal_laws.proofs.methods_have_a_result_and_an_updated.Goals as goal
-
-pub returns : goal.returns
-returns c = methods_are_answered

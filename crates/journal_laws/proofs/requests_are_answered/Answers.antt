@@ -1,5 +1,0 @@
-use Rattle.journal_laws.specs.Replying.{requests_are_answered}
-use Rattle.journal_laws.proofs.requests_are_answered.Goals as goal
-
-pub returns : goal.returns
-returns c = requests_are_answered

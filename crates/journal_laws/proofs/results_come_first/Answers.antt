@@ -1,5 +1,0 @@
-use Rattle.journal_laws.specs.Order.{results_come_first}
-use Rattle.journal_laws.proofs.results_come_first.Goals as goal
-
-pub returns : goal.returns
-returns c = results_come_first

@@ -1,5 +1,0 @@
-use Rattle.journal_laws.specs.SubAnswers.{sub_answers}
-use Rattle.journal_laws.proofs.subscriptions_are_answered.Goals as goal
-
-pub returns : goal.returns
-returns c = sub_answers

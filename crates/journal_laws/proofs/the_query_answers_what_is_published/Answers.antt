@@ -1,5 +1,0 @@
-use Rattle.journal_laws.specs.PublicationLaws.{query_is}
-use Rattle.journal_laws.proofs.the_query_answers_what_is_published.Goals as goal
-
-pub returns : goal.returns
-returns c = query_is

@@ -1,5 +1,0 @@
-use Rattle.journal_laws.specs.Told.{told_when_first_open}
-use Rattle.journal_laws.proofs.told_when_first_open.Goals as goal
-
-pub returns : goal.returns
-returns c = told_when_first_open

@@ -1,5 +1,0 @@
-use Rattle.journal_laws.specs.PublicationLaws.{stored_queried}
-use Rattle.journal_laws.proofs.what_is_published_can_be_stored.Goals as goal
-
-pub returns : goal.returns
-returns c = stored_queried

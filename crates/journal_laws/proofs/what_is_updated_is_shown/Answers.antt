@@ -1,5 +1,0 @@
-use Rattle.journal_laws.specs.Fences.{caught_up}
-use Rattle.journal_laws.proofs.what_is_updated_is_shown.Goals as goal
-
-pub returns : goal.returns
-returns c = caught_up

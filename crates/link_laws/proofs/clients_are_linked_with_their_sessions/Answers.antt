@@ -1,5 +1,0 @@
-use Rattle.link_laws.specs.Worlds as laws
-use Rattle.link_laws.proofs.clients_are_linked_with_their_sessions.Goals as goal
-
-pub returns : goal.returns
-returns c = laws.all_linked

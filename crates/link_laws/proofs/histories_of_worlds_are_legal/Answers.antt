@@ -1,5 +1,0 @@
-use Rattle.link_laws.specs.Worlds as laws
-use Rattle.link_laws.proofs.histories_of_worlds_are_legal.Goals as goal
-
-pub returns : goal.returns
-returns c = laws.all_legal

@@ -1,5 +1,0 @@
-use Rattle.link_laws.specs.Places as laws
-use Rattle.link_laws.proofs.runs_end_where_they_say.Goals as goal
-
-pub returns : goal.returns
-returns c = laws.ended_there

@@ -1,2 +1,0 @@
--- What proofs of crates above name of `core_model`.
-pub use Rattle.core_model.specs.contracts

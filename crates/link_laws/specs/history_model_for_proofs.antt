@@ -1,2 +1,0 @@
--- What proofs of crates above name of `history_model`.
-pub use Rattle.core_model.specs.history_model_for_proofs.contracts

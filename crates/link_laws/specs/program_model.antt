@@ -1,4 +1,0 @@
--- What crates above name of `program_model`.
-pub use Rattle.core_model.specs.program_model.Kept
-pub use Rattle.core_model.specs.program_model.Run
-pub use Rattle.core_model.specs.program_model.Steps

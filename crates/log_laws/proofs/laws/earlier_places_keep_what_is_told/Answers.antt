@@ -1,5 +1,0 @@
-use Rattle.log_laws.specs.PlaceLaws.{lives_put}
-use Rattle.log_laws.proofs.laws.earlier_places_keep_what_is_told.Goals as goal
-
-pub returns : goal.returns
-returns c = lives_put

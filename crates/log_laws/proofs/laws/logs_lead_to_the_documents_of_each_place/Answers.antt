@@ -1,5 +1,0 @@
-use Rattle.log_laws.specs.LogOfLaws.{rows_after-log_of}
-use Rattle.log_laws.proofs.laws.logs_lead_to_the_documents_of_each_place.Goals as goal
-
-pub returns : goal.returns
-returns c = rows_after-log_of

@@ -1,5 +1,0 @@
-use Rattle.log_laws.specs.LogOfLaws.{entries_in-log_of}
-use Rattle.log_laws.proofs.laws.logs_stand_for_their_histories.Goals as goal
-
-pub returns : goal.returns
-returns c = entries_in-log_of

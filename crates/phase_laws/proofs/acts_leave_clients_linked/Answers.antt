@@ -1,5 +1,0 @@
-use Rattle.phase_laws.specs.Linked.{act_linked}
-use Rattle.phase_laws.proofs.acts_leave_clients_linked.Goals as goal
-
-pub returns : goal.returns
-returns c = act_linked

@@ -1,5 +1,0 @@
-use Rattle.phase_laws.specs.Listing.{no_steps_listed}
-use Rattle.phase_laws.proofs.runs_that_are_over_have_no_steps.Goals as goal
-
-pub returns : goal.returns
-returns c = no_steps_listed

@@ -1,5 +1,0 @@
-use Rattle.phase_laws.specs.Covering.{running_rises, running_covers}
-use Rattle.phase_laws.proofs.runs_that_go_on_are_of_calls_that_run.Goals as goal
-
-pub returns : goal.returns
-returns c = record { rise = running_rises; covers = running_covers }

@@ -1,5 +1,0 @@
-use Rattle.phase_laws.specs.Listing.{advances_left, advances_none}
-use Rattle.phase_laws.proofs.subscriptions_at_the_end_stay.Goals as goal
-
-pub returns : goal.returns
-returns c = record { made = advances_left; none = advances_none }

@@ -1,2 +1,0 @@
--- What proofs of crates above name of `link_laws`.
-pub use Rattle.headline.specs.link_laws_for_proofs.Sessions

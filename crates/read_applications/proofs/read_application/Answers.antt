@@ -1,5 +1,0 @@
-use Rattle.read_applications.specs.AppsRead.{read_apps_have_values, given_values}
-use Rattle.read_applications.proofs.read_application.Goals as goal
-
-pub returns-clause-values : goal.returns-clause-values
-returns-clause-values c = given_values c.read.result _ c.read.ensures (read_apps_have_values _ c.known.ensures)

@@ -1,2 +1,0 @@
-pub mod StepsRead
-pub mod AppsRead

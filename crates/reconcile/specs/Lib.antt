@@ -1,4 +1,0 @@
-pub mod Originals
-pub mod OriginalLaws
-pub mod Index
-pub mod Taking

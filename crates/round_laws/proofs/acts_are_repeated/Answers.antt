@@ -1,5 +1,0 @@
-use Rattle.round_laws.specs.Loops.{loop_begins, loop_goes_on}
-use Rattle.round_laws.proofs.acts_are_repeated.Goals as goal
-
-pub returns : goal.returns
-returns c = record { begins = loop_begins; goes_on = loop_goes_on }

@@ -1,5 +1,0 @@
-use Rattle.round_laws.specs.Loops.{ups_lower, recvs_lower, handles_lower, sends_lower, takes_lower}
-use Rattle.round_laws.proofs.acts_leave_less.Goals as goal
-
-pub returns : goal.returns
-returns c = record { ups = ups_lower; recvs = recvs_lower; handles = handles_lower; sends = sends_lower; takes = takes_lower }

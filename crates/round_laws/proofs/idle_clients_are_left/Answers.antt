@@ -1,5 +1,0 @@
-use Rattle.round_laws.specs.Visits.{idle_visited, idle_left}
-use Rattle.round_laws.proofs.idle_clients_are_left.Goals as goal
-
-pub returns : goal.returns
-returns c = record { side = idle_visited; world = idle_left }

@@ -1,5 +1,0 @@
-use Rattle.round_laws.specs.Steps.{steps_are}
-use Rattle.round_laws.proofs.steps_make_up_the_phase.Goals as goal
-
-pub returns : goal.returns
-returns c = steps_are

@@ -1,4 +1,0 @@
-pub mod Repeats
-pub mod Visits
-pub mod Loops
-pub mod Steps

@@ -1,6 +1,0 @@
-use Rattle.std.proofs.Common.{ap}
-use Rattle.session_handling.specs.session_laws.Session.{ASession}
-use Rattle.session.proofs.session.Session.outbox.Goals as goal
-
-pub returns : goal.returns
-returns c = ap (λ (s : ASession). s.carried.outbox) c.self.view_is

@@ -1,9 +1,0 @@
-use Rattle.std.specs.Prelude.{slice_get}
-use Rattle.std.proofs.Common.{ap, ◌∙◌}
-use Rattle.session_journal.specs.Journal.{runs}
-use Rattle.session.specs.Lines.{lines_of}
-use Rattle.session_handling.specs.session_laws.Session.{ASession}
-use Rattle.session.proofs.session.Session.record.Goals as goal
-
-pub returns : goal.returns
-returns c = c.record.ensures ∙ ap (λ (s : ASession). slice_get (runs (lines_of s)) c.args.place) c.self.view_is

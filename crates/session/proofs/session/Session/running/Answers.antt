@@ -1,9 +1,0 @@
--- running
-use Rattle.std.specs.Prelude.{IfOk}
-use Rattle.std.proofs.Common.{◌≡◌, subst}
-use Rattle.session_work.specs.Work.{running_from}
-use Rattle.session_handling.specs.session_laws.Session.{ASession}
-use Rattle.session.proofs.session.Session.running.Goals as goal
-
-pub returns : goal.returns
-returns c = subst (λ (s : ASession). IfOk c.running.result (λ calls. calls.items ≡ running_from 0 s.carried.own.methods)) c.self.view_is c.running.ensures

@@ -1,4 +1,0 @@
--- What crates above name of `history_log`.
-pub use Rattle.history_log.specs.Entries
-pub use Rattle.history_log.specs.Lines
-pub use Rattle.history_log.specs.declared

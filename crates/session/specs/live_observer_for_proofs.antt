@@ -1,2 +1,0 @@
--- What proofs of crates above name of `live_observer`.
-pub use Rattle.session_handling.specs.live_observer_for_proofs.contracts

@@ -1,0 +1,15 @@
+pub mod Known
+pub mod Firing
+pub mod Said
+pub mod AddingLemmas
+pub mod Counted
+pub mod Gaining
+pub mod Keeping
+pub mod Outcomes
+pub mod Queues
+pub mod Answering
+pub mod Learnt
+pub mod Shown
+pub mod Lined
+pub mod Nexts
+pub mod Handled

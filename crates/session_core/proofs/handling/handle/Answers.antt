@@ -1,0 +1,32 @@
+use Rattle.std.specs.Prelude.{Bool, Err, Ok}
+use Rattle.std.proofs.Common.{refl, ap, subst, ◌∙◌}
+use Rattle.session_core.specs.session_laws.declared.fault.EventFault.{EventFault}
+use Rattle.session_core.specs.session_laws.Session.{can_handle, IsCause, HadRoom}
+use Rattle.session_core.specs.session_laws.Events.{Handles, Outcome}
+use Rattle.session_core.specs.Kept.{seen}
+use Rattle.session_core.proofs.Outcomes.{on_error, memory_cause, tested_is, handles, handles_none}
+use Rattle.session_core.proofs.handling.handle.Goals as goal
+
+pub handle_next-requires-clause-can : goal.handle_next-requires-clause-can
+handle_next-requires-clause-can c =
+    let s = seen c.args.inner.now in
+    subst (λ (b : Bool). HadRoom b s) c.can_handle.ensures (tested_is c.can_handle.result s (Ok tt) c.in_ok-test.ensures)
+
+pub returns-clause-handles : goal.returns-clause-handles
+returns-clause-handles c =
+    let s = seen c.args.inner.now in
+    let room = subst (λ (b : Bool). HadRoom b s) c.can_handle.ensures (tested_is c.can_handle.result s (Ok tt) c.in_ok-test.ensures) in
+    handles s (seen c.handle_next.new.inner) room c.in_ok-handle_next.ensures.handled
+
+pub returns-in_err-test-clause-handles : goal.returns-in_err-test-clause-handles
+returns-in_err-test-clause-handles c =
+    let s = seen c.args.inner.now in
+    on_error (λ (r : Outcome). Handles s s r) c.from_residual.result c.from_residual.ensures.1
+    (λ e is. handles_none s s e (subst (λ (b : Bool). IsCause b s e) c.can_handle.ensures (tested_is c.can_handle.result s (Err e) (ap (λ (x : EventFault). Err x) is ∙ c.in_err-test.ensures))) refl)
+
+pub returns-in_err-handle_next-clause-handles : goal.returns-in_err-handle_next-clause-handles
+returns-in_err-handle_next-clause-handles c =
+    let s = seen c.args.inner.now in
+    let new = seen c.handle_next.new.inner in
+    on_error (λ (r : Outcome). Handles s new r) c.from_residual-in_err-handle_next.result c.from_residual-in_err-handle_next.ensures.1
+    (λ e is. handles_none s new e (memory_cause (can_handle s) s e is) c.in_err-handle_next.ensures.same)

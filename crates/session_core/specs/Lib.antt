@@ -1,0 +1,26 @@
+pub mod Known
+pub mod Additions
+pub mod Parts
+pub mod Asked
+pub mod Kept
+pub mod Limits
+pub mod Adding
+pub mod Lines
+pub mod Observed
+pub mod Handling
+-- what lies below, for the crates above
+pub mod history_log
+pub mod history_log_for_proofs
+pub mod session_journal_laws
+pub mod session_model
+pub mod live_observer
+pub mod live_observer_for_proofs
+pub mod publication
+pub mod publication_for_proofs
+pub mod session_laws
+pub mod session_laws_for_proofs
+pub mod session_journal_laws_for_proofs
+pub mod session_state
+pub mod session_state_for_proofs
+pub mod session_texts
+pub mod history_model

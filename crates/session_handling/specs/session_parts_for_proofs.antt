@@ -1,2 +1,0 @@
--- What proofs of crates above name of `session_parts`.
-pub use Rattle.session_parts.specs.contracts

@@ -1,0 +1,5 @@
+use Rattle.session_journal_laws.specs.Lengths.{journals_are_short}
+use Rattle.session_journal_laws.proofs.journals_are_short.Goals as goal
+
+pub returns : goal.returns
+returns c = journals_are_short

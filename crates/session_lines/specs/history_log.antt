@@ -1,4 +1,0 @@
--- What crates above name of `history_log`.
-pub use Rattle.session.specs.history_log.Entries
-pub use Rattle.session.specs.history_log.Lines
-pub use Rattle.session.specs.history_log.declared

@@ -1,4 +1,0 @@
--- What crates above name of `link_laws`.
-pub use Rattle.connection_laws.specs.link_laws.Lift
-pub use Rattle.connection_laws.specs.link_laws.Links
-pub use Rattle.connection_laws.specs.link_laws.Session

@@ -1,2 +1,0 @@
--- What crates above name of `publication`.
-pub use Rattle.session.specs.publication.Published

@@ -1,4 +1,0 @@
--- What crates above name of `session_state`.
-pub use Rattle.session_state.specs.Own
-pub use Rattle.session_state.specs.Subs
-pub use Rattle.session_state.specs.declared

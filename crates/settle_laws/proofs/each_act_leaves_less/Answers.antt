@@ -1,5 +1,0 @@
-use Rattle.settle_laws.specs.Lowering.{acts_lower}
-use Rattle.settle_laws.proofs.each_act_leaves_less.Goals as goal
-
-pub returns : goal.returns
-returns c = acts_lower

@@ -1,5 +1,0 @@
-use Rattle.settle_laws.specs.Stuck.{none_of_phase}
-use Rattle.settle_laws.proofs.stuck_worlds_make_no_act.Goals as goal
-
-pub returns : goal.returns
-returns c = none_of_phase

@@ -1,5 +1,0 @@
-use Rattle.settled_worlds.specs.Settling as laws
-use Rattle.settled_worlds.proofs.rounds_lead_to_the_settled_world.Goals as goal
-
-pub returns : goal.returns
-returns c = laws.rounds_lead_to_the_settled_world

@@ -1,6 +1,0 @@
-use Rattle.std.specs.Prelude.{◌≡◌, true}
-use Rattle.settling.specs.RoundLaws as laws
-use Rattle.settling.proofs.rounds_lead_on.Goals as goal
-
-pub returns : goal.returns
-returns g c = λ is_kept can done ms acts phases. laws.round_leads (λ w. is_kept w ≡ true) can done ms acts phases

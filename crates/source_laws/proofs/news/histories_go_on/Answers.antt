@@ -1,5 +1,0 @@
-use Rattle.source_laws.specs.News.{stays_on, longer_on, then_on}
-use Rattle.source_laws.proofs.news.histories_go_on.Goals as goal
-
-pub returns : goal.returns
-returns c = record { same = stays_on; longer = longer_on; further = then_on }

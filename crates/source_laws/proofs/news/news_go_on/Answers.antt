@@ -1,5 +1,0 @@
-use Rattle.source_laws.specs.News.{nothing_is_news, news_go_on}
-use Rattle.source_laws.proofs.news.news_go_on.Goals as goal
-
-pub returns : goal.returns
-returns c = record { nothing = nothing_is_news; stays = news_go_on }

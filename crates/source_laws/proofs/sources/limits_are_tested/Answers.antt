@@ -1,5 +1,0 @@
-use Rattle.source_laws.specs.Found.{unlimited, passes}
-use Rattle.source_laws.proofs.sources.limits_are_tested.Goals as goal
-
-pub returns : goal.returns
-returns c = record { passed = unlimited; all = passes }

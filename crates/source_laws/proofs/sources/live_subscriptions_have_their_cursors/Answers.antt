@@ -1,5 +1,0 @@
-use Rattle.source_laws.specs.Made.{journal_made}
-use Rattle.source_laws.proofs.sources.live_subscriptions_have_their_cursors.Goals as goal
-
-pub returns : goal.returns
-returns c = journal_made

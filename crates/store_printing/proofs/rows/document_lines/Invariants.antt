@@ -1,6 +1,0 @@
-use Rattle.std.proofs.Common.{◌≡◌, ◌++◌, drop}
-use Rattle.store_printing.specs.Rows.{pairs_in, document_lines}
-use Rattle.store_printing.proofs.rows.document_lines.Given as goal
-
-abbrev pub invariant-loop-row : goal.invariant-loop-row
-invariant-loop-row l = l.lines.items ++ document_lines (pairs_in (drop l.row-index l.rows)) ≡ document_lines (pairs_in l.rows)

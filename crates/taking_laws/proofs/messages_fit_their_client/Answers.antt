@@ -1,5 +1,0 @@
-use Rattle.taking_laws.specs.Fitting.{out_accepted}
-use Rattle.taking_laws.proofs.messages_fit_their_client.Goals as goal
-
-pub returns : goal.returns
-returns c = out_accepted

@@ -1,2 +1,0 @@
-pub mod ReadTreeLaws
-pub mod MessageLaws

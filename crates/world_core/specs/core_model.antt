@@ -1,9 +1,0 @@
--- What crates above name of `core_model`.
-pub use Rattle.client_lanes.specs.core_model.Conn
-pub use Rattle.client_lanes.specs.core_model.Events
-pub use Rattle.client_lanes.specs.core_model.Headline
-pub use Rattle.client_lanes.specs.core_model.Lines
-pub use Rattle.client_lanes.specs.core_model.Settle
-pub use Rattle.client_lanes.specs.core_model.Store
-pub use Rattle.client_lanes.specs.core_model.World
-pub use Rattle.client_lanes.specs.core_model.declared

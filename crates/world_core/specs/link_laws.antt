@@ -1,2 +1,0 @@
--- What crates above name of `link_laws`.
-pub use Rattle.client_lanes.specs.link_laws.Links

@@ -1,0 +1,2 @@
+-- What crates above name of `world_rounds_laws`.
+pub use Rattle.world_rounds_laws.specs.Visits

@@ -1,0 +1,5 @@
+use Rattle.world_invariant_laws.specs.Worlds as laws
+use Rattle.world_invariant_laws.proofs.clients_are_linked_with_their_sessions.Goals as goal
+
+pub returns : goal.returns
+returns c = laws.all_linked

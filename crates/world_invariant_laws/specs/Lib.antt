@@ -1,0 +1,26 @@
+pub mod Lift
+pub mod Places
+pub mod Moments
+pub mod Standing
+pub mod Begun
+pub mod Requests
+pub mod Session
+pub mod Served
+pub mod Stubs
+pub mod Heard
+pub mod Operations
+pub mod Legal
+pub mod Links
+pub mod Sessions
+pub mod Whole
+pub mod Worlds
+-- what lies below, for the crates above
+pub mod world_model
+pub mod world_model_for_proofs
+pub mod history_model
+pub mod history_model_for_proofs
+pub mod session_journal_laws
+pub mod session_journal_laws_for_proofs
+pub mod session_model
+pub mod program_model
+pub mod publication

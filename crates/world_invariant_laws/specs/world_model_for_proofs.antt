@@ -1,0 +1,2 @@
+-- What proofs of crates above name of `world_model`.
+pub use Rattle.world_model.specs.contracts

@@ -1,0 +1,5 @@
+use Rattle.world_rounds_laws.specs.Steps.{step_lowers}
+use Rattle.world_rounds_laws.proofs.steps_leave_less.Goals as goal
+
+pub returns : goal.returns
+returns c = step_lowers

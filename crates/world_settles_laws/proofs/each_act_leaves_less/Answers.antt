@@ -1,0 +1,5 @@
+use Rattle.world_settles_laws.specs.Lowering.{acts_lower}
+use Rattle.world_settles_laws.proofs.each_act_leaves_less.Goals as goal
+
+pub returns : goal.returns
+returns c = acts_lower

@@ -1,0 +1,2 @@
+-- What crates above name of `session_journal_laws`.
+pub use Rattle.headline.specs.session_journal_laws.Counts

@@ -1,0 +1,2 @@
+-- What proofs of crates above name of `world_settles_laws`.
+pub use Rattle.world_settles_laws.specs.Worlds

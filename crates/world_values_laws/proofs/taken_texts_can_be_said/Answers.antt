@@ -1,0 +1,5 @@
+use Rattle.world_values_laws.specs.TakenValues.{taken_is}
+use Rattle.world_values_laws.proofs.taken_texts_can_be_said.Goals as goal
+
+pub returns : goal.returns
+returns c = taken_is
