@@ -1,6 +1,5 @@
 -- The cursors that are read of one publication publish under different names.
-use Rattle.std.specs.Prelude.{◌≡◌, ℕ, Bool, true, false, not, List, [], ◌∷◌, ◌++◌, length, codes, Option, None, Some, Ok, Err, unwrap_or, ◌||◌, refl,
-    if◌then◌else◌}
+use Rattle.std.specs.Prelude.{◌≡◌, ℕ, Bool, true, false, not, List, [], ◌∷◌, ◌++◌, length, codes, Option, None, Some, Ok, Err, unwrap_or, ◌||◌, refl, if◌then◌else◌}
 use Rattle.std.proofs.Common.{ap, sym, ◌∙◌, subst}
 use Rattle.std.specs.List.{list_any}
 use Rattle.std.specs.Str.{bytes_eq}
@@ -20,8 +19,7 @@ use Rattle.app_model.specs.declared.publication.CursorRule.{CursorRule}
 use Rattle.program_reading.specs.Faults.{Place, below, element, Reading, bad}
 use Rattle.app_model.specs.Rules.{Rules, publishes, HaveDistinctNames}
 use Rattle.program_reading.specs.Names.{has_name, is_valid_name, name_reading, if_known, known_reading}
-use Rattle.app_model.specs.Reading.{is_cursor, published_as, is_published, alias_reading, selector_of, names_reading, shown_reading, parts_reading,
-    rule_reading, rules_behind}
+use Rattle.app_model.specs.Reading.{is_cursor, published_as, is_published, alias_reading, selector_of, names_reading, shown_reading, parts_reading, rule_reading, rules_behind}
 
 flipped : (a b : List ℕ) → Decides (bytes_eq a b) (a ≡ b) → Decides (bytes_eq a b) (b ≡ a)
 flipped a b d = (λ e. sym (d.0 e), λ p. d.1 (sym p))
@@ -117,4 +115,4 @@ rules_distinct collections place rules no_vals all e d = subst HaveDistinctNames
 rules_distinct collections place rules (val v vs) all e d =
     let read = and_then-ok (rule_reading collections (element place (length rules)) rules v) (λ rule. rules_behind collections place (rules ++ rule ∷ []) vs) all e in
     rules_distinct collections place (rules ++ read.0 ∷ []) vs all read.2
-        (distinct-append rules read.0 d (rule_fresh collections (element place (length rules)) rules v read.0 read.1))
+    (distinct-append rules read.0 d (rule_fresh collections (element place (length rules)) rules v read.0 read.1))

@@ -1,7 +1,6 @@
 -- How a value is read as an application: `{"collections":[name..],"methods":{name:program..},"publications":{name:[cursor..]..},"rules":{collection:rules..}}`, where each key may be missing. A cursor is `{"collection":name,"as":name,"selector":template,"fields":{path:1|0..},"sort":[[path,1|-1]..],"limit":number}`, where all but the collection may be missing.
 -- The first fault is answered: collections, methods, publications, rules, inside by the bytes of the keys or by place, and at each part its form, its name, how many parts it has, an unknown collection and a double name, in this order.
-use Rattle.std.specs.Prelude.{ℕ, Bool, true, false, not, List, [], ◌∷◌, ◌++◌, length, codes, Option, None, Some, Ok, unwrap_or, is_some, nat_lt,
-    nat_le, if◌then◌else◌, ◌&&◌, ◌||◌}
+use Rattle.std.specs.Prelude.{ℕ, Bool, true, false, not, List, [], ◌∷◌, ◌++◌, length, codes, Option, None, Some, Ok, unwrap_or, is_some, nat_lt, nat_le, if◌then◌else◌, ◌&&◌, ◌||◌}
 use Rattle.std.specs.BTreeMap.{insert_entry}
 use Rattle.map_model.specs.Maps.{at}
 use Rattle.value_model.specs.Val.{Val, text, list, object, Vals, no_vals, val, Fields, no_fields, field, list_of}
@@ -142,7 +141,7 @@ abbrev pub methods_put : List (List ℕ) → List (List ℕ × Program) → Fiel
 methods_put collections rows no_fields = Ok rows
 methods_put collections rows (field name v fs) =
     and_then (program_reading collections (below (codes "methods") name) name v)
-        (λ program. methods_put collections (insert_entry text_cmp rows name program) fs)
+    (λ program. methods_put collections (insert_entry text_cmp rows name program) fs)
 
 abbrev pub methods_reading : List (List ℕ) → Option Val → Reading (List (List ℕ × Program))
 methods_reading collections None = Ok []

@@ -15,5 +15,8 @@ mod sorting;
 pub use app::App;
 pub use ejson_value::Fault;
 pub use program_reading::AppFault;
-pub use program_steps::{Action, End, FillFault, Outcome, Program, ProgramStep, ProgramSteps, Rule, RuleList, Rules, Status, Template, };
+pub use program_steps::{
+    Action, End, FillFault, Outcome, Program, ProgramStep, ProgramSteps, Rule, RuleList, Rules,
+    Status, Template,
+};
 pub use publication::{CursorRule, CursorRules, Paths, Projection, Publication};

@@ -1,6 +1,5 @@
 -- The first lines of an input, and what follows them.
-use Rattle.std.specs.Prelude.{◌≡◌, ◌≢◌, ℕ, zero, suc, ◌+◌, ◌<◌, List, [], ◌∷◌, ◌++◌, length, take, drop, get_or, Bool, true, false, if◌then◌else◌,
-    ◌==◌, IsUtf8, refl}
+use Rattle.std.specs.Prelude.{◌≡◌, ◌≢◌, ℕ, zero, suc, ◌+◌, ◌<◌, List, [], ◌∷◌, ◌++◌, length, take, drop, get_or, Bool, true, false, if◌then◌else◌, ◌==◌, IsUtf8, refl}
 use Rattle.std.proofs.Common.{ap, sym, ◌∙◌, arith, take_all, take-append-drop}
 use Rattle.std.specs.Io.BufRead.{take_through}
 use Rattle.std.proofs.BufReadLemmas.{take_through-nil}

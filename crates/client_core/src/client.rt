@@ -12,13 +12,13 @@ ghost use Rattle.client_core.specs.Asked.{Does, Calls, AreOf, IsEntered, IsSent,
 ghost use Rattle.client_core.specs.State.{show_lines};
 ghost use Rattle.client_core.specs.Lines.{line_texts};
 
-use crate::fault::ClientFault;
-use app_model::App;
 use crate::calls::{Call, are_settled, call_at};
+use crate::fault::ClientFault;
 use crate::lines::show;
 use crate::numbers::seed_of;
 use crate::subs::Subs;
 use crate::texts;
+use app_model::App;
 use ejson_codec::Lines;
 use ejson_value::{Items, Mem, Text, Value};
 use json::Scratch;

@@ -9,9 +9,9 @@ ghost use Rattle.client_model.specs.Client.{client_text};
 ghost use Rattle.client_model.specs.Taking.{turned, ended_by as end_of};
 ghost use Rattle.client_model.specs.Asking.{with_text};
 
+use crate::calls::{finish, outcome_by, update, updated, without_result};
 use crate::client::Client;
 use crate::fault::TakeFault;
-use crate::calls::{finish, outcome_by, update, updated, without_result};
 use crate::subs::ended_by;
 use crate::texts::pong;
 use ddp_messages::{FromServer, MsgFault};

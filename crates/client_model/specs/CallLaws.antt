@@ -1,6 +1,5 @@
 -- Which calls await their `updated`, and which simulations hold a document, after a message and after a call.
-use Rattle.std.specs.Prelude.{◌≡◌, ◌≢◌, ◌⊎◌, ℕ, zero, suc, Bool, true, false, cond, not, ◌&&◌, ◌||◌, List, [], ◌∷◌, ◌++◌, length, slice_get, Option,
-    Some, None, option_and_then, unwrap_or, refl}
+use Rattle.std.specs.Prelude.{◌≡◌, ◌≢◌, ◌⊎◌, ℕ, zero, suc, Bool, true, false, cond, not, ◌&&◌, ◌||◌, List, [], ◌∷◌, ◌++◌, length, slice_get, Option, Some, None, option_and_then, unwrap_or, refl}
 use Rattle.std.specs.List.{list_any, list_all}
 use Rattle.std.specs.declared.cmp.Ordering.TheVariants.{Less, Equal, Greater}
 use Rattle.std.specs.Ordering.{nat_cmp, eq_by_cmp, match_ordering}
@@ -55,7 +54,7 @@ module _ (f : Call → Call) where
       let later = others_stay ns (number_changed m f calls) n in
       let here = number_else m calls n in
       elim (eq_by_cmp nat_cmp n m) as
-          (λ b. eq_by_cmp nat_cmp n m ≡ b → (b || is_among ns n) ≡ false → call_at (all_changed ns f (number_changed m f calls)) n ≡ call_at calls n) [
+      (λ b. eq_by_cmp nat_cmp n m ≡ b → (b || is_among ns n) ≡ false → call_at (all_changed ns f (number_changed m f calls)) n ≡ call_at calls n) [
         | true ↦ λ t e. cc e
         | false ↦ λ t e. later e ∙ here t
       ] refl apart
@@ -120,13 +119,13 @@ among_without ns [] n e = cc e
 among_without ns (h ∷ hs) n e =
     let rest = among_without ns hs n in
     elim (is_among ns h) as
-        (λ a. is_among ns h ≡ a → is_among (cond (not a) (h ∷ without_numbers ns hs) (without_numbers ns hs)) n ≡ true → (is_among (h ∷ hs) n ≡ true) × (is_among ns n ≡ false)) [
+    (λ a. is_among ns h ≡ a → is_among (cond (not a) (h ∷ without_numbers ns hs) (without_numbers ns hs)) n ≡ true → (is_among (h ∷ hs) n ≡ true) × (is_among ns n ≡ false)) [
       | true ↦ λ t x. (later (eq_by_cmp nat_cmp n h) (rest x).0, (rest x).1)
       | false ↦ λ t x. elim (eq_by_cmp nat_cmp n h) as
           (λ b. eq_by_cmp nat_cmp n h ≡ b → (b || is_among (without_numbers ns hs) n) ≡ true → ((b || is_among hs n) ≡ true) × (is_among ns n ≡ false)) [
-        | true ↦ λ s y. (refl, ap (is_among ns) (key_is number_order n h s) ∙ t)
-        | false ↦ λ s y. rest y
-      ] refl x
+            | true ↦ λ s y. (refl, ap (is_among ns) (key_is number_order n h s) ∙ t)
+            | false ↦ λ s y. rest y
+          ] refl x
     ] refl e
 
 -- who holds a document after a call is the new one, or held it before
@@ -134,7 +133,7 @@ pub holds_then : (number : ℕ) (keys : List Key) (pending : Pending Key) (k : K
     is_among (holders key_cmp (held_by key_cmp number keys pending) k) n ≡ true → (n ≡ number) ⊎ (is_among (holders key_cmp pending k) n ≡ true)
 holds_then number keys pending k n e =
     elim (list_any (eq_by_cmp key_cmp k) keys) as
-        (λ b. is_among (unwrap_or (cond b (Some (with_number (holders key_cmp pending k) number)) (at key_cmp pending k)) []) n ≡ true → (n ≡ number) ⊎ (is_among (holders key_cmp pending k) n ≡ true)) [
+    (λ b. is_among (unwrap_or (cond b (Some (with_number (holders key_cmp pending k) number)) (at key_cmp pending k)) []) n ≡ true → (n ≡ number) ⊎ (is_among (holders key_cmp pending k) n ≡ true)) [
       | true ↦ λ x. among_with (holders key_cmp pending k) number n x
       | false ↦ λ x. inr x
     ] (sym (ap (λ w. is_among (unwrap_or w []) n) (at-held_by key_order number keys pending k)) ∙ e)

@@ -1,6 +1,5 @@
 -- What a client shows, whatever it takes and asks for.
-use Rattle.std.specs.Prelude.{◌≡◌, ◌⊎◌, ℕ, suc, List, [], ◌∷◌, length, Bool, true, false, cond, ◌||◌, nat_lt, Option, Some, None, Result, Ok, Err,
-    unwrap_or, refl}
+use Rattle.std.specs.Prelude.{◌≡◌, ◌⊎◌, ℕ, suc, List, [], ◌∷◌, length, Bool, true, false, cond, ◌||◌, nat_lt, Option, Some, None, Result, Ok, Err, unwrap_or, refl}
 use Rattle.std.specs.List.{list_any, list_all}
 use Rattle.std.specs.Ordering.{eq_by_cmp}
 use Rattle.std.proofs.Common.{sym, ap, ◌∙◌, true≢false, inl, inr}
@@ -23,8 +22,7 @@ use Rattle.ddp_messages.specs.declared.fault.MsgFault.TheVariants.{Parse, BadReq
 use Rattle.ddp_messages.specs.ServerMessage as server
 use Rattle.ddp_messages.specs.ServerMessage.{ServerMessage}
 use Rattle.client_model.specs.Client.{Call, Client, new_client}
-use Rattle.client_model.specs.Taking.{max_server_text, numbers_of, awaits_update, call_at, outcome_by, with_outcome, with_update, documents_in,
-    calls_in, told_message, message_refusal, breaks, told_unless, told_answer, told_text}
+use Rattle.client_model.specs.Taking.{max_server_text, numbers_of, awaits_update, call_at, outcome_by, with_outcome, with_update, documents_in, calls_in, told_message, message_refusal, breaks, told_unless, told_answer, told_text}
 use Rattle.client_model.specs.Asking.{called}
 use Rattle.client_model.specs.Showing.{IsShown, IsHeldOn, all_told}
 use Rattle.client_model.specs.HeldLaws.{updated_once, holds_too, touched_held, holds_on}
@@ -75,7 +73,7 @@ texts_shown c (t ∷ texts) w = texts_shown (told_text c t) texts (text_shown c 
 
 pub called_shown : (c : Client) (method : List ℕ) (params : List Val) (view : Rows) (keys : List Key) → IsSorted key_cmp view →
     ((q : Key) → list_any (eq_by_cmp key_cmp q) keys ≡ false → at key_cmp view q ≡ at key_cmp c.documents.view q) → IsShown c →
-        IsShown (called method params view keys c)
+    IsShown (called method params view keys c)
 called_shown c method params view keys sorted alone w = record {
   view = simulated_view key_order (suc (length c.calls)) view keys c.documents sorted alone w.view;
   awaited = λ k n h. new_awaits c.calls (record { outcome = None; is_updated = false }) n refl
@@ -149,6 +147,6 @@ answer_breaks c (Err Memory) n e none = λ i. record c { broken = e i }
 pub text_breaks : (c : Client) (t : List ℕ) (n : ℕ) → (told_text c t).broken ≡ Some n → c.broken ≡ None → told_text c t ≡ breaks n c
 text_breaks c t n e none = elim (nat_lt max_server_text (length t)) as
     (λ b. (cond b (breaks 1 c) (told_answer c (server_answer t))).broken ≡ Some n → cond b (breaks 1 c) (told_answer c (server_answer t)) ≡ breaks n c) [
-  | true ↦ λ e. λ i. record c { broken = e i }
-  | false ↦ λ e. answer_breaks c (server_answer t) n e none
-] e
+      | true ↦ λ e. λ i. record c { broken = e i }
+      | false ↦ λ e. answer_breaks c (server_answer t) n e none
+    ] e

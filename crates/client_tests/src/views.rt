@@ -2,8 +2,7 @@
 use crate::changing::{change, one_key};
 use ejson_codec::{parse, text};
 use ejson_value::{Contents, DataMsg, Doc, Key, Mem, Names, Publishes, Text, Value, copy_option};
-use minimongo::{View, ViewFault};
-use minimongo::{Originals, Save, Saves, ServeFault, Served};
+use minimongo::{Originals, Save, Saves, ServeFault, Served, View, ViewFault};
 use selector_match::Selector;
 use std::alloc::Global;
 use std::test::Fail;

@@ -11,4 +11,4 @@ pub record StoreState : Type 0 where
 abbrev pub state_code : Coded StoreState
 state_code =
     code_by (List (List ℕ) × Rows) (coded× (coded_list (coded_list coded_ℕ)) rows_code) (λ s. (s.names, s.rows))
-        (λ p. record { names = p.0; rows = p.1 }) (λ _. refl)
+    (λ p. record { names = p.0; rows = p.1 }) (λ _. refl)

@@ -1,6 +1,5 @@
 -- When each status of a run comes, and what was read and written then.
-use Rattle.std.specs.Prelude.{◌≡◌, ℕ, List, [], ◌∷◌, take, Bool, true, false, Option, None, Some, is_some, IfSome, codes, option_and_then, option_map,
-    if◌then◌else◌}
+use Rattle.std.specs.Prelude.{◌≡◌, ℕ, List, [], ◌∷◌, take, Bool, true, false, Option, None, Some, is_some, IfSome, codes, option_and_then, option_map, if◌then◌else◌}
 use Rattle.value_model.specs.Size.{is_name}
 use Rattle.io_edge.specs.Outside.{Grows}
 use Rattle.replay_core.specs.checking.Input.{IsWithin, IsTooLong}

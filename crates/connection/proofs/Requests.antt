@@ -14,7 +14,8 @@ use Rattle.connection.specs.session_laws.Events.{Closes}
 use Rattle.connection.specs.world_model.Asks.{Ask}
 use Rattle.connection.specs.world_model.Asks as ask
 use Rattle.connection.specs.connection_laws.Connection.{AConnection, IsConnection}
-use Rattle.connection.specs.connection_laws.Asks.{subscribe_makes, unsubscribe_makes, call_makes, raw_makes, drop_made, gone_asked}
+use Rattle.connection.specs.connection_laws.AsksLaws.{subscribe_makes, unsubscribe_makes, call_makes, raw_makes}
+use Rattle.connection.specs.connection_laws.AsksLaws.{drop_made, gone_asked}
 use Rattle.connection.specs.declared.side.Side.{Side}
 use Rattle.connection.specs.Kept.{seen}
 use Rattle.connection.specs.Answers.{DoesAsked}

@@ -28,9 +28,10 @@ use Rattle.connection.specs.world_model.Acts.{is_kept}
 use Rattle.connection.specs.world_invariant_laws.Session.{IsServed}
 use Rattle.connection.specs.connection_laws.Connection.{AConnection, as_conn, IsConnection}
 use Rattle.connection.specs.connection_laws.Acting.{with_session, refusal_learnt, IsDone}
-use Rattle.connection.specs.connection_laws.Standing.{state_is, idle_of}
+use Rattle.connection.specs.connection_laws.StandingLaws.{state_is, idle_of}
 use Rattle.connection.specs.connection_laws.Links.{gone_idle}
-use Rattle.connection.specs.connection_laws.Beginning.{begin_none, begin_begun, begin_refused, begin_makes, step_makes, may_begin}
+use Rattle.connection.specs.connection_laws.BeginningLaws.{begin_begun, begin_refused, begin_makes}
+use Rattle.connection.specs.connection_laws.BeginningLaws.{begin_none, step_makes, may_begin}
 use Rattle.connection.specs.connection_laws_for_proofs.Learning.{learn_makes, learn_past, learn_unbegun, refuse_makes}
 use Rattle.connection.specs.connection_laws_for_proofs.Showing.{load_makes, load_past, advance_makes, advance_unloaded, advance_past, feed_makes}
 use Rattle.connection.specs.declared.side.Refusal.{Refusal}

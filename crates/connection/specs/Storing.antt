@@ -60,22 +60,22 @@ Learns app history k at old new (Err e) = new ≡ old
 abbrev pub LearnsFrom : {E : Type 0} → ℕ → Status → AConnection → AConnection → Result Answer E → Type 0
 LearnsFrom k status old new (Ok o) =
     (app : App) (name : List ℕ) (history : List Entry) (at : ℕ) → at ≤ length history →
-        status_at (programs app) history at old.session.carried.number k ≡ Some status → IsConnection app name history old →
-        Acts app name history (act.Learn k at) old new o
+    status_at (programs app) history at old.session.carried.number k ≡ Some status → IsConnection app name history old →
+    Acts app name history (act.Learn k at) old new o
 LearnsFrom k status old new (Err e) = new ≡ old
 
 -- these are the documents of the place
 abbrev pub LoadsFrom : {E : Type 0} → ℕ → ℕ → Rows → AConnection → AConnection → Result Answer E → Type 0
 LoadsFrom sub at rows old new (Ok o) =
     (app : App) (name : List ℕ) (history : List Entry) → at ≤ length history → rows ≡ (held_at (programs app) history at).rows →
-        IsConnection app name history old → Acts app name history (act.Load sub at) old new o
+    IsConnection app name history old → Acts app name history (act.Load sub at) old new o
 LoadsFrom sub at rows old new (Err e) = new ≡ old
 
 -- these are the changes of so many entries behind the place that the subscription shows
 abbrev pub AdvancesBy : {E : Type 0} → ℕ → ℕ → ℕ → List Change → AConnection → AConnection → Result Answer E → Type 0
 AdvancesBy sub from count changes old new (Ok o) =
     (app : App) (name : List ℕ) (history : List Entry) → cursor_of sub old.session.carried.own.subs ≡ Some from → from + count ≤ length history →
-        length history < 18446744073709551616 → changes ≡ changes_between (programs app) history from count →
+    length history < 18446744073709551616 → changes ≡ changes_between (programs app) history from count →
     IsConnection app name history old → Acts app name history (act.Advance sub count) old new o
 AdvancesBy sub from count changes old new (Err e) = new ≡ old
 
@@ -83,5 +83,5 @@ AdvancesBy sub from count changes old new (Err e) = new ≡ old
 abbrev pub FeedsBy : {E : Type 0} → ℕ → ℕ → List Publish → AConnection → AConnection → Result Answer E → Type 0
 FeedsBy sub count news old new (Ok o) =
     (app : App) (name : List ℕ) (history : List Entry) → IsFeed (moments app old.session.carried.number history) sub count news old.session →
-        length history < 18446744073709551616 → IsConnection app name history old → Acts app name history (act.Advance sub count) old new o
+    length history < 18446744073709551616 → IsConnection app name history old → Acts app name history (act.Advance sub count) old new o
 FeedsBy sub count news old new (Err e) = new ≡ old

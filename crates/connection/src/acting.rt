@@ -4,12 +4,12 @@ ghost use Rattle.connection.specs.world_model.declared.events.Act.TheVariants as
 ghost use Rattle.connection.specs.Kept.{seen, IsKept};
 ghost use Rattle.connection.specs.Answers.{Answers, Takes, IsRefusal};
 
-use crate::side::Side;
-use ejson_value::Mem;
-use heard_messages::Heard;
 use crate::EventFault;
 use crate::client_core::TakeFault;
+use crate::side::Side;
 use crate::world_model::Answer;
+use ejson_value::Mem;
+use heard_messages::Heard;
 
 /// What an event of the session that is refused is answered.
 pub(crate) fn refused(fault: EventFault) -> Result<Answer, Mem>

@@ -5,10 +5,10 @@ ghost use Rattle.connection.specs.world_model.declared.events.Act.TheVariants as
 ghost use Rattle.connection.specs.Acting.{ActsOver, TellsOver};
 
 use crate::connection::Connection;
+use crate::store_machine::Machine;
+use crate::world_model::{Act, Answer};
 use ejson_value::Mem;
 use heard_messages::Heard;
-use crate::world_model::{Act, Answer};
-use crate::store_machine::Machine;
 
 // The client takes a text.
 fn take(

@@ -7,9 +7,9 @@ ghost use Rattle.connection.specs.connection_laws.Connection.{IsConnection};
 ghost use Rattle.connection.specs.Kept.{seen, IsKept};
 ghost use Rattle.connection.specs.Answers.{Does, DoesAsked};
 
+use crate::client_core::ClientFault;
 use crate::side::Side;
 use ejson_value::{Items, Mem, Text};
-use crate::client_core::ClientFault;
 
 /// The client subscribes with this id to the publication of this name. Whether it could.
 pub(crate) fn subscribe(

@@ -2,8 +2,8 @@
 ghost use Rattle.connection.specs.Acting.{AsksFor};
 
 use crate::connection::Connection;
-use ejson_value::Mem;
 use crate::world_model::Event;
+use ejson_value::Mem;
 
 /// Asks the client for what the event says, and answers whether it could be done; an event that asks
 /// a client for nothing does nothing.

@@ -17,11 +17,11 @@ mod side;
 mod storing;
 mod texts;
 
-pub use session_state;
 pub use acts::act;
 pub use asks::ask;
 pub use connection::Connection;
-pub use connection_laws::{client_core, world_model, store_machine};
+pub use connection_laws::{client_core, store_machine, world_model};
 pub use lines::journal_lines;
 pub use naming::named;
 pub use session_core::{Call, EventFault, Session, history_log};
+pub use session_state;

@@ -8,8 +8,8 @@ ghost use Rattle.connection.specs.connection_laws.Connection.{as_conn, IsConnect
 ghost use Rattle.connection.specs.Named.{place_at, count_at, load_named, advance_named, named_at};
 
 use crate::connection::Connection;
-use ejson_value::{Text, Whole};
 use crate::world_model::{Act, Event};
+use ejson_value::{Text, Whole};
 
 // The number, if it isn't below 0.
 fn natural(number: Whole) -> Option<u64>

@@ -4,10 +4,10 @@ ghost use Rattle.connection.specs.world_model.Lines.{line_text};
 ghost use Rattle.connection.specs.connection_laws.Printing.{kept_journal};
 ghost use Rattle.connection.specs.Kept.{seen, IsKept};
 
+use crate::journal_lines;
 use crate::side::Side;
 use ejson_codec::Lines;
 use ejson_value::Mem;
-use crate::journal_lines;
 
 /// A line for each item of the session's journal, and behind it one for each text that the item says.
 pub(crate) fn journal(side: &Side) -> Result<Lines, Mem>

@@ -1,7 +1,7 @@
 //! What is kept of a client with its session.
-use crate::link::Link;
 use crate::Session;
 use crate::client_core::Client;
+use crate::link::Link;
 use std::alloc::Global;
 
 /// A call that the store had no room for: its number, and how many entries the history had then.

@@ -15,17 +15,17 @@ ghost use Rattle.connection.specs.Kept.{as_refusal, seen, IsKept};
 ghost use Rattle.connection.specs.Answers.{AnswersIn};
 ghost use Rattle.connection.specs.Storing.{Tries, Begins, StepsOn, Learns, LearnsFrom, LoadsFrom, AdvancesBy, FeedsBy};
 
+use crate::Call;
 use crate::acting::refused;
+use crate::history_log::Batch;
+use crate::session_state::{cursor_of, may_load};
 use crate::side::{Refusal, Side};
+use crate::store_machine::{BeginFault, Machine};
+use crate::world_model::Answer;
 use ejson_value::{Contents, Mem, Publishes};
 use known_texts::KnownTexts;
 use program_steps::Status;
 use selector_match::Steps;
-use crate::Call;
-use crate::world_model::Answer;
-use crate::history_log::Batch;
-use crate::session_state::{cursor_of, may_load};
-use crate::store_machine::{BeginFault, Machine};
 use std::marker::Brand;
 use std::sync::ledger::{Blank, Ledger};
 

@@ -1,6 +1,5 @@
 -- What a session learns of a call.
-use Rattle.std.specs.Prelude.{◌≡◌, ℕ, ◌≤◌, List, [], length, map, Bool, true, false, cond, ◌&&◌, ◌||◌, nat_le, Option, None, Some, IfSome, is_some,
-    option_map, Ok, Err, refl}
+use Rattle.std.specs.Prelude.{◌≡◌, ℕ, ◌≤◌, List, [], length, map, Bool, true, false, cond, ◌&&◌, ◌||◌, nat_le, Option, None, Some, IfSome, is_some, option_map, Ok, Err, refl}
 use Rattle.std.proofs.Common.{ap, ap₂, sym, subst, ◌∙◌}
 use Rattle.std.proofs.lemmas.Bool.{and_parts, le-leb, eqb-true, eq-eqb}
 use Rattle.merge_model.specs.Publishing.{apply}
@@ -27,13 +26,14 @@ use Rattle.world_invariant_laws.specs.world_model.declared.events.Answer.TheVari
 use Rattle.world_invariant_laws.specs.world_model.Store.{programs, moments}
 use Rattle.world_invariant_laws.specs.world_model.Conn.{Refusal, state_in, is_at_work as is_at_work_of}
 use Rattle.world_invariant_laws.specs.world_model.Acts.{with_item, is_kept, is_running, news_of, news_by, learnt, learns_item, enabled, outcome}
-use Rattle.world_invariant_laws.specs.Places.{ended_there}
+use Rattle.world_invariant_laws.specs.PlacesLaws.{ended_there}
 use Rattle.world_invariant_laws.specs.Moments.{run_there}
 use Rattle.world_invariant_laws.specs.Session.{IsRefusal, IsServed}
 use Rattle.world_invariant_laws.specs.Begun.{runs_of}
 use Rattle.connection_laws.specs.Connection.{AConnection, waiting_of, as_conn, IsConnection}
 use Rattle.connection_laws.specs.Acting.{with_session, refusal_learnt, Makes}
-use Rattle.connection_laws.specs.Standing.{state_is, at_work_is, idle_of, IsMade, made}
+use Rattle.connection_laws.specs.Standing.{IsMade}
+use Rattle.connection_laws.specs.StandingLaws.{state_is, at_work_is, idle_of, made}
 use Rattle.connection_laws.specs.OneMore.{HasOne, has_one, one_more, one_stays}
 
 right_false : (b : Bool) → (b && false) ≡ false
@@ -78,7 +78,7 @@ some_news : (st : State) (k : ℕ) (status : Status) →
 some_news st k status =
     ap (λ b. is_some (cond b (news_of st k status.unblocked status.ended) None)) (same_running (phase_at k st.methods))
     ∙ elim (runs (phase_at k st.methods)) as
-        (λ b. is_some (cond b (news_of st k status.unblocked status.ended) None) ≡ (b && has_news status (is_blocked_by k st.blocking))) [
+    (λ b. is_some (cond b (news_of st k status.unblocked status.ended) None) ≡ (b && has_news status (is_blocked_by k st.blocking))) [
       | true ↦ ended_news st k status.unblocked status.ended
       | false ↦ refl
     ]
@@ -130,7 +130,7 @@ module _ (app : App) (name : List ℕ) (history : List Entry) (old : AConnection
     learns_made : (i : Item) (words : List ServerMessage) → resolved old.session.carried.app old.session.carried.number old.received (kept_as 0 i) ≡ i →
         HasLearnt i words old.session s →
         Means old.received (moments app old.session.carried.number history) old.sent s → learnt app history (as_conn old) k place ≡ Some i →
-            IsMade app name history (act.Learn k place) old (with_session s old)
+        IsMade app name history (act.Learn k place) old (with_session s old)
     learns_made i words reads l m e = record {
       does =
           learnt_does app name history old p s i words reads l m old.kept
@@ -198,7 +198,7 @@ module _ (app : App) (name : List ℕ) (history : List Entry) (old : AConnection
         does =
             learnt_does app name history old p s i words refl q.done m None
             ∙ ap₂ (λ (b : Bool) (o : Option Item). learns_item app history (record (as_conn old) { kept = cond b None old.kept }) o)
-                (sym (ap (is_kept k) is ∙ its)) (sym refused_is);
+            (sym (ap (is_kept k) is ∙ its)) (sym refused_is);
         stays = learnt_stays app name history old p s i words refl q.done m None;
       })
   refuse_makes (Err e) q = made app name history (act.Learn k place) old (refusal_learnt s old) p (can_refuse k old.session) refuse_enabled refl refl

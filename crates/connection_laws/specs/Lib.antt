@@ -1,14 +1,18 @@
 pub mod Connection
 pub mod Acting
 pub mod Standing
+pub mod StandingLaws
 pub mod OneMore
 pub mod Links
 pub mod Asks
+pub mod AsksLaws
 pub mod Receiving
 pub mod Learning
 pub mod Showing
 pub mod Beginning
+pub mod BeginningLaws
 pub mod Printing
+pub mod PrintingLaws
 -- what lies below, for the crates above
 pub mod client_core
 pub mod client_core_for_proofs

@@ -1,6 +1,5 @@
 -- The acts that move texts between a client and its session.
-use Rattle.std.specs.Prelude.{◌≡◌, ◌⊎◌, ℕ, List, [], ◌∷◌, ◌++◌, length, Bool, true, false, not, ◌&&◌, nat_lt, nat_le, Option, None, Some, is_none,
-    is_some, Result, Ok, Err, refl}
+use Rattle.std.specs.Prelude.{◌≡◌, ◌⊎◌, ℕ, List, [], ◌∷◌, ◌++◌, length, Bool, true, false, not, ◌&&◌, nat_lt, nat_le, Option, None, Some, is_none, is_some, Result, Ok, Err, refl}
 use Rattle.std.proofs.Common.{ap, ap₂, sym, subst, ◌∙◌, inl, inr}
 use Rattle.std.proofs.lemmas.Bool.{and_parts}
 use Rattle.app_model.specs.App.{App}
@@ -26,7 +25,7 @@ use Rattle.world_invariant_laws.specs.world_model.Conn.{state_in, link_limit, ou
 use Rattle.world_invariant_laws.specs.world_model.Acts.{unbegun, learnt, may_advance, goes_up, sends, takes, enabled, outcome}
 use Rattle.connection_laws.specs.Connection.{AConnection, as_conn, IsConnection}
 use Rattle.connection_laws.specs.Acting.{gone_up, sent_on, taken_off, IsDone}
-use Rattle.connection_laws.specs.Standing.{idle_of, done_of}
+use Rattle.connection_laws.specs.StandingLaws.{idle_of, done_of}
 
 right_false : (b : Bool) → (b && false) ≡ false
 right_false true = refl
@@ -74,7 +73,7 @@ pub up_none : (app : App) (history : List Entry) (old : AConnection) (own : Own)
     outcome app history (as_conn old) act.Up ≡ answer.Idle
 up_none app history old own s =
     idle_of app history (as_conn old) act.Up
-        (ap (λ (ts : List (List ℕ)). not old.is_dropped && has_some ts && nat_lt (length old.upward) link_limit) s.0 ∙ both_false (not old.is_dropped) (nat_lt (length old.upward) link_limit))
+    (ap (λ (ts : List (List ℕ)). not old.is_dropped && has_some ts && nat_lt (length old.upward) link_limit) s.0 ∙ both_false (not old.is_dropped) (nat_lt (length old.upward) link_limit))
 
 pub up_full : (app : App) (history : List Entry) (old : AConnection) → nat_lt (length old.upward) link_limit ≡ false →
     outcome app history (as_conn old) act.Up ≡ answer.Idle
@@ -184,10 +183,10 @@ gone_idle app history old (act.Learn k place) gone e =
     idle_of app history (as_conn old) (act.Learn k place) (ap (λ b. b && is_some (learnt app history (as_conn old) k place)) (no_work old gone))
 gone_idle app history old (act.Load sub place) gone e =
     idle_of app history (as_conn old) (act.Load sub place)
-        (ap (λ b. b && nat_le place (length history) && may_load sub place (state_in (as_conn old)).subs) (no_work old gone))
+    (ap (λ b. b && nat_le place (length history) && may_load sub place (state_in (as_conn old)).subs) (no_work old gone))
 gone_idle app history old (act.Advance sub count) gone e =
     idle_of app history (as_conn old) (act.Advance sub count)
-        (ap (λ b. b && may_advance (length history) count (cursor_of sub (state_in (as_conn old)).subs)) (no_work old gone))
+    (ap (λ b. b && may_advance (length history) count (cursor_of sub (state_in (as_conn old)).subs)) (no_work old gone))
 gone_idle app history old act.Send gone e = idle_of app history (as_conn old) act.Send
     (ap (λ d. not d && has_some old.session.carried.outbox && nat_lt (length old.downward) link_limit) gone)
 gone_idle app history old act.Take gone e =

@@ -50,7 +50,7 @@ pub has_one : (app : App) (history : List Entry) (received : List (List ℕ)) (p
     (id : Option (List ℕ)) (call : Call Key Entries) (state : State) (words : List ServerMessage) →
     HasAdded (kept_as place i) id call state words old.session s → items_of received old.session.carried ≡ items_of old.received old.session.carried →
     resolved old.session.carried.app old.session.carried.number received (kept_as place i) ≡ i →
-        Means received (moments app old.session.carried.number history) old.sent s → HasOne app history received place i old s
+    Means received (moments app old.session.carried.number history) old.sent s → HasOne app history received place i old s
 has_one app history received place i old s id call state words a same reads m = record {
   served = a.added.app;
   number = a.added.number;
@@ -80,7 +80,7 @@ module _ (app : App) (name : List ℕ) (history : List Entry) (received : List (
   -- so it is the world's session with the item
   pub one_more : (upward : List (List ℕ)) (queue : List Waiting) (kept : Option Refusal) → waiting_of s.carried.waiting s.bytes ≡ queue →
       as_conn (record old { upward = upward; session = s; received = received; kept = kept }) ≡ with_item app history
-          (record (as_conn old) { upward = upward; received = received; queue = queue; kept = kept }) i
+      (record (as_conn old) { upward = upward; received = received; queue = queue; kept = kept }) i
   one_more upward queue kept waits = λ j. record (as_conn old) {
     upward = upward;
     number = o.number j;

@@ -19,18 +19,17 @@ use Rattle.session_laws.specs.Session.{ASession, is_at_work, can_handle}
 use Rattle.session_laws.specs.Storing.{kept_as, shown_id}
 use Rattle.session_laws.specs.Meaning.{AreFrom, Means}
 use Rattle.session_laws.specs.Events.{Outcome, IsTakenAs, IsAnswered, IsCrowdedOut, KeepsTaking, Takes, plain_call, Keeps, HasHandled, Handles}
-use Rattle.session_laws.specs.Taking.{answered_once, once_resolved}
+use Rattle.session_laws.specs.TakingLaws.{answered_once, once_resolved}
 use Rattle.session_laws.specs.Handled.{read_back}
 use Rattle.world_invariant_laws.specs.world_model.declared.events.Act.TheVariants as act
 use Rattle.world_invariant_laws.specs.world_model.declared.events.Answer.TheVariants as answer
 use Rattle.world_invariant_laws.specs.world_model.Store.{moments}
 use Rattle.world_invariant_laws.specs.world_model.Conn.{is_at_work as is_at_work_of, has_some}
-use Rattle.world_invariant_laws.specs.world_model.Acts.{with_item, received_as, receives, handles, is_crowded_out, is_crowded_by, enabled,
-    is_queue_full, outcome}
+use Rattle.world_invariant_laws.specs.world_model.Acts.{with_item, received_as, receives, handles, is_crowded_out, is_crowded_by, enabled, is_queue_full, outcome}
 use Rattle.connection_laws.specs.Connection.{AConnection, waiting_of, as_conn, AreKeptOf, IsConnection}
 use Rattle.connection_laws.specs.Acting.{with_session, taken_in, Makes}
-use Rattle.connection_laws.specs.Standing.{queue_more, and_assoc, state_is, at_work_is, full_is, crowded_is, waits_is, idle_of, full_of, crowded_of,
-    done_of, IsMade, made}
+use Rattle.connection_laws.specs.Standing.{IsMade}
+use Rattle.connection_laws.specs.StandingLaws.{queue_more, and_assoc, state_is, at_work_is, full_is, crowded_is, waits_is, idle_of, full_of, crowded_of, done_of, made}
 use Rattle.connection_laws.specs.OneMore.{HasOne, has_one, one_more, one_stays}
 
 and_true : (b : Bool) → (b && true) ≡ b
@@ -71,16 +70,16 @@ module _ (app : App) (name : List ℕ) (history : List Entry) (old : AConnection
       let now : taken_text (is_connected_by false old.received) t ≡ at_once i = ap (λ c. taken_text c t) connected ∙ is in
       let reads : resolved o.app o.number (old.received ++ t ∷ []) (kept_as o.taken i) ≡ i =
       ap (λ n. resolved o.app o.number (old.received ++ t ∷ []) (kept_as n i)) p.means.stands.count
-          ∙ once_resolved o.app o.number old.received t i (answered_once o.own.connected t i is) now in
+      ∙ once_resolved o.app o.number old.received t i (answered_once o.own.connected t i is) now in
       has_one app history (old.received ++ t ∷ []) o.taken i old s (shown_id i) (apply 0 []) (own_after o.own i)
-          (own_messages [] o.number o.own i) a.done same_items reads
+      (own_messages [] o.number o.own i) a.done same_items reads
       (keeps old.received (moments app o.number history) old.sent p.means)
 
   taken_does : (x : Taken) → read ≡ x → KeepsTaking t old.session s → IsTakenAs x (length t) old.session s →
       as_conn (taken_in t ts s old) ≡ received_as app history (record (as_conn old) { upward = ts; received = old.received ++ t ∷ [] }) (length t) x
   taken_does (at_once i) is keeps a =
       one_more app name history (old.received ++ t ∷ []) old.session.carried.taken i old s p (answered_one i is keeps a) ts
-          (as_conn old).queue old.kept (ap₂ waiting_of a.waiting a.bytes)
+      (as_conn old).queue old.kept (ap₂ waiting_of a.waiting a.bytes)
   taken_does (to_queue message) is keeps a =
       ap (λ (x : ASession). as_conn (taken_in t ts x old)) a.1
       ∙ (λ j. record (as_conn old) {
@@ -94,7 +93,7 @@ module _ (app : App) (name : List ℕ) (history : List Entry) (old : AConnection
       IsConnection app name history (taken_in t ts s old)
   taken_stays (at_once i) is keeps a =
       one_stays app name history (old.received ++ t ∷ []) old.session.carried.taken i old s p (answered_one i is keeps a) ts old.kept
-          (ap length a.bytes ∙ (p.bytes ∙ ap length (sym a.waiting)))
+      (ap length a.bytes ∙ (p.bytes ∙ ap length (sym a.waiting)))
   taken_stays (to_queue message) is keeps a =
       let n = old.session.carried.number in
       let m : Means (old.received ++ t ∷ []) (moments app n history) old.sent s = keeps old.received (moments app n history) old.sent p.means in
@@ -131,7 +130,7 @@ module _ (app : App) (name : List ℕ) (history : List Entry) (old : AConnection
   recv_makes (Err fault.JournalFull) r = full_of app history (as_conn old) act.Recv (recv_enabled ∙ r.cause.0) (full_is app name history old p ∙ r.cause.1)
   recv_makes (Err fault.QueueFull) r =
       crowded_of app history (as_conn old) act.Recv (recv_enabled ∙ r.cause.enabled) (full_is app name history old p ∙ r.cause.room)
-          (recv_crowded ∙ taken_crowded read r.cause.crowded)
+      (recv_crowded ∙ taken_crowded read r.cause.crowded)
   recv_makes (Err fault.Memory) r = tt
 
 -- where no text lies there, none is taken
@@ -147,7 +146,7 @@ module _ (app : App) (name : List ℕ) (history : List Entry) (old : AConnection
       let work = is_at_work old.session in
       let waits = not (length old.session.carried.waiting == 0) in
       ap₂ (λ (x : Bool) (st : State). x && is_none st.blocking)
-          (ap₂ (λ (x y : Bool). x && y) (at_work_is app name history old p) (waits_is app name history old p)) (state_is app name history old p)
+      (ap₂ (λ (x y : Bool). x && y) (at_work_is app name history old p) (waits_is app name history old p)) (state_is app name history old p)
       ∙ and_assoc work waits (is_none old.session.carried.own.blocking)
 
   handled_made : (places : List ℕ) (ms : List ClientMessage) (bytes : List ℕ) → old.session.places ≡ places → old.session.carried.waiting ≡ ms →
@@ -163,7 +162,7 @@ module _ (app : App) (name : List ℕ) (history : List Entry) (old : AConnection
       let reads : resolved o.app o.number old.received (kept_as place i) ≡ i = read_back o.app o.number old.received place o.own m from.0.waits from.0.says in
       let one : HasOne app history old.received place i old s =
       has_one app history old.received place i old s (shown_id i) (plain_call i) (own_after o.own i)
-          (own_messages [] o.number o.own i) h.done refl reads (keeps old.received (moments app o.number history) old.sent p.means) in
+      (own_messages [] o.number o.own i) h.done refl reads (keeps old.received (moments app o.number history) old.sent p.means) in
       let waiting : s.carried.waiting ≡ ms = h.waiting ∙ ap (drop 1) em in
       let left : s.bytes ≡ bytes = h.bytes ∙ ap (drop 1) eb in
       let queue : (as_conn old).queue ≡ record { message = m; bytes = n } ∷ waiting_of ms bytes = ap₂ waiting_of em eb in

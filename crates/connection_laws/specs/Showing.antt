@@ -1,6 +1,5 @@
 -- A subscription that is loaded, and one that goes on.
-use Rattle.std.specs.Prelude.{◌≡◌, ℕ, zero, suc, ◌+◌, ◌<◌, ◌≤◌, ◌==◌, List, [], ◌∷◌, length, take, Bool, true, false, cond, ◌&&◌, ◌||◌, nat_lt,
-    nat_le, Option, None, Some, is_some, Ok, Err, refl}
+use Rattle.std.specs.Prelude.{◌≡◌, ℕ, zero, suc, ◌+◌, ◌<◌, ◌≤◌, ◌==◌, List, [], ◌∷◌, length, take, Bool, true, false, cond, ◌&&◌, ◌||◌, nat_lt, nat_le, Option, None, Some, is_some, Ok, Err, refl}
 use Rattle.std.proofs.Common.{ap, ap₂, sym, subst, ◌∙◌, arith}
 use Rattle.std.proofs.lemmas.Bool.{ne_eqb, le-leb, lt-leb, lt-ltb}
 use Rattle.map_model.specs.Changes.{Leads}
@@ -37,12 +36,14 @@ use Rattle.world_invariant_laws.specs.world_model.Acts.{with_item, may_advance, 
 use Rattle.world_invariant_laws.specs.Moments.{moments_length, moment_there}
 use Rattle.world_invariant_laws.specs.publication.Published.{published}
 use Rattle.session_laws.specs.live_observer.Observing.{IsDifference, HaveNoLimit}
-use Rattle.world_invariant_laws.specs.session_journal_laws.Longer.{IsPlace, AreWithin, within_from}
+use Rattle.world_invariant_laws.specs.session_journal_laws.Longer.{IsPlace, AreWithin}
+use Rattle.world_invariant_laws.specs.session_journal_laws.LongerLaws.{within_from}
 use Rattle.session_laws.specs.session_journal_laws.Stands.{items_of}
 use Rattle.session_laws.specs.Differences.{difference_leads}
 use Rattle.connection_laws.specs.Connection.{AConnection, waiting_of, as_conn, IsConnection}
 use Rattle.connection_laws.specs.Acting.{with_session, Makes}
-use Rattle.connection_laws.specs.Standing.{state_is, at_work_is, idle_of, IsMade, made}
+use Rattle.connection_laws.specs.Standing.{IsMade}
+use Rattle.connection_laws.specs.StandingLaws.{state_is, at_work_is, idle_of, made}
 use Rattle.connection_laws.specs.OneMore.{HasOne, has_one, one_more, one_stays}
 
 right_false : (b : Bool) → (b && false) ≡ false
@@ -100,7 +101,7 @@ module _ (app : App) (name : List ℕ) (history : List Entry) (old : AConnection
     load_enabled le =
         ap₂ (λ (x : Bool) (st : State). x && may_load sub place st.subs)
         (ap₂ (λ (w b : Bool). w && b) (at_work_is app name history old p) (le-leb place (length history) le) ∙ true_right (is_at_work old.session))
-            (state_is app name history old p)
+        (state_is app name history old p)
 
     -- the documents of a place are those that the first entries lead to
     snapshot : (rows : Rows) → place ≤ length history → rows ≡ (held_at (programs app) history place).rows → IsSnapshot C place rows
@@ -124,7 +125,7 @@ module _ (app : App) (name : List ℕ) (history : List Entry) (old : AConnection
   goes_on start (suc n) le few =
       ap₂ (λ (a b : Bool). a && b) (lt-ltb 0 (suc n) (omega arith)) (le-leb (start + suc n) (length history) le)
       ∙ ap₂ (λ (a b : Bool). is_some (cond (a || b) None (Some (start + suc n)))) (sym (ne_eqb (suc n) 0 (λ is. omega (arith, is))))
-          (sym (lt-leb 18446744073709551616 (start + suc n) (omega (arith, le, few))))
+      (sym (lt-leb 18446744073709551616 (start + suc n) (omega (arith, le, few))))
 
   at_work_on : (w : Bool) (o : Option ℕ) → (w && is_some o) ≡ is_some (cond w o None)
   at_work_on true o = refl
@@ -135,7 +136,7 @@ module _ (app : App) (name : List ℕ) (history : List Entry) (old : AConnection
         length history < 18446744073709551616 → enabled app history (as_conn old) (act.Advance sub count) ≡ can_advance sub count old.session
     advance_enabled start is le few =
         ap₂ (λ (w : Bool) (o : Option ℕ). w && may_advance (length history) count o) (at_work_is app name history old p)
-            (ap (λ (st : State). cursor_of sub st.subs) (state_is app name history old p) ∙ is)
+        (ap (λ (st : State). cursor_of sub st.subs) (state_is app name history old p) ∙ is)
         ∙ (ap (λ b. is_at_work old.session && b) (goes_on start count le few)
         ∙ (at_work_on (is_at_work old.session) (place_on (Some start) count)
         ∙ ap (λ (o : Option ℕ). is_some (cond (is_at_work old.session) (place_on o count) None)) (sym is)))
@@ -160,14 +161,14 @@ module _ (app : App) (name : List ℕ) (history : List Entry) (old : AConnection
     pub advance_makes : (start : ℕ) (changes : List Change) → cursor_of sub old.session.carried.own.subs ≡ Some start → start + count ≤ length history →
         length history < 18446744073709551616 →
         changes ≡ changes_between (programs app) history start count → (result : Outcome) → Advances sub start count changes old.session s result →
-            Makes app name history (act.Advance sub count) old (with_session s old) result
+        Makes app name history (act.Advance sub count) old (with_session s old) result
     advance_makes start changes is le few made_by (Ok u) r =
         made app name history (act.Advance sub count) old (with_session s old) p (can_advance sub count old.session)
-            (advance_enabled start is le few) refl refl (Ok u) r.enabled tt
+        (advance_enabled start is le few) refl refl (Ok u) r.enabled tt
         (shown_made (act.Advance sub count) (item.advance sub count) (apply sub (news_of r.done.news)) refl refl r.done.done r.done.waits (r.keeps old.received C old.sent p.means (batch start changes is le made_by)))
     advance_makes start changes is le few made_by (Err e) r =
         made app name history (act.Advance sub count) old (with_session s old) p (can_advance sub count old.session)
-            (advance_enabled start is le few) refl refl (Err e) tt r.cause tt
+        (advance_enabled start is le few) refl refl (Err e) tt r.cause tt
 
     fed_within : {news : List Publish} → (f : IsFeed C sub count news old.session) → f.from + count ≤ length history
     fed_within f = omega (arith, f.within, moments_length app old.session.carried.number history)
@@ -177,11 +178,11 @@ module _ (app : App) (name : List ℕ) (history : List Entry) (old : AConnection
         Feeds sub count news old.session s result → Makes app name history (act.Advance sub count) old (with_session s old) result
     feed_makes news f few (Ok u) r =
         made app name history (act.Advance sub count) old (with_session s old) p (can_advance sub count old.session)
-            (advance_enabled f.from f.loaded (fed_within f) few) refl refl (Ok u) r.enabled tt
+        (advance_enabled f.from f.loaded (fed_within f) few) refl refl (Ok u) r.enabled tt
         (shown_made (act.Advance sub count) (item.advance sub count) (apply sub (news_of news)) refl refl r.done.done r.done.waits (r.keeps old.received C old.sent p.means f))
     feed_makes news f few (Err e) r =
         made app name history (act.Advance sub count) old (with_session s old) p (can_advance sub count old.session)
-            (advance_enabled f.from f.loaded (fed_within f) few) refl refl (Err e) tt r.cause tt
+        (advance_enabled f.from f.loaded (fed_within f) few) refl refl (Err e) tt r.cause tt
 
 -- ---- where it is, and what it may be fed with
 
@@ -207,7 +208,7 @@ module _ (app : App) (name : List ℕ) (history : List Entry) (old : AConnection
   -- News with which what its cursors publish there becomes what they publish so many entries on feed it, where none of them has a limit.
   pub leading_feeds : (count : ℕ) (news : List Publish) → start + count ≤ length history → HaveNoLimit (cursors_at sub old.session) →
       renewed key_cmp (queried (cursors_at sub old.session) (held_at (programs app) history start).rows) (news_of news) ≡ queried
-          (cursors_at sub old.session) (held_at (programs app) history (start + count)).rows →
+      (cursors_at sub old.session) (held_at (programs app) history (start + count)).rows →
       IsFeed (moments app old.session.carried.number history) sub count news old.session
   leading_feeds count news le none leads =
       let n = old.session.carried.number in
@@ -227,7 +228,7 @@ module _ (app : App) (name : List ℕ) (history : List Entry) (old : AConnection
   -- So does the difference of what they publish there and so many entries on.
   pub difference_feeds : (count : ℕ) (news : List Publish) → start + count ≤ length history → HaveNoLimit (cursors_at sub old.session) →
       IsDifference (published (cursors_at sub old.session) (held_at (programs app) history start).rows)
-          (published (cursors_at sub old.session) (held_at (programs app) history (start + count)).rows) (news_of news) →
+      (published (cursors_at sub old.session) (held_at (programs app) history (start + count)).rows) (news_of news) →
       IsFeed (moments app old.session.carried.number history) sub count news old.session
   difference_feeds count news le none d =
       leading_feeds count news le none

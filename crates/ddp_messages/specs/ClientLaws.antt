@@ -7,10 +7,8 @@ use Rattle.value_model.specs.Size.{is_name}
 use Rattle.ejson_codec.specs.WrittenLaws.{name_is}
 use Rattle.ddp_messages.specs.Forms.{id_of, texts_of, value_of, values_of}
 use Rattle.ddp_messages.specs.Fields.{needed, optional, defaulted, name_of, IsNamed}
-use Rattle.ddp_messages.specs.FieldLaws.{map_some, and_then_some, map₂_some, map₃_some, map₄_some, by_test, map₂_from, map₃_from, map₄_from, id_back,
-    texts_back, value_back, values_back}
-use Rattle.ddp_messages.specs.ClientMessage.{ClientMessage, connect, ping, pong, sub, unsub, method, ClientReads, connect_reading, ping_reading,
-    pong_reading, sub_reading, unsub_reading, method_reading, client_named, client_reading}
+use Rattle.ddp_messages.specs.FieldLaws.{map_some, and_then_some, map₂_some, map₃_some, map₄_some, by_test, map₂_from, map₃_from, map₄_from, id_back, texts_back, value_back, values_back}
+use Rattle.ddp_messages.specs.ClientMessage.{ClientMessage, connect, ping, pong, sub, unsub, method, ClientReads, connect_reading, ping_reading, pong_reading, sub_reading, unsub_reading, method_reading, client_named, client_reading}
 use Rattle.ddp_messages.specs.Written.{client_written}
 use Rattle.ddp_messages.specs.Limits.{ClientKeepsLimits, ClientHasValues}
 
@@ -58,7 +56,7 @@ client_ok d m h = let p = and_then_some (client_named d) (name_of d) m h in name
 pub client_only : (d : Data) (m : ClientMessage) → ClientReads d m → client_reading d ≡ Some m
 client_only d (connect version support) h =
     ap (option_and_then (client_named d)) h.0
-        ∙ map₂_from connect (needed as_str (codes "version") d) (optional texts_of (codes "support") d) version support h.1 h.2
+    ∙ map₂_from connect (needed as_str (codes "version") d) (optional texts_of (codes "support") d) version support h.1 h.2
 client_only d (ping id) h = ap (option_and_then (client_named d)) h.0 ∙ ap (option_map ping) h.1
 client_only d (pong id) h = ap (option_and_then (client_named d)) h.0 ∙ ap (option_map pong) h.1
 client_only d (sub id name params) h =
@@ -68,7 +66,7 @@ client_only d (unsub id) h = ap (option_and_then (client_named d)) h.0 ∙ ap (o
 client_only d (method id name params seed) h =
     ap (option_and_then (client_named d)) h.0
     ∙ map₄_from method (needed id_of (codes "id") d) (needed as_str (codes "method") d) (defaulted [] values_of (codes "params") d)
-        (optional value_of (codes "randomSeed") d) id name params seed
+    (optional value_of (codes "randomSeed") d) id name params seed
     h.1 h.2 h.3 h.4
 
 -- ---- what was written is in the table

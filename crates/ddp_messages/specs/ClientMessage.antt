@@ -59,7 +59,7 @@ unsub_reading d = option_map unsub (needed id_of (codes "id") d)
 abbrev pub method_reading : Data → Option ClientMessage
 method_reading d =
     map₄ method (needed id_of (codes "id") d) (needed as_str (codes "method") d) (defaulted [] values_of (codes "params") d)
-        (optional value_of (codes "randomSeed") d)
+    (optional value_of (codes "randomSeed") d)
 
 abbrev pub client_named : Data → List ℕ → Option ClientMessage
 client_named d name =

@@ -80,7 +80,7 @@ server_exact (server.ready subs) h = (tt, (texts_exact subs, tt))
 server_exact (server.about message) h = data_exact message h
 server_exact (server.finished id fault value) h =
     present_exact (server_table (server.finished id fault value))
-        (if_mapped HasExactNumbers fault_written fault fault_exact, (tt, (tt, (value_exact value h, tt))))
+    (if_mapped HasExactNumbers fault_written fault fault_exact, (tt, (tt, (value_exact value h, tt))))
 server_exact (server.updated methods) h = (texts_exact methods, (tt, tt))
 server_exact (server.refused reason offending) h = present_exact (server_table (server.refused reason offending)) (tt, (value_exact offending h, (tt, tt)))
 server_exact server.unknown h = tt

@@ -76,7 +76,7 @@ pub ids_back : (ids : List (List ℕ)) → AreShort ids → each_of id_of (text_
 ids_back [] h = refl
 ids_back (id ∷ ids) h =
     ap (λ (o : Option (List ℕ)). with_first o (each_of id_of (text_items ids))) (id_back id h.0)
-        ∙ ap (option_map (λ (more : List (List ℕ)). id ∷ more)) (ids_back ids h.1)
+    ∙ ap (option_map (λ (more : List (List ℕ)). id ∷ more)) (ids_back ids h.1)
 
 pub value_back : (v : Val) → IsValue v → IsShallow v → value_of (written v) ≡ Some v
 value_back v is shallow = ap ok_of (reads_only max_levels (written v) v (reads_written v is) shallow)

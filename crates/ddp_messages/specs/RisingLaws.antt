@@ -23,8 +23,7 @@ use Rattle.ddp_messages.specs.ClientMessage.{ClientMessage}
 use Rattle.ddp_messages.specs.ClientMessage as client
 use Rattle.ddp_messages.specs.ServerMessage.{ServerMessage}
 use Rattle.ddp_messages.specs.ServerMessage as server
-use Rattle.ddp_messages.specs.Written.{Table, with_member, present, text_items, unless_empty, texts_tree, document_tree, fault_table, fault_written,
-    client_table, client_written, data_table, server_table, server_written}
+use Rattle.ddp_messages.specs.Written.{Table, with_member, present, text_items, unless_empty, texts_tree, document_tree, fault_table, fault_written, client_table, client_written, data_table, server_table, server_written}
 use Rattle.ddp_messages.specs.Limits.{ClientHasValues, DataHasValues, ServerHasValues}
 use Rattle.ddp_messages.specs.TextLaws.{Each, if_mapped}
 
@@ -146,7 +145,7 @@ server_rising (server.ready subs) h = of_table (server_table (server.ready subs)
 server_rising (server.about message) h = data_rising message h
 server_rising (server.finished id fault value) h =
     of_table (server_table (server.finished id fault value)) refl
-        (if_mapped HasRisingKeys fault_written fault rising_fault, (tt, (tt, (rising_optional value h, tt))))
+    (if_mapped HasRisingKeys fault_written fault rising_fault, (tt, (tt, (rising_optional value h, tt))))
 server_rising (server.updated methods) h = of_table (server_table (server.updated methods)) refl (rising_texts methods, (tt, tt))
 server_rising (server.refused reason offending) h = of_table (server_table (server.refused reason offending)) refl (tt, (rising_optional offending h, (tt, tt)))
 server_rising server.unknown h = of_table [] refl tt

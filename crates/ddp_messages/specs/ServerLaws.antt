@@ -16,11 +16,8 @@ use Rattle.ddp_messages.specs.Wire.{wire_of}
 use Rattle.ddp_messages.specs.WireLaws.{own_only}
 use Rattle.ddp_messages.specs.Forms.{id_of, document_id_of, texts_of, ids_of, value_of, document_of}
 use Rattle.ddp_messages.specs.Fields.{needed, optional, defaulted, name_of, IsNamed}
-use Rattle.ddp_messages.specs.FieldLaws.{map_some, map₂_some, map₃_some, by_test, map₂_from, map₃_from, id_back, ids_back, texts_back, value_back,
-    document_back}
-use Rattle.ddp_messages.specs.ServerMessage.{ServerMessage, connected, failed, ping, pong, nosub, ready, about, finished, updated, refused, unknown,
-    fault_of, HasKey, DataReads, server_names, is_known, ServerReads, key_reading, added_reading, changed_reading, removed_reading, nosub_reading,
-    result_reading, refused_with, error_reading, unknown_unless, server_named, server_reading}
+use Rattle.ddp_messages.specs.FieldLaws.{map_some, map₂_some, map₃_some, by_test, map₂_from, map₃_from, id_back, ids_back, texts_back, value_back, document_back}
+use Rattle.ddp_messages.specs.ServerMessage.{ServerMessage, connected, failed, ping, pong, nosub, ready, about, finished, updated, refused, unknown, fault_of, HasKey, DataReads, server_names, is_known, ServerReads, key_reading, added_reading, changed_reading, removed_reading, nosub_reading, result_reading, refused_with, error_reading, unknown_unless, server_named, server_reading}
 use Rattle.ddp_messages.specs.Written.{fault_written, server_written}
 use Rattle.ddp_messages.specs.Limits.{DataKeepsLimits, DataHasValues, ServerKeepsLimits, ServerHasValues}
 
@@ -172,7 +169,7 @@ server_only d (updated methods) h = to_named d (codes "updated") h.0 ∙ ap (opt
 server_only d (refused reason offending) h =
     to_named d (codes "error") h.0
     ∙ ap (option_map (refused_with (option_and_then value_of (get (codes "offendingMessage") d)))) h.1
-        ∙ ap (λ (o : Option Val). Some (refused reason o)) (sym h.2)
+    ∙ ap (λ (o : Option Val). Some (refused reason o)) (sym h.2)
 server_only d unknown h = unknown_only_at d (name_of d) refl h
 
 -- ---- what was written is in the table

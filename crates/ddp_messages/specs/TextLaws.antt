@@ -18,8 +18,7 @@ use Rattle.ddp_messages.specs.ClientMessage.{ClientMessage}
 use Rattle.ddp_messages.specs.ClientMessage as client
 use Rattle.ddp_messages.specs.ServerMessage.{ServerMessage}
 use Rattle.ddp_messages.specs.ServerMessage as server
-use Rattle.ddp_messages.specs.Written.{Table, with_member, present, text_items, unless_empty, texts_tree, document_tree, fault_written, client_table,
-    client_members, client_written, data_table, data_members, server_table, server_members, server_written}
+use Rattle.ddp_messages.specs.Written.{Table, with_member, present, text_items, unless_empty, texts_tree, document_tree, fault_written, client_table, client_members, client_written, data_table, data_members, server_table, server_members, server_written}
 use Rattle.ddp_messages.specs.Limits.{IsShallow, AreShallow, ClientKeepsLimits, DataKeepsLimits, ServerKeepsLimits}
 
 -- each tree of the table that is there is such
@@ -93,7 +92,7 @@ server_no_float (server.ready subs) = present_no_float (server_table (server.rea
 server_no_float (server.about message) = data_no_float message
 server_no_float (server.finished id fault value) =
     present_no_float (server_table (server.finished id fault value))
-        (if_mapped NoFloat fault_written fault fault_no_float, (refl, (refl, (if_mapped NoFloat written value has_float-written, tt))))
+    (if_mapped NoFloat fault_written fault fault_no_float, (refl, (refl, (if_mapped NoFloat written value has_float-written, tt))))
 server_no_float (server.updated methods) = present_no_float (server_table (server.updated methods)) (texts_no_float methods, (refl, tt))
 server_no_float (server.refused reason offending) =
     present_no_float (server_table (server.refused reason offending)) (refl, (if_mapped NoFloat written offending has_float-written, (refl, tt)))

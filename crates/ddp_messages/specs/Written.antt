@@ -76,7 +76,7 @@ told fault = fault.reason ++ codes " [" ++ fault.code ++ codes "]"
 abbrev pub fault_table : Fault → Table
 fault_table fault =
     (codes "error", text_tree fault.code) ∷ (codes "errorType", text_tree (codes "Meteor.Error")) ∷ (codes "message", text_tree (told fault)) ∷
-        (codes "reason", text_tree fault.reason) ∷ []
+    (codes "reason", text_tree fault.reason) ∷ []
 
 abbrev pub fault_written : Fault → Data
 fault_written fault = object (present (fault_table fault))
@@ -85,7 +85,7 @@ fault_written fault = object (present (fault_table fault))
 abbrev pub data_table : DataMsg → Table
 data_table (Added key fields) =
     (codes "collection", text_tree key.collection) ∷ (codes "fields", document_tree fields) ∷ (codes "id", text_tree (wire_of key.id)) ∷
-        (codes "msg", text_tree (codes "added")) ∷ []
+    (codes "msg", text_tree (codes "added")) ∷ []
 data_table (Changed key fields cleared) =
     (codes "cleared", unless_empty texts_tree cleared) ∷ (codes "collection", text_tree key.collection) ∷ (codes "fields", unless_empty document_tree fields)
     ∷ (codes "id", text_tree (wire_of key.id)) ∷ (codes "msg", text_tree (codes "changed")) ∷ []
@@ -103,7 +103,7 @@ server_table (server.ready subs) = (codes "msg", text_tree (codes "ready")) ∷ 
 server_table (server.about message) = data_table message
 server_table (server.finished id fault value) =
     (codes "error", option_map fault_written fault) ∷ (codes "id", text_tree id) ∷ (codes "msg", text_tree (codes "result")) ∷
-        (codes "result", option_map written value) ∷ []
+    (codes "result", option_map written value) ∷ []
 server_table (server.updated methods) = (codes "methods", texts_tree methods) ∷ (codes "msg", text_tree (codes "updated")) ∷ []
 server_table (server.refused reason offending) =
     (codes "msg", text_tree (codes "error")) ∷ (codes "offendingMessage", option_map written offending) ∷ (codes "reason", text_tree reason) ∷ []

@@ -35,7 +35,10 @@ pub use ejson_value::{DataMsg, Fault};
 pub use fault::MsgFault;
 pub use from_client::FromClient;
 pub use from_server::{FromServer, data_text, result_text};
-pub use laws::{client_message_reads_back, client_table_is_exact, no_other_wire_form, one_client_message, one_server_message, server_message_reads_back, server_table_is_exact, wire_form_has_its_id};
+pub use laws::{
+    client_message_reads_back, client_table_is_exact, no_other_wire_form, one_client_message,
+    one_server_message, server_message_reads_back, server_table_is_exact, wire_form_has_its_id,
+};
 pub use wire::{own_id, wire_id};
 
 /// The compact text of a tree without floats reads as the tree.

@@ -13,8 +13,7 @@ use Rattle.json.specs.Tree as tree
 use Rattle.json.proofs.Printed.Decimals.{IsNumber-decimal, IsNumber-signed_decimal}
 use Rattle.json.proofs.Printed.Tokens.{tokens-print}
 use Rattle.json.proofs.Printed.Trees.{ArePrintable-json_tokens, value-json_tokens}
-use Rattle.serde_json.specs.Data.{Num, unsigned, negative, float, Data, null, boolean, number, string, array, object, Items, no_items, item, Members,
-    no_members, member, put, depth, items_depth, members_depth}
+use Rattle.serde_json.specs.Data.{Num, unsigned, negative, float, Data, null, boolean, number, string, array, object, Items, no_items, item, Members, no_members, member, put, depth, items_depth, members_depth}
 use Rattle.serde_json.specs.Read.{of_json, of_items, of_members, number_of, max_depth, read}
 use Rattle.serde_json.specs.Written.{number_text, outline, items_outline, members_outline, compact_text}
 use Rattle.serde_json.proofs.Numbers.{number_of-decimal, number_of-negative}
@@ -60,7 +59,7 @@ put_last : (key : List ℕ) (d : Data) (front : Members) (keys : List (List ℕ)
 put_last key d no_members keys h = refl
 put_last key d (member k e front) keys h =
     ap (λ o. match_ordering o (member key d (member k e front)) (member k d front) (member k e (put key d front)))
-        (nat_list_cmp_total.antisymm key k ∙ ap ordering_reverse h.0.0)
+    (nat_list_cmp_total.antisymm key k ∙ ap ordering_reverse h.0.0)
     ∙ ap (member k e) (put_last key d front keys h.1)
 
 below_more : (key : List ℕ) (d : Data) (front : Members) (keys : List (List ℕ)) → AreBelow front (key ∷ keys) →

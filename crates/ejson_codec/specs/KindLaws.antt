@@ -9,8 +9,7 @@ use Rattle.value_model.specs.ValLaws.{list_of-vals_of}
 use Rattle.ejson_value.specs.ResultLaws.{made-ok}
 use Rattle.ejson_codec.specs.Shape.{keys_of_members, shape_of, first_of}
 use Rattle.ejson_codec.specs.Base64.{bytes_of}
-use Rattle.ejson_codec.specs.Reading.{reading, items_reading, members_reading, number_reading, date_reading, bytes_reading, binary_reading,
-    name_reading, user_made, object_made, by_shape, below, escape_reading, user_reading}
+use Rattle.ejson_codec.specs.Reading.{reading, items_reading, members_reading, number_reading, date_reading, bytes_reading, binary_reading, name_reading, user_made, object_made, by_shape, below, escape_reading, user_reading}
 use Rattle.ejson_codec.specs.declared.fault.EjsonFault.{EjsonFault}
 use Rattle.ejson_codec.specs.declared.shape.Shape.{Shape}
 use Rattle.ejson_codec.specs.declared.shape.Shape.TheVariants.{Plain, Date, Binary, Escape, User, Unsupported}
@@ -79,9 +78,9 @@ shape_is Unsupported a b c d e v p q r s t h = absurd (cc h)
 made_is : (levels : ℕ) (ms : Members) (v : Val) → reading levels (json.object ms) ≡ Ok v → IsMade v
 made_is levels ms v h =
     shape_is (shape_of (keys_of_members ms)) (object_made (below levels (λ left. members_reading left ms))) (date_reading (first_of ms))
-        (binary_reading (first_of ms)) (escape_reading levels ms) (user_reading levels ms) v
+    (binary_reading (first_of ms)) (escape_reading levels ms) (user_reading levels ms) v
     (λ is. object_is (below levels (λ left. members_reading left ms)) v is) (λ is. date_is (first_of ms) v is) (λ is. binary_is (first_of ms) v is)
-        (λ is. escape_is levels ms v is) (λ is. user_is levels ms v is) h
+    (λ is. escape_is levels ms v is) (λ is. user_is levels ms v is) h
 
 -- ---- texts and lists
 

@@ -26,7 +26,7 @@ ItemsRead levels tokens vs rest = (depth : ℕ) → levels ≤ depth
 abbrev pub MembersRead : ℕ → List Token → Entries → List Token → Type 0
 MembersRead levels tokens es rest = (depth : ℕ) → levels ≤ depth
     → (ms : Members) × (converted (λ ms. of_members ms no_members) (members (value depth) (length tokens) tokens) ≡ Some (ms, rest)) ×
-        (members_reading levels ms ≡ Ok es)
+    (members_reading levels ms ≡ Ok es)
 
 -- the text is JSON, and its tree reads as the value
 abbrev pub IsValueText : List ℕ → Val → Type 0

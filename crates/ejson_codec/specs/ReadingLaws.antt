@@ -1,6 +1,5 @@
 -- Reading answers exactly the value that the tree reads as, where its depth is within the levels.
-use Rattle.std.specs.Prelude.{◌≡◌, ℕ, zero, suc, ◌≤◌, ℤ, pos, neg_ℤ, int_le, ◌≤ℤ◌, true, false, length, nat_lt, nat_le, List, [], ◌∷◌, Option, Some,
-    None, Result, Ok, Err, refl}
+use Rattle.std.specs.Prelude.{◌≡◌, ℕ, zero, suc, ◌≤◌, ℤ, pos, neg_ℤ, int_le, ◌≤ℤ◌, true, false, length, nat_lt, nat_le, List, [], ◌∷◌, Option, Some, None, Result, Ok, Err, refl}
 use Rattle.std.proofs.Common.{sym, ap, ◌∙◌, subst, arith, inl, inr}
 use Rattle.std.proofs.lemmas.Bool.{cases_Bool, and_from, ltb-true, lt-ltb, leb-true, le-leb}
 use Rattle.std.proofs.lemmas.Int.{ints}
@@ -16,9 +15,7 @@ use Rattle.ejson_codec.specs.Shape.{keys_of_members, shape_of, first_of}
 use Rattle.ejson_codec.specs.Base64.{bytes_of}
 use Rattle.ejson_codec.specs.Base64Laws.{bytes_of_some, bytes_of-base64}
 use Rattle.ejson_codec.specs.Reads.{IsAccepted, IsDate, IsBinary, IsNamed, ByShape, Reads, ItemsRead, MembersRead, EscapeReads, UserReads}
-use Rattle.ejson_codec.specs.Reading.{is_whole, whole_reading, number_reading, date_reading, bytes_reading, binary_reading, is_user_name,
-    name_reading, user_made, below, list_made, object_made, with_item, with_field, by_shape, reading, items_reading, members_reading, escape_reading,
-    user_reading}
+use Rattle.ejson_codec.specs.Reading.{is_whole, whole_reading, number_reading, date_reading, bytes_reading, binary_reading, is_user_name, name_reading, user_made, below, list_made, object_made, with_item, with_field, by_shape, reading, items_reading, members_reading, escape_reading, user_reading}
 use Rattle.ejson_codec.specs.declared.shape.Shape.{Shape}
 use Rattle.ejson_codec.specs.declared.shape.Shape.TheVariants.{Plain, Date, Binary, Escape, User, Unsupported}
 use Rattle.ejson_codec.specs.declared.fault.EjsonFault.{EjsonFault}
@@ -168,7 +165,7 @@ user_made_ok (Err e) inner v h = absurd (cc h)
 
 shape_ok : (shape : Shape) (a b c d e : Result Val EjsonFault) (P Q R S T : Type 0) (v : Val) (levels : ℕ)
     → (a ≡ Ok v → P × (depth v ≤ levels)) → (b ≡ Ok v → Q × (depth v ≤ levels)) → (c ≡ Ok v → R × (depth v ≤ levels)) →
-        (d ≡ Ok v → S × (depth v ≤ levels)) → (e ≡ Ok v → T × (depth v ≤ levels))
+    (d ≡ Ok v → S × (depth v ≤ levels)) → (e ≡ Ok v → T × (depth v ≤ levels))
     → by_shape shape a b c d e ≡ Ok v → ByShape shape P Q R S T × (depth v ≤ levels)
 shape_ok Plain a b c d e P Q R S T v levels p q r s t h = p h
 shape_ok Date a b c d e P Q R S T v levels p q r s t h = q h
@@ -246,9 +243,9 @@ mutual
       ((p.0, inside.0, sym p.2), list_deep p.0 v q.0 levels q.1 inside.1 p.2)
   reads_ok levels (json.object ms) v h =
       shape_ok (shape_of (keys_of_members ms)) (object_made (below levels (λ left. members_reading left ms))) (date_reading (first_of ms))
-          (binary_reading (first_of ms)) (escape_reading levels ms) (user_reading levels ms)
+      (binary_reading (first_of ms)) (escape_reading levels ms) (user_reading levels ms)
       ((es : Entries) × MembersRead ms es × (v ≡ object (fields_of es))) (IsDate (first_of ms) v) (IsBinary (first_of ms) v) (EscapeReads ms v)
-          (UserReads ms v) v levels
+      (UserReads ms v) v levels
       (λ is.
       let p = made-ok (λ (es : Entries). object (fields_of es)) (below levels (λ left. members_reading left ms)) v is in
       let q = below_ok levels (λ left. members_reading left ms) p.0 p.1 in
@@ -318,9 +315,9 @@ mutual
       ap list_made (items_only levels ds h.0 h.1 (inside_list h.0 v levels h.2 fits)) ∙ ap Ok (sym h.2)
   reads_only levels (json.object ms) v h fits =
       shape_read (shape_of (keys_of_members ms)) (object_made (below levels (λ left. members_reading left ms))) (date_reading (first_of ms))
-          (binary_reading (first_of ms)) (escape_reading levels ms) (user_reading levels ms)
+      (binary_reading (first_of ms)) (escape_reading levels ms) (user_reading levels ms)
       ((es : Entries) × MembersRead ms es × (v ≡ object (fields_of es))) (IsDate (first_of ms) v) (IsBinary (first_of ms) v) (EscapeReads ms v)
-          (UserReads ms v) v
+      (UserReads ms v) v
       (λ is. plain_only levels ms v (λ left es r f. members_only left ms es r f) is fits)
       (λ is. date_read (first_of ms) v is)
       (λ is. binary_read (first_of ms) v is)

@@ -1,6 +1,5 @@
 -- A value's size is the length of its text.
-use Rattle.std.specs.Prelude.{◌≡◌, ℕ, suc, ◌+◌, ◌*◌, ◌/◌, ◌%◌, ◌<◌, max, ℤ, pos, negsuc, Bool, true, false, ◌==◌, nat_lt, List, [], ◌∷◌, ◌++◌, All,
-    length, slice_index, sum_by, replicate, codes, refl}
+use Rattle.std.specs.Prelude.{◌≡◌, ℕ, suc, ◌+◌, ◌*◌, ◌/◌, ◌%◌, ◌<◌, max, ℤ, pos, negsuc, Bool, true, false, ◌==◌, nat_lt, List, [], ◌∷◌, ◌++◌, All, length, slice_index, sum_by, replicate, codes, refl}
 use Rattle.std.proofs.Common.{sym, ◌∙◌, arith, cond, inl, inr, zero}
 use Rattle.std.proofs.lemmas.Bool.{cases_Bool, eqb-true, cases_eq, ne_eqb}
 use Rattle.std.proofs.lemmas.List.{length-append}

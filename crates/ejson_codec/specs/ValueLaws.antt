@@ -70,7 +70,7 @@ mutual
   reads_valid (tree.array ds) v h k = subst IsValue (sym h.2) (items_valid ds h.0 h.1 k)
   reads_valid (tree.object ms) v h k =
       by_shape (shape_of (keys_of_members ms)) ((es : Entries) × MembersRead ms es × (v ≡ object (fields_of es))) (IsDate (first_of ms) v)
-          (IsBinary (first_of ms) v) (EscapeReads ms v) (UserReads ms v) (IsValue v)
+      (IsBinary (first_of ms) v) (EscapeReads ms v) (UserReads ms v) (IsValue v)
       (λ p. subst IsValue (sym p.2) (object_valid ms p.0 p.1 k.0 (fields_valid ms p.0 p.1 k.1)))
       (date_valid (first_of ms) v)
       (binary_valid (first_of ms) v)

@@ -7,8 +7,7 @@ use Rattle.std.proofs.lemmas.Int.{ints}
 use Rattle.serde_json.specs.Data.{Num, unsigned, negative, float, Data, Items, no_items, item, Members, no_members, member}
 use Rattle.serde_json.specs.Data as json
 use Rattle.serde_json.specs.Find.{of_integer}
-use Rattle.value_model.specs.Val.{Val, null, boolean, int, text, date, bytes, list, object, user, Vals, no_vals, val, Fields, no_fields, field,
-    vals_of, list_of, Entries, fields_of, entries_of}
+use Rattle.value_model.specs.Val.{Val, null, boolean, int, text, date, bytes, list, object, user, Vals, no_vals, val, Fields, no_fields, field, vals_of, list_of, Entries, fields_of, entries_of}
 use Rattle.value_model.specs.ValLaws.{vals_of-list_of, fields_of-entries_of}
 use Rattle.value_model.specs.TruthLaws.{both_true}
 use Rattle.value_model.specs.Valid.{IsWhole, IsValue, AreValues, HaveValues}
@@ -16,8 +15,7 @@ use Rattle.value_model.specs.Size.{is_name, names_of, is_special}
 use Rattle.ejson_codec.specs.Shape.{keys_of_members, shape_of, shape_of_one, shape_of_two, first_of}
 use Rattle.ejson_codec.specs.Reads.{IsAccepted, IsDate, IsBinary, IsNamed, ByShape, Reads, ItemsRead, MembersRead, EscapeReads, UserReads}
 use Rattle.ejson_codec.specs.Written.{alone, escaped_if, user_object, written, items_written, members_written}
-use Rattle.ejson_codec.specs.Trees.{IsHeldOnce, HoldsNumbersOnce, ItemsHoldNumbersOnce, MembersHoldNumbersOnce, IsEscapedExactly,
-    ItemsAreEscapedExactly, MembersAreEscapedExactly, EscapesSpecial}
+use Rattle.ejson_codec.specs.Trees.{IsHeldOnce, HoldsNumbersOnce, ItemsHoldNumbersOnce, MembersHoldNumbersOnce, IsEscapedExactly, ItemsAreEscapedExactly, MembersAreEscapedExactly, EscapesSpecial}
 use Rattle.ejson_codec.specs.declared.shape.Shape.{Shape}
 use Rattle.ejson_codec.specs.declared.shape.Shape.TheVariants.{Plain, Date, Binary, Escape, User, Unsupported}
 
@@ -212,7 +210,7 @@ escape_only : (ms inner : Members) (v : Val) (es : Entries) → ms ≡ member (c
 escape_only ms inner v es whole is same special =
     let names : is_special (names_of (fields_of es)) ≡ true = ap is_special (sym (keys_of_members-members_written (fields_of es)) ∙ ap keys_of_members (sym same)) ∙ special in
     ap json.object whole ∙ ap (λ (x : Members). alone (codes "$escape") (json.object x)) same
-        ∙ sym (ap (λ (b : Bool). escaped_if b (members_written (fields_of es))) names) ∙ ap written (sym is)
+    ∙ sym (ap (λ (b : Bool). escaped_if b (members_written (fields_of es))) names) ∙ ap written (sym is)
 
 no_keys : (ms : Members) → keys_of_members ms ≡ [] → ms ≡ no_members
 no_keys no_members h = refl
@@ -245,7 +243,7 @@ mutual
   only_written (json.array ds) v h once exact = ap json.array (items_only_written ds h.0 h.1 once exact) ∙ ap written (sym h.2)
   only_written (json.object ms) v h once exact =
       by_shape_cases (shape_of (keys_of_members ms)) ((es : Entries) × MembersRead ms es × (v ≡ object (fields_of es))) (IsDate (first_of ms) v)
-          (IsBinary (first_of ms) v) (EscapeReads ms v) (UserReads ms v) (json.object ms ≡ written v)
+      (IsBinary (first_of ms) v) (EscapeReads ms v) (UserReads ms v) (json.object ms ≡ written v)
       (λ shape r.
       let inside : MembersAreEscapedExactly ms = subst (λ (s : Shape). ByShape s (MembersAreEscapedExactly ms) (Unit {0}) (Unit {0}) (EscapesSpecial ms) (MembersAreEscapedExactly ms)) shape exact in
       let plain : is_special (keys_of_members ms) ≡ false = subst (λ (s : Shape). KeySet s (keys_of_members ms)) shape (key_set (keys_of_members ms)) in
@@ -265,14 +263,14 @@ mutual
   items_only_written no_items vs h once exact = ap (λ (ws : List Val). items_written (vals_of ws)) (sym h)
   items_only_written (item d ds) vs h once exact =
       ap₂ item (only_written d h.0 h.2 once.0 exact.0) (items_only_written ds h.1 h.3 once.1 exact.1)
-          ∙ ap (λ (ws : List Val). items_written (vals_of ws)) (sym h.4)
+      ∙ ap (λ (ws : List Val). items_written (vals_of ws)) (sym h.4)
 
   pub members_only_written : (ms : Members) (es : Entries) → MembersRead ms es → MembersHoldNumbersOnce ms → MembersAreEscapedExactly ms →
       ms ≡ members_written (fields_of es)
   members_only_written no_members es h once exact = ap (λ (fs : Entries). members_written (fields_of fs)) (sym h)
   members_only_written (member key d ms) es h once exact =
       ap₂ (member key) (only_written d h.0 h.2 once.0 exact.0) (members_only_written ms h.1 h.3 once.1 exact.1)
-          ∙ ap (λ (fs : Entries). members_written (fields_of fs)) (sym h.4)
+      ∙ ap (λ (fs : Entries). members_written (fields_of fs)) (sym h.4)
 
   escape_only_written : (ms : Members) (v : Val) → keys_of_members ms ≡ codes "$escape" ∷ [] → EscapeReads ms v → MembersHoldNumbersOnce ms →
       EscapesSpecial ms → json.object ms ≡ written v

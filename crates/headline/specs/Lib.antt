@@ -1,5 +1,7 @@
 pub mod Values
+pub mod ValuesLaws
 pub mod Worlds
+pub mod WorldsLaws
 -- what lies below, for the crates above
 pub mod world_model
 pub mod history_model

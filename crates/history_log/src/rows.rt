@@ -2,8 +2,8 @@
 ghost use Rattle.std.specs.Prelude.{◌≡◌, IfOk};
 ghost use Rattle.history_log.specs.Rows.{pairs_in, document_lines};
 
-use ejson_value::{Contents, Doc, Key, Mem, Text};
 use crate::doc_line;
+use ejson_value::{Contents, Doc, Key, Mem, Text};
 use std::alloc::Global;
 
 /// A document of a store, with its key.

@@ -4,9 +4,9 @@ ghost use Rattle.history_model.specs.Lines.{store_lines};
 ghost use Rattle.history_log.specs.Rows.{pairs_in, document_lines};
 
 use crate::rows::{Row, document_lines, rows_of};
+use crate::store_line;
 use ejson_codec::Lines;
 use ejson_value::{Contents, Mem, Text};
-use crate::store_line;
 use std::alloc::Global;
 use std::thread::{Threads, join_mut};
 

@@ -1,6 +1,5 @@
 -- The runs of a history are those of the calls that it begins, and in a legal history each is begun once.
-use Rattle.std.specs.Prelude.{◌≡◌, ℕ, suc, ◌<◌, ◌==◌, List, [], ◌∷◌, ◌++◌, Bool, true, false, cond, not, ◌&&◌, ◌||◌, nat_lt, Option, None, Some,
-    is_some, option_map, refl, if◌then◌else◌}
+use Rattle.std.specs.Prelude.{◌≡◌, ℕ, suc, ◌<◌, ◌==◌, List, [], ◌∷◌, ◌++◌, Bool, true, false, cond, not, ◌&&◌, ◌||◌, nat_lt, Option, None, Some, is_some, option_map, refl, if◌then◌else◌}
 use Rattle.std.specs.List.{list_any, list_all}
 use Rattle.std.specs.Ordering.{eq_by_cmp}
 use Rattle.std.proofs.Common.{ap, sym, subst, ◌∙◌}
@@ -14,9 +13,7 @@ use Rattle.program_model.specs.Steps.{stepped}
 use Rattle.history_model.specs.declared.entry.Entry.{Entry}
 use Rattle.history_model.specs.declared.entry.Entry.TheVariants as entry
 use Rattle.history_model.specs.Operations.{operation_in}
-use Rattle.history_model.specs.History.{Programs, RunKey, run_cmp, Begun, Runs, Held, nothing, later, setting_in, steps_of, with_begin, with_stepped,
-    no_steps, with_step, carried, held_from, held, status_of, status_in, is_full, is_next, can_follow, IsLegalFrom, IsLegal, begins, call_in,
-    calls_of, AllAbove, Rise}
+use Rattle.history_model.specs.History.{Programs, RunKey, run_cmp, Begun, Runs, Held, nothing, later, setting_in, steps_of, with_begin, with_stepped, no_steps, with_step, carried, held_from, held, status_of, status_in, is_full, is_next, can_follow, IsLegalFrom, IsLegal, begins, call_in, calls_of, AllAbove, Rise}
 use Rattle.history_model.specs.Bounds.{IsHeld}
 use Rattle.history_model.specs.HistoryLaws.{run_order}
 use Rattle.history_model.specs.RunsLaws.{operation_runs, carried_is, held_is}
@@ -37,7 +34,7 @@ new_there : (runs : Runs) (key : RunKey) (b : Begun) (q : RunKey) → IsSorted r
 new_there runs key b q sorted =
     ap is_some (at-set run_order runs key (Some b) q sorted)
     ∙ elim (eq_by_cmp run_cmp q key) as
-        (λ (c : Bool). is_some (cond c (Some b) (at run_cmp runs q)) ≡ (is_some (at run_cmp runs q) || c)) [ true ↦ or_true (is_some (at run_cmp runs q)) | false ↦ or_false (is_some (at run_cmp runs q)) ]
+    (λ (c : Bool). is_some (cond c (Some b) (at run_cmp runs q)) ≡ (is_some (at run_cmp runs q) || c)) [ true ↦ or_true (is_some (at run_cmp runs q)) | false ↦ or_false (is_some (at run_cmp runs q)) ]
 
 still_there : (runs : Runs) (key q : RunKey) (b : Begun) → at run_cmp runs key ≡ Some b →
     is_some (at run_cmp runs q) ≡ (is_some (at run_cmp runs q) || eq_by_cmp run_cmp q key)
@@ -64,7 +61,7 @@ step_there app h key q None is sorted = or_false (is_some (at run_cmp h.runs q))
 step_there app h key q (Some b) is sorted =
     let s = stepped (setting_in app h) h.rows b.run in
     elim (no_steps b.run.left) as
-        (λ (c : Bool). is_some (at run_cmp (cond c (later h) (with_stepped h key s)).runs q) ≡ (is_some (at run_cmp h.runs q) || false)) [
+    (λ (c : Bool). is_some (at run_cmp (cond c (later h) (with_stepped h key s)).runs q) ≡ (is_some (at run_cmp h.runs q) || false)) [
       | true ↦ or_false (is_some (at run_cmp h.runs q))
       | false ↦ again_there h.runs key q b (record { run = s.run; at = suc h.entries }) sorted is
     ]
@@ -106,7 +103,7 @@ next_above session k j [] next there = absurd (cc there)
 next_above session k j (r ∷ runs) next there =
     let parts = and_parts (not (r.0.0 == session) || nat_lt r.0.1 k) (list_all (λ (r : RunKey × Begun). not (r.0.0 == session) || nat_lt r.0.1 k) runs) next in
     elim (eq_by_cmp run_cmp (session, j) r.0) as
-        (λ (c : Bool). eq_by_cmp run_cmp (session, j) r.0 ≡ c → is_some (cond c (Some r.1) (at run_cmp runs (session, j))) ≡ true → j < k) [
+    (λ (c : Bool). eq_by_cmp run_cmp (session, j) r.0 ≡ c → is_some (cond c (Some r.1) (at run_cmp runs (session, j))) ≡ true → j < k) [
       | true ↦ λ e t. own (r.0) (key_is run_order (session, j) r.0 e) parts.0
       | false ↦ λ e t. next_above session k j runs parts.1 t
     ] refl there
@@ -141,7 +138,7 @@ rise_from app h (e ∷ es) session l i = rise_with e (rise_from app (carried app
     rise_with : (e : Entry) → Rise (calls_of session es) →
         ((j : ℕ) → is_some (at run_cmp (carried app h e).runs (session, j)) ≡ true → AllAbove j (calls_of session es))
         → ((j : ℕ) → is_some (at run_cmp (carried app h e).runs (session, j)) ≡ (is_some (at run_cmp h.runs (session, j)) || begins (session, j) e)) →
-            Rise (call_in session e ++ calls_of session es)
+        Rise (call_in session e ++ calls_of session es)
     rise_with (entry.Step n k) rest above there = rest
     rise_with (entry.Admin op) rest above there = rest
     rise_with (entry.Begin n k method params seed) rest above there =

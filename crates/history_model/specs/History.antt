@@ -1,6 +1,5 @@
 -- The history of a store: what was done to it, oldest first. Its documents, and how far each run is, are the fold of it.
-use Rattle.std.specs.Prelude.{◌<◌, ℕ, suc, ◌+◌, ◌-◌, ◌==◌, List, [], ◌∷◌, ◌++◌, length, take, drop, sum_by, Bool, true, false, not, ◌&&◌, ◌||◌,
-    nat_lt, Option, None, Some, is_some, option_map, Ok, Err, IsTrue, if◌then◌else◌}
+use Rattle.std.specs.Prelude.{◌<◌, ℕ, suc, ◌+◌, ◌-◌, ◌==◌, List, [], ◌∷◌, ◌++◌, length, take, drop, sum_by, Bool, true, false, not, ◌&&◌, ◌||◌, nat_lt, Option, None, Some, is_some, option_map, Ok, Err, IsTrue, if◌then◌else◌}
 use Rattle.std.specs.List.{list_all}
 use Rattle.std.specs.declared.cmp.Ordering.{Ordering}
 use Rattle.std.specs.Ordering.{eq_by_cmp, nat_cmp, ordering_then}

@@ -1,6 +1,5 @@
 -- Laws of histories.
-use Rattle.std.specs.Prelude.{◌≡◌, ℕ, zero, suc, ◌+◌, ◌≤◌, List, [], ◌∷◌, ◌++◌, length, take, drop, Bool, true, false, cond, Option, None, Some,
-    IsTrue, Ok, Err, refl}
+use Rattle.std.specs.Prelude.{◌≡◌, ℕ, zero, suc, ◌+◌, ◌≤◌, List, [], ◌∷◌, ◌++◌, length, take, drop, Bool, true, false, cond, Option, None, Some, IsTrue, Ok, Err, refl}
 use Rattle.std.specs.declared.cmp.Ordering.TheVariants.{Equal}
 use Rattle.std.specs.FinMap.{nat_cmp-IsAntisymmetric}
 use Rattle.std.specs.Ordering.{nat_cmp}
@@ -27,9 +26,7 @@ use Rattle.program_model.specs.StepLaws.{stepped_does}
 use Rattle.history_model.specs.declared.entry.Entry.{Entry}
 use Rattle.history_model.specs.declared.entry.Entry.TheVariants as entry
 use Rattle.history_model.specs.Operations.{operation_in}
-use Rattle.history_model.specs.History.{Programs, RunKey, run_cmp, Begun, Held, nothing, later, room_in, setting_in, with_begin, with_stepped,
-    no_steps, with_step, with_answer, with_operation, carried, held_from, held, held_at, answer_changes, operation_changes, step_changes, changes_by,
-    changes_from, changes_between, can_follow, IsLegalFrom, IsLegal}
+use Rattle.history_model.specs.History.{Programs, RunKey, run_cmp, Begun, Held, nothing, later, room_in, setting_in, with_begin, with_stepped, no_steps, with_step, with_answer, with_operation, carried, held_from, held, held_at, answer_changes, operation_changes, step_changes, changes_by, changes_from, changes_between, can_follow, IsLegalFrom, IsLegal}
 
 -- ---- keys of runs
 

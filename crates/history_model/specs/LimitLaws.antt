@@ -1,6 +1,5 @@
 -- A legal history keeps to its limits.
-use Rattle.std.specs.Prelude.{◌≡◌, ℕ, suc, ◌+◌, List, [], ◌∷◌, length, sum_by, Bool, true, false, cond, not, ◌&&◌, nat_lt, Option, None, Some,
-    is_some, IfSome, Ok, Err, IsTrue, refl, if◌then◌else◌}
+use Rattle.std.specs.Prelude.{◌≡◌, ℕ, suc, ◌+◌, List, [], ◌∷◌, length, sum_by, Bool, true, false, cond, not, ◌&&◌, nat_lt, Option, None, Some, is_some, IfSome, Ok, Err, IsTrue, refl, if◌then◌else◌}
 use Rattle.std.specs.List.{AllByRecursion}
 use Rattle.std.specs.Map.{keys_of}
 use Rattle.std.specs.BTreeMap.{insert_entry}
@@ -26,9 +25,7 @@ use Rattle.program_model.specs.StepLaws.{stepped_does}
 use Rattle.history_model.specs.declared.entry.Entry.{Entry}
 use Rattle.history_model.specs.declared.entry.Entry.TheVariants as entry
 use Rattle.history_model.specs.Operations.{operation_in}
-use Rattle.history_model.specs.History.{Programs, RunKey, run_cmp, Begun, Runs, Held, nothing, later, room_in, setting_in, steps_of, with_begin,
-    with_stepped, no_steps, goes_on, with_step, with_answer, with_operation, carried, held_from, held, max_entries, max_kept, reserved, entries_with,
-    kept_with, is_full, is_full_for_operation, is_next, is_answered, is_made, can_follow, IsLegalFrom, IsLegal}
+use Rattle.history_model.specs.History.{Programs, RunKey, run_cmp, Begun, Runs, Held, nothing, later, room_in, setting_in, steps_of, with_begin, with_stepped, no_steps, goes_on, with_step, with_answer, with_operation, carried, held_from, held, max_entries, max_kept, reserved, entries_with, kept_with, is_full, is_full_for_operation, is_next, is_answered, is_made, can_follow, IsLegalFrom, IsLegal}
 use Rattle.history_model.specs.Bounds.{IsBegun, IsHeld, IsWithin}
 use Rattle.history_model.specs.HistoryLaws.{run_order}
 use Rattle.history_model.specs.RunsLaws.{carried_is, held_is}
@@ -103,7 +100,7 @@ step_within app h key None is b goes i w = absurd (cc goes)
 step_within app h key (Some b) is run goes i w =
     let going = not-true (no_steps b.run.left) goes in
     subst (λ (c : Bool). IsWithin (if c then later h else with_stepped h key (stepped (setting_in app h) h.rows b.run))) (sym going)
-        (stepped_within app h key b is run.0 going i w)
+    (stepped_within app h key b is run.0 going i w)
 
 answer_within : (app : Programs) (h : Held) (op : Op) (o : Outcome Applied) → applied app.collections h.rows op (room_in h) ≡ o → is_answered o ≡ true →
     is_full_for_operation h ≡ false → IsHeld h → IsWithin h → IsWithin (with_answer h o)
@@ -122,7 +119,7 @@ pub carried_within : (app : Programs) (h : Held) (e : Entry) → IsTrue (can_fol
 carried_within app h (entry.Begin session k method params seed) can i w =
     let parts = and_parts (is_some (app.method method) && is_next session k h.runs) (not (is_full app h method params (view seed))) can in
     begin_within app h (session, k) method params (view seed) (at run_cmp h.runs (session, k)) refl i w
-        (not-true (is_full app h method params (view seed)) parts.1)
+    (not-true (is_full app h method params (view seed)) parts.1)
 carried_within app h (entry.Step session k) can i w = step_within app h (session, k) (at run_cmp h.runs (session, k)) refl (i.begun (session, k)) can i w
 carried_within app h (entry.Admin op) can i w =
     let parts = and_parts (not (is_full_for_operation h)) (is_made app h (operation_in op)) can in

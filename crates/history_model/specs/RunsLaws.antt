@@ -18,8 +18,7 @@ use Rattle.program_model.specs.RunLaws.{stepped_follows, begun_is}
 use Rattle.history_model.specs.declared.entry.Entry.{Entry}
 use Rattle.history_model.specs.declared.entry.Entry.TheVariants as entry
 use Rattle.history_model.specs.Operations.{operation_in}
-use Rattle.history_model.specs.History.{Programs, RunKey, run_cmp, Begun, Runs, Held, nothing, later, room_in, setting_in, steps_of, with_begin,
-    with_stepped, no_steps, with_step, with_answer, with_operation, carried, held_from, held}
+use Rattle.history_model.specs.History.{Programs, RunKey, run_cmp, Begun, Runs, Held, nothing, later, room_in, setting_in, steps_of, with_begin, with_stepped, no_steps, with_step, with_answer, with_operation, carried, held_from, held}
 use Rattle.history_model.specs.Bounds.{IsBegun, AreBegun, IsHeld, StaysAs}
 use Rattle.history_model.specs.HistoryLaws.{run_order, carried_entries, sorted_carried, held_from-append}
 
@@ -127,7 +126,7 @@ begin_stays : (app : Programs) (h : Held) (key : RunKey) (method : List ℕ) (pa
     at run_cmp h.runs key ≡ o → IsSorted run_cmp h.runs → StaysAs (at run_cmp h.runs q) (at run_cmp (with_begin app h key method params seed o).runs q)
 begin_stays app h key method params seed q None is sorted =
     put_stays h.runs key (record { run = begun params seed (steps_of (app.method method)); at = suc h.entries }) q sorted
-        (subst (λ (o : Option Begun). StaysAs o (Some (record { run = begun params seed (steps_of (app.method method)); at = suc h.entries }))) (sym is) tt)
+    (subst (λ (o : Option Begun). StaysAs o (Some (record { run = begun params seed (steps_of (app.method method)); at = suc h.entries }))) (sym is) tt)
 begin_stays app h key method params seed q (Some b) is sorted = stays_itself (at run_cmp h.runs q)
 
 not_over : (left : List ProgramStep) → no_steps left ≡ false → is_over left ≡ true → ⊥
@@ -140,7 +139,7 @@ stepped_stays app h key q b run is sorted =
     let s = stepped (setting_in app h) h.rows b.run in
     let next : Begun = record { run = s.run; at = suc h.entries } in
     elim (no_steps b.run.left) as
-        (λ (c : Bool). no_steps b.run.left ≡ c → StaysAs (at run_cmp h.runs q) (at run_cmp (cond c (later h) (with_stepped h key s)).runs q)) [
+    (λ (c : Bool). no_steps b.run.left ≡ c → StaysAs (at run_cmp h.runs q) (at run_cmp (cond c (later h) (with_stepped h key s)).runs q)) [
       | true ↦ λ e. stays_itself (at run_cmp h.runs q)
       | false ↦ λ e. put_stays h.runs key next q sorted
           (subst (λ (o : Option Begun). StaysAs o (Some next)) (sym is) ((stepped_follows (setting_in app h) h.rows b.run run).unblocked, λ f. absurd (not_over b.run.left e f)))
@@ -162,11 +161,11 @@ pub from_stays : (app : Programs) (h : Held) (es : List Entry) (q : RunKey) → 
 from_stays app h [] q i = stays_itself (at run_cmp h.runs q)
 from_stays app h (e ∷ es) q i =
     stays_on (at run_cmp h.runs q) (at run_cmp (carried app h e).runs q) (at run_cmp (held_from app (carried app h e) es).runs q)
-        (carried_stays app h e q i) (from_stays app (carried app h e) es q (carried_is app h e i))
+    (carried_stays app h e q i) (from_stays app (carried app h e) es q (carried_is app h e i))
 
 -- later entries leave a run that has ended, and what was let be handled
 pub held_stays : (app : Programs) (history more : List Entry) (q : RunKey) →
     StaysAs (at run_cmp (held app history).runs q) (at run_cmp (held app (history ++ more)).runs q)
 held_stays app history more q =
     subst (λ (h : Held). StaysAs (at run_cmp (held app history).runs q) (at run_cmp h.runs q)) (sym (held_from-append app nothing history more))
-        (from_stays app (held app history) more q (held_is app history))
+    (from_stays app (held app history) more q (held_is app history))

@@ -30,8 +30,8 @@ pub ended_stays : (app : Programs) (history more : List Entry) (session k : ℕ)
     status_in (held app history) session k ≡ Some status → is_some status.ended ≡ true → status_in (held app (history ++ more)) session k ≡ Some status
 ended_stays app history more session k status is ended =
     same_status (held app history).entries (at run_cmp (held app history).runs (session, k))
-        (at run_cmp (held app (history ++ more)).runs (session, k)) status ((held_is app history).begun (session, k))
-        (held_stays app history more (session, k)) is ended
+    (at run_cmp (held app (history ++ more)).runs (session, k)) status ((held_is app history).begun (session, k))
+    (held_stays app history more (session, k)) is ended
 
 unblocked_on : (a b : Option Begun) (status : Status) → StaysAs a b → option_map status_of a ≡ Some status → status.unblocked ≡ true →
     (later : Status) × (option_map status_of b ≡ Some later) × (later.unblocked ≡ true)
@@ -47,7 +47,7 @@ pub unblocked_stays : (app : Programs) (history more : List Entry) (session k : 
     → (later : Status) × (status_in (held app (history ++ more)) session k ≡ Some later) × (later.unblocked ≡ true)
 unblocked_stays app history more session k status is free =
     unblocked_on (at run_cmp (held app history).runs (session, k)) (at run_cmp (held app (history ++ more)).runs (session, k)) status
-        (held_stays app history more (session, k)) is free
+    (held_stays app history more (session, k)) is free
 
 status_within : (n : ℕ) (o : Option Begun) (status : Status) → IfSome o (IsBegun n) → option_map status_of o ≡ Some status →
     IfSome status.ended (λ (e : End). e.at ≤ n)

@@ -1,6 +1,5 @@
 -- The documents of every history keep to the limits of a document.
-use Rattle.std.specs.Prelude.{◌≡◌, ℕ, List, [], ◌∷◌, map, filter, length, codes, Bool, true, false, cond, ◌&&◌, nat_lt, nat_le, Option, None, Some,
-    IfSome, is_some, option_map, option_and_then, Ok, Err, refl, if◌then◌else◌}
+use Rattle.std.specs.Prelude.{◌≡◌, ℕ, List, [], ◌∷◌, map, filter, length, codes, Bool, true, false, cond, ◌&&◌, nat_lt, nat_le, Option, None, Some, IfSome, is_some, option_map, option_and_then, Ok, Err, refl, if◌then◌else◌}
 use Rattle.std.specs.List.{range_with_len}
 use Rattle.std.specs.Map.{remove_entry}
 use Rattle.std.specs.BTreeMap.{is_at, insert_entry}
@@ -32,8 +31,7 @@ use Rattle.collection_store.specs.declared.operation.Op.{Op}
 use Rattle.collection_store.specs.declared.operation.Op.TheVariants as operation
 use Rattle.collection_store.specs.Outcome.{Outcome}
 use Rattle.collection_store.specs.Limits.{document, is_too_large, is_full}
-use Rattle.collection_store.specs.Applied.{Row, Plan, Applied, is_listed, after, done, matching, chosen, insertion, insert_plan, update_plan,
-    or_refused, change_if_differs, change_to, updated, with_change, all_updated, remove_plan, removal, plan_for, if_room, applied}
+use Rattle.collection_store.specs.Applied.{Row, Plan, Applied, is_listed, after, done, matching, chosen, insertion, insert_plan, update_plan, or_refused, change_if_differs, change_to, updated, with_change, all_updated, remove_plan, removal, plan_for, if_room, applied}
 use Rattle.program_steps.specs.declared.rules.Action.{Action}
 use Rattle.program_steps.specs.declared.rules.Action.TheVariants as action
 use Rattle.program_steps.specs.declared.rules.Rules.{Rules}
@@ -43,15 +41,12 @@ use Rattle.program_steps.specs.Runs.{done as ended_with}
 use Rattle.program_model.specs.declared.verdict.Verdict.{Verdict}
 use Rattle.program_model.specs.declared.verdict.Verdict.TheVariants as verdict
 use Rattle.program_model.specs.Guarded.{removes, judged, or_none, id_of}
-use Rattle.program_model.specs.Run.{Run, gone_on, ended, New, new_by, new_of, next_id, is_id, inserted, if_ok, drawn_for, filled_in, selector_in,
-    modifier_in, new_in}
-use Rattle.program_model.specs.Steps.{Setting, Stepped, by_answer, if_made, if_found, Writing, insert_writing, writing, writing_in, update_of,
-    operation_of, by_verdict, by_rules, done_step, stepped_by, stepped}
+use Rattle.program_model.specs.Run.{Run, gone_on, ended, New, new_by, new_of, next_id, is_id, inserted, if_ok, drawn_for, filled_in, selector_in, modifier_in, new_in}
+use Rattle.program_model.specs.Steps.{Setting, Stepped, by_answer, if_made, if_found, Writing, insert_writing, writing, writing_in, update_of, operation_of, by_verdict, by_rules, done_step, stepped_by, stepped}
 use Rattle.history_model.specs.declared.entry.Entry.{Entry}
 use Rattle.history_model.specs.declared.entry.Entry.TheVariants as entry
 use Rattle.history_model.specs.Operations.{insert_of, update_by, remove_of, update_in, operation_named, operation_in}
-use Rattle.history_model.specs.History.{Programs, RunKey, run_cmp, Begun, Held, nothing, later, room_in, setting_in, with_begin, with_stepped,
-    no_steps, with_step, with_answer, with_operation, carried, held_from, held}
+use Rattle.history_model.specs.History.{Programs, RunKey, run_cmp, Begun, Held, nothing, later, room_in, setting_in, with_begin, with_stepped, no_steps, with_step, with_answer, with_operation, carried, held_from, held}
 use Rattle.history_model.specs.Bounds.{IsStored, AreStored}
 
 -- ---- rows
@@ -145,7 +140,7 @@ roomy false a x is = cc is
 planned : (rows : Rows) (room : ℕ) (plan : Plan) (a : Applied) → if_room rows room plan ≡ Ok a → AreStored rows → AreKept plan.changes → AreStored a.rows
 planned rows room plan a is all kept =
     subst (λ (x : Applied). AreStored x.rows) (roomy (is_full (after rows plan.changes) plan.changes room) (done rows plan) a is)
-        (stored_after rows plan.changes all kept)
+    (stored_after rows plan.changes all kept)
 
 fresh : (o : Option Entries) (b : Bool) (p plan : Plan) →
     (if is_some o then Err fault.Duplicate else (if b then Err fault.TooLarge else Ok p)) ≡ Ok plan → (b ≡ false) × (p ≡ plan)
@@ -225,7 +220,7 @@ insert_stored : (s : Setting) (rows : Rows) (run : Run) (collection : List ℕ) 
 insert_stored s rows run collection None good all = all
 insert_stored s rows run collection (Some new) good all =
     answer_stored s.collections s.room rows run (operation.Insert collection new.id new.doc) (λ a. gone_on (inserted collection new run)) good all
-        (applied s.collections rows (operation.Insert collection new.id new.doc) s.room) refl
+    (applied s.collections rows (operation.Insert collection new.id new.doc) s.room) refl
 
 -- a write that inserts has such an id
 abbrev IsWriting : List ℕ → Option Writing → Type 0
@@ -258,7 +253,7 @@ verdict_stored : (s : Setting) (rows : Rows) (run : Run) (collection : List ℕ)
     AreStored rows → AreStored (by_verdict s rows run collection w v).rows
 verdict_stored s rows run collection w verdict.Allowed good all =
     answer_stored s.collections s.room rows run (operation_of collection w.0) (λ a. ended (ended_with (Some a.answer)) w.1) good all
-        (applied s.collections rows (operation_of collection w.0) s.room) refl
+    (applied s.collections rows (operation_of collection w.0) s.room) refl
 verdict_stored s rows run collection w verdict.Absent good all = all
 verdict_stored s rows run collection w (verdict.Denied place) good all = all
 verdict_stored s rows run collection w verdict.NotAllowed good all = all
@@ -276,10 +271,10 @@ step_stored s rows run (step.Insert collection doc) all =
     insert_stored s rows run collection (new_in run collection doc) (filled_is run collection (filled_in run doc)) all
 step_stored s rows run (step.Update collection selector m every) all =
     made_stored rows run (selector_in run selector) _ all
-        (λ q. made_stored rows run (modifier_in run m) _ all (λ m. answer_stored s.collections s.room rows run (operation.Update collection q m every) (λ a. gone_on run) tt all (applied s.collections rows (operation.Update collection q m every) s.room) refl))
+    (λ q. made_stored rows run (modifier_in run m) _ all (λ m. answer_stored s.collections s.room rows run (operation.Update collection q m every) (λ a. gone_on run) tt all (applied s.collections rows (operation.Update collection q m every) s.room) refl))
 step_stored s rows run (step.Remove collection selector) all =
     made_stored rows run (selector_in run selector) _ all
-        (λ q. answer_stored s.collections s.room rows run (operation.Remove collection q) (λ a. gone_on run) tt all (applied s.collections rows (operation.Remove collection q) s.room) refl)
+    (λ q. answer_stored s.collections s.room rows run (operation.Remove collection q) (λ a. gone_on run) tt all (applied s.collections rows (operation.Remove collection q) s.room) refl)
 step_stored s rows run (step.Require collection selector e) all =
     made_stored rows run (selector_in run selector) _ all (λ q. found_stored rows run e (matching collection q rows) all)
 step_stored s rows run step.Unblock all = all
@@ -330,11 +325,11 @@ named_is : (name collection : List ℕ) (rest : List Val) → IsOperation (opera
 named_is name collection [] = tt
 named_is name collection (v ∷ []) =
     either_is (is_name name (codes "insert")) (is_name name (codes "remove")) (insert_of collection (new_of [] v)) (remove_of collection v)
-        (given collection v) (removal_is collection (if_ok (selector.reading v)))
+    (given collection v) (removal_is collection (if_ok (selector.reading v)))
 named_is name collection (s ∷ m ∷ []) =
     either_is (is_name name (codes "update")) (is_name name (codes "updateAll")) (update_in collection false s m) (update_in collection true s m)
     (update_is collection false (if_ok (selector.reading s)) (if_ok (modifier.reading m)))
-        (update_is collection true (if_ok (selector.reading s)) (if_ok (modifier.reading m)))
+    (update_is collection true (if_ok (selector.reading s)) (if_ok (modifier.reading m)))
 named_is name collection (s ∷ m ∷ v ∷ rest) = tt
 
 operation_is : (op : List Val) → IsOperation (operation_in op)
@@ -351,7 +346,7 @@ run_stored app h key None all = all
 run_stored app h key (Some b) all =
     let made = stepped_stored (setting_in app h) h.rows b.run b.run.left all in
     elim (no_steps b.run.left) as
-        (λ (c : Bool). AreStored (cond c (later h) (with_stepped h key (stepped (setting_in app h) h.rows b.run))).rows) [ true ↦ all | false ↦ made ]
+    (λ (c : Bool). AreStored (cond c (later h) (with_stepped h key (stepped (setting_in app h) h.rows b.run))).rows) [ true ↦ all | false ↦ made ]
 
 answered_stored : (app : Programs) (h : Held) (op : Op) (o : Outcome Applied) → HasId op → applied app.collections h.rows op (room_in h) ≡ o →
     AreStored h.rows → AreStored (with_answer h o).rows

@@ -25,7 +25,7 @@ module _ {X : Type 0} where
   -- as a map's `get_mut` says it
   pub lent : (old new : Named X) (name : List ℕ) (w : X) → IsSorted text_cmp old → IsSorted text_cmp new → new ≡ set_value (is_at (text_cmp name)) old w →
       (IsSome (at text_cmp old name) → (q : List ℕ) → at text_cmp new q ≡ cond (eq_by_cmp text_cmp name q) (Some w) (at text_cmp old q)) →
-          IsWritten old name w new
+      IsWritten old name w new
   lent old new name w sorted rising set is = by (at text_cmp old name) refl
     where
       by : (o : Option X) → at text_cmp old name ≡ o → IsWritten old name w new

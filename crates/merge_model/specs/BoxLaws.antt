@@ -1,6 +1,5 @@
 -- The box as a function does what each call says, and so stands for the calls.
-use Rattle.std.specs.Prelude.{◌≡◌, ℕ, ◌==◌, Bool, true, false, not, cond, ◌||◌, List, [], ◌∷◌, filter, Option, Some, None, is_some, option_and_then,
-    unwrap_or, refl}
+use Rattle.std.specs.Prelude.{◌≡◌, ℕ, ◌==◌, Bool, true, false, not, cond, ◌||◌, List, [], ◌∷◌, filter, Option, Some, None, is_some, option_and_then, unwrap_or, refl}
 use Rattle.std.specs.Option.{option_or}
 use Rattle.std.specs.List.{list_any}
 use Rattle.std.specs.declared.cmp.Ordering.{Ordering}
@@ -11,8 +10,7 @@ use Rattle.map_model.specs.MapLaws.{is_some-at, at-union, sorted-union, at-colle
 use Rattle.merge_model.specs.Merge.{IsMerge}
 use Rattle.merge_model.specs.Publishing.{Call, apply, drop_sub, sub_of, shown, last_news, says, shown_since}
 use Rattle.merge_model.specs.Kept.{placed, Kept, nothing_kept, has, kept_at, there_after, claims_of, claims_after, IsInOrder, Stands, IsAfter}
-use Rattle.merge_model.specs.Box.{marked, keys_of_both, unless_empty, publishers_after, fields_of, kept_after, unless_nothing, news_of, box_after,
-    box_of, merge_of}
+use Rattle.merge_model.specs.Box.{marked, keys_of_both, unless_empty, publishers_after, fields_of, kept_after, unless_nothing, news_of, box_after, box_of, merge_of}
 use Rattle.merge_model.specs.PublishingLaws.{same_sub, apart, differ}
 use Rattle.merge_model.specs.KeptLaws.{merged_is, stands_at_first, stands_after}
 
@@ -32,16 +30,16 @@ without_self r q [] = elim (q == r) as (λ b. false ≡ cond b false false) [ tr
 without_self r q (p ∷ ps) =
     let rest = without_self r q ps in
     elim (p == r) as
-        (λ b. (p == r) ≡ b → has q (cond (not b) (p ∷ filter (λ s. not (s == r)) ps) (filter (λ s. not (s == r)) ps)) ≡ cond (q == r) false (has q (p ∷ ps))) [
+    (λ b. (p == r) ≡ b → has q (cond (not b) (p ∷ filter (λ s. not (s == r)) ps) (filter (λ s. not (s == r)) ps)) ≡ cond (q == r) false (has q (p ∷ ps))) [
       | true ↦ λ t. rest ∙ elim (q == r) as (λ b. (q == r) ≡ b → cond b false (has q ps) ≡ cond b false ((q == p) || has q ps)) [
         | true ↦ λ _. refl
         | false ↦ λ e. ap (λ b. b || has q ps) (sym (apart q p (λ same. differ q r e (same ∙ same_sub p r t))))
       ] refl
       | false ↦ λ t. ap (λ b. (q == p) || b) rest
           ∙ elim (q == r) as (λ b. (q == r) ≡ b → ((q == p) || cond b false (has q ps)) ≡ cond b false ((q == p) || has q ps)) [
-        | true ↦ λ e. ap (λ b. b || false) (apart q p (λ same. differ p r t (sym same ∙ same_sub q r e)))
-        | false ↦ λ _. refl
-      ] refl
+            | true ↦ λ e. ap (λ b. b || false) (apart q p (λ same. differ p r t (sym same ∙ same_sub q r e)))
+            | false ↦ λ _. refl
+          ] refl
     ] refl
 
 with_self : (r q : ℕ) (ps : List ℕ) → has q (cond (has r ps) ps (r ∷ ps)) ≡ cond (q == r) true (has q ps)
@@ -102,7 +100,7 @@ module _ {N V : Type 0} {S : N → N → Ordering} (s : IsKeyOrder S) where
       let names = keys_of_both S (fields_of d) e.fields in
       ap (λ x. unwrap_or x []) (at-collect s g names f)
       ∙ elim (list_any (eq_by_cmp S f) names) as
-          (λ b. list_any (eq_by_cmp S f) names ≡ b → unwrap_or (cond b (g f) None) [] ≡ placed r (option_and_then (λ doc. at S doc f) d) (claims_of S e f)) [
+      (λ b. list_any (eq_by_cmp S f) names ≡ b → unwrap_or (cond b (g f) None) [] ≡ placed r (option_and_then (λ doc. at S doc f) d) (claims_of S e f)) [
         | true ↦ λ _. or_empty (placed r (option_and_then (λ doc. at S doc f) d) (claims_of S e f))
         | false ↦ λ h.
             let none = neither (is_some (at S (fields_of d) f)) (is_some (at S e.fields f)) (sym (listed s (fields_of d) e.fields f) ∙ h) in
@@ -168,7 +166,7 @@ module _ {K N V : Type 0} {R : K → K → Ordering} (o : IsKeyOrder R) {S : N �
   box_of_stands (call ∷ past) =
       let before = box_of_stands past in
       stands_after o s call past (box_of R S past) (box_after R S call (box_of R S past)) before (box_after_is call (box_of R S past))
-          (box_after_in_order call (box_of R S past) before.order)
+      (box_after_in_order call (box_of R S past) before.order)
 
   -- and what a client sees of it is the merge
   pub merge_of_is : (past : List (Call K (List (N × V)))) → IsMerge R S (shown R past) (shown_since R S past) (merge_of R S past)

@@ -27,7 +27,7 @@ module _ {V : Type 0} where
   claimed-give (e ∷ claims) r v s =
       let rest = claimed-give claims r v s in
       elim (r == e.0) as
-          (λ b. (r == e.0) ≡ b → claimed s (cond b ((e.0, v) ∷ claims) (e ∷ give claims r v)) ≡ cond (s == r) (Some v) (claimed s (e ∷ claims))) [
+      (λ b. (r == e.0) ≡ b → claimed s (cond b ((e.0, v) ∷ claims) (e ∷ give claims r v)) ≡ cond (s == r) (Some v) (claimed s (e ∷ claims))) [
         | true ↦ λ t. twice (s == e.0) (Some v) (Some e.1) (claimed s claims)
             ∙ ap (λ q. cond (s == q) (Some v) (claimed s (e ∷ claims))) (sym (same_sub r e.0 t))
         | false ↦ λ t. ap (cond (s == e.0) (Some e.1)) rest
@@ -73,7 +73,7 @@ module _ {V : Type 0} where
   keys-give_there (e ∷ claims) r v h =
       let rest = keys-give_there claims r v in
       elim (r == e.0) as
-          (λ b. is_some (cond b (Some e.1) (claimed r claims)) ≡ true → keys_of (cond b ((e.0, v) ∷ claims) (e ∷ give claims r v)) ≡ keys_of (e ∷ claims)) [
+      (λ b. is_some (cond b (Some e.1) (claimed r claims)) ≡ true → keys_of (cond b ((e.0, v) ∷ claims) (e ∷ give claims r v)) ≡ keys_of (e ∷ claims)) [
         | true ↦ λ _. refl
         | false ↦ λ some. ap (λ ks. e.0 ∷ ks) (rest some)
       ] h
@@ -83,7 +83,7 @@ module _ {V : Type 0} where
   keys-give_new (e ∷ claims) r v h =
       let rest = keys-give_new claims r v in
       elim (r == e.0) as
-          (λ b. cond b (Some e.1) (claimed r claims) ≡ None → keys_of (cond b ((e.0, v) ∷ claims) (e ∷ give claims r v)) ≡ e.0 ∷ (keys_of claims ++ r ∷ [])) [
+      (λ b. cond b (Some e.1) (claimed r claims) ≡ None → keys_of (cond b ((e.0, v) ∷ claims) (e ∷ give claims r v)) ≡ e.0 ∷ (keys_of claims ++ r ∷ [])) [
         | true ↦ λ none. absurd (true≢false (ap is_some none))
         | false ↦ λ none. ap (λ ks. e.0 ∷ ks) (rest none)
       ] h

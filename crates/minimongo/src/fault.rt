@@ -1,6 +1,6 @@
 //! Why a server's message isn't taken.
-use ejson_value::Mem;
 use crate::ServeFault;
+use ejson_value::Mem;
 use thiserror::Error;
 
 /// Why a message about a document isn't taken.

@@ -12,10 +12,10 @@ ghost use Rattle.minimongo.specs.Originals.{joined, left_by, saves_of, due, due_
 ghost use Rattle.minimongo.specs.Index.{is_key_among, is_listed};
 ghost use Rattle.minimongo.specs.Taking.{IsFittingIf};
 
-use crate::serve_fault::{ServeFault, Served};
 use crate::index::{Index, list, listed};
 use crate::original::Kept;
 use crate::save::{Save, Saves};
+use crate::serve_fault::{ServeFault, Served};
 use ejson_value::{DataMsg, Key, Keys, Mem};
 use std::alloc::Global;
 use std::collections::{BTreeMap, BTreeSet};

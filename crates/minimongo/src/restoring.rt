@@ -11,9 +11,9 @@ ghost use Rattle.minimongo.specs.Faults.{IsFitting};
 ghost use Rattle.minimongo.specs.Restored.{saves_at, restored};
 
 use crate::fault::ViewFault;
+use crate::{Save, Saves, key_of, taken};
 use counted_contents::CountedContents;
 use ejson_value::{Change, Changes, Contents, DataMsg, Doc, Key, Keys, Mem, copy_option};
-use crate::{Save, Saves, key_of, taken};
 use std::alloc::Global;
 
 // A copy of what stands at the key.

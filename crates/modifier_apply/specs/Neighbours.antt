@@ -1,17 +1,12 @@
 -- Paths that stand in order, part by part.
 use Rattle.std.specs.Prelude.{ℕ, Bool, false, List, [], ◌∷◌, ◌||◌}
 use Rattle.std.specs.declared.cmp.Ordering.{Ordering}
-use Rattle.std.specs.Cmp.{IsTotalOrder}
 use Rattle.std.specs.Cmp.Lexicographic.{slice_cmp}
-use Rattle.std.proofs.lemmas.Cmp.{nat_list_cmp_total, lists_total}
 use Rattle.value_model.specs.Order.{text_cmp}
 use Rattle.modifier_apply.specs.Modified.{is_prefix}
 
 abbrev pub parts_cmp : List (List ℕ) → List (List ℕ) → Ordering
 parts_cmp a b = slice_cmp text_cmp a b
-
-pub parts_total : IsTotalOrder parts_cmp
-parts_total = lists_total nat_list_cmp_total
 
 abbrev pub begins_first : List (List ℕ) → List (List (List ℕ)) → Bool
 begins_first path [] = false

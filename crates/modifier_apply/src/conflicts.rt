@@ -7,7 +7,8 @@ ghost use Rattle.std.specs.Cmp.Rules.{comparing};
 ghost use Rattle.std.proofs.Common.{rules, refl};
 ghost use Rattle.modifier_apply.specs.View.{changes_view};
 ghost use Rattle.modifier_apply.specs.Modified.{is_prefix, paths_of, conflicts};
-ghost use Rattle.modifier_apply.specs.Neighbours.{parts_cmp, parts_total};
+ghost use Rattle.modifier_apply.specs.Neighbours.{parts_cmp};
+ghost use Rattle.modifier_apply.specs.NeighboursLaws.{parts_total};
 
 use crate::modifier::Update;
 use ejson_value::{Mem, Part};

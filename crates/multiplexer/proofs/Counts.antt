@@ -6,7 +6,7 @@ use Rattle.std.proofs.lemmas.List.{length-append}
 use Rattle.ejson_value.specs.declared.change.Change.{Change}
 use Rattle.history_model.specs.History.{changes_between}
 use Rattle.store_machine.specs.State.{MachineState, programs}
-use Rattle.multiplexer.specs.Between.{between_more}
+use Rattle.multiplexer.specs.BetweenLaws.{between_more}
 use Rattle.multiplexer.specs.Looks.{looks}
 
 each_twice : (n x y : ℕ) → n * (2 * (x + y)) ≡ n * (2 * x) + n * (2 * y)

@@ -15,7 +15,8 @@ use Rattle.publication.specs.Cursors.{ACursors}
 use Rattle.publication.specs.Published.{published}
 use Rattle.live_observer.specs.Observing.{IsDifference}
 use Rattle.store_machine.specs.State.{MachineState, programs, held_after}
-use Rattle.multiplexer.specs.Leading.{News, AreDifferences, differ_with}
+use Rattle.multiplexer.specs.Leading.{News, AreDifferences}
+use Rattle.multiplexer.specs.LeadingLaws.{differ_with}
 use Rattle.multiplexer.specs.Telling.{AnEntry, ASpan, ASource, news_in, documents_of, AreKnownFrom, IsSpan}
 use Rattle.multiplexer.specs.Known.{AreKnown}
 use Rattle.multiplexer.specs.Origins.{AreTaught}

@@ -13,7 +13,8 @@ use Rattle.ejson_value.specs.Key.{key_cmp, key_order}
 use Rattle.ejson_value.specs.Rows.{Rows}
 use Rattle.publication.specs.Cursors.{ACursors}
 use Rattle.publication.specs.Published.{published}
-use Rattle.multiplexer.specs.Leading.{News, last_said, IsJoined, IsLead, AreDifferences, joined_leads}
+use Rattle.multiplexer.specs.Leading.{News, last_said, IsJoined, IsLead, AreDifferences}
+use Rattle.multiplexer.specs.LeadingLaws.{joined_leads}
 use Rattle.multiplexer.specs.Sources.{entry_of}
 use Rattle.multiplexer.specs.Telling.{news_in}
 use Rattle.ejson_value.specs.declared.change.Publish.{Publish}

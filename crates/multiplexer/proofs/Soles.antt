@@ -26,7 +26,8 @@ use Rattle.multiplexer.specs.declared.origins.Origin.{Origin}
 use Rattle.multiplexer.specs.Inside.{seen_entry}
 use Rattle.multiplexer.specs.Joining.{key_at, IsBelow}
 use Rattle.multiplexer.specs.Known.{IsSeenAs, IsKnown, AreKnown}
-use Rattle.multiplexer.specs.Leading.{News, last_said, IsLead, AreDifferences, said_leads, differ_behind, differ_first}
+use Rattle.multiplexer.specs.Leading.{News, last_said, IsLead, AreDifferences}
+use Rattle.multiplexer.specs.LeadingLaws.{said_leads, differ_behind, differ_first}
 use Rattle.multiplexer.specs.Telling.{AnEntry, news_in, AreKnownFrom}
 use Rattle.multiplexer.specs.Origins.{AreByKey, IsSole, IsSoleIn, IsKnownAt, AreTaught}
 

@@ -16,7 +16,8 @@ use Rattle.multiplexer.specs.Inside.{seen_entry}
 use Rattle.multiplexer.specs.Sources.{entry_of, LeadsBy, TellsBy}
 use Rattle.multiplexer.specs.Known.{AreKnown}
 use Rattle.live_observer.specs.Observing.{IsDifference}
-use Rattle.multiplexer.specs.Leading.{News, difference_leads}
+use Rattle.multiplexer.specs.Leading.{News}
+use Rattle.multiplexer.specs.LeadingLaws.{difference_leads}
 use Rattle.multiplexer.specs.Telling.{AnEntry, news_in}
 
 none_known : (before : Key → Option Entries) (news : News) → AreKnown before news (replicate (length news) None)

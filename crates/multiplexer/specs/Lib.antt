@@ -1,8 +1,9 @@
 pub mod Leading
+pub mod LeadingLaws
 pub mod Known
 pub mod Telling
-pub mod Longer
-pub mod Between
+pub mod LongerLaws
+pub mod BetweenLaws
 pub mod Params
 pub mod Joining
 pub mod Bounds
@@ -11,5 +12,6 @@ pub mod Looks
 pub mod Inside
 pub mod Spans
 pub mod Lending
+pub mod LendingLaws
 pub mod Origins
 pub mod Parts

@@ -1,3 +1,3 @@
 pub mod Ways
 pub mod Rings
-pub mod Named
+pub mod NamedLaws

@@ -37,7 +37,7 @@ AreNext levels tokens (v ∷ vs) rest = (more : List Token) × ValueRead levels 
 abbrev pub OperationRead : List ℕ → List ℕ → List Token → Op → List Token → Type 0
 OperationRead name collection tokens op rest =
     (vs : List Val) × AreNext max_levels tokens vs rest × (vals_depth (vals_of vs) ≤ max_inside) × AreValues (vals_of vs) ×
-        (operation_named name collection vs ≡ Some op)
+    (operation_named name collection vs ≡ Some op)
 
 abbrev pub update_name : Bool → List ℕ
 update_name all = if all then codes "updateAll" else codes "update"
@@ -50,4 +50,4 @@ IsOver tokens = (outer : List Token) × (after_end_array tokens ≡ Some outer) 
 abbrev pub LineRead : List Token → Op → Type 0
 LineRead tokens op =
     (vs : List Val) × ValueRead (max_levels + 2) tokens (told_value vs) [] × (vals_depth (vals_of vs) ≤ max_inside) × AreValues (vals_of vs) ×
-        (operation_in vs ≡ Some op)
+    (operation_in vs ≡ Some op)

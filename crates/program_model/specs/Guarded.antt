@@ -109,7 +109,7 @@ on_document rules write (Some doc) = unless_denied (first_denial write doc 0 rul
 abbrev pub judged : Rules → Write → Option Entries → Verdict
 judged rules write present =
     if are_read (action_of write) rules.allow && are_read (action_of write) rules.deny then on_document rules write
-        (judged_document write present) else verdict.BadRule
+    (judged_document write present) else verdict.BadRule
 
 -- the rules of a collection; one without an entry has none
 abbrev pub no_rules : Rules

@@ -1,6 +1,5 @@
 -- How steps leave their run.
-use Rattle.std.specs.Prelude.{drop, suc, ◌≡◌, ℕ, ◌+◌, ◌≤◌, List, [], ◌∷◌, ◌++◌, length, Bool, true, false, cond, Option, None, Some, is_some, Ok, Err,
-    refl, if◌then◌else◌}
+use Rattle.std.specs.Prelude.{drop, suc, ◌≡◌, ℕ, ◌+◌, ◌≤◌, List, [], ◌∷◌, ◌++◌, length, Bool, true, false, cond, Option, None, Some, is_some, Ok, Err, refl, if◌then◌else◌}
 use Rattle.std.proofs.Common.{ap, sym, ◌∙◌, arith, length-append}
 use Rattle.map_model.specs.Maps.{at}
 use Rattle.value_model.specs.Val.{Val, text}
@@ -19,10 +18,8 @@ use Rattle.program_steps.specs.Runs.{Outcome, done}
 use Rattle.program_model.specs.declared.verdict.Verdict.{Verdict}
 use Rattle.program_model.specs.declared.verdict.Verdict.TheVariants as verdict
 use Rattle.program_model.specs.Guarded.{Write, removes, judged, or_none, id_of}
-use Rattle.program_model.specs.Run.{Run, seed_text, if_over, gone_on, begun, ended, New, inserted, new_of, next_id, is_id, filled_in, selector_in,
-    modifier_in, new_in}
-use Rattle.program_model.specs.Steps.{Setting, Stepped, by_answer, if_made, if_found, Writing, insert_writing, writing, writing_in, update_of,
-    operation_of, by_verdict, by_rules, done_step, stepped_by, stepped}
+use Rattle.program_model.specs.Run.{Run, seed_text, if_over, gone_on, begun, ended, New, inserted, new_of, next_id, is_id, filled_in, selector_in, modifier_in, new_in}
+use Rattle.program_model.specs.Steps.{Setting, Stepped, by_answer, if_made, if_found, Writing, insert_writing, writing, writing_in, update_of, operation_of, by_verdict, by_rules, done_step, stepped_by, stepped}
 use Rattle.program_model.specs.Kept.{is_over, IsRun, Follows}
 
 -- ---- runs that go on, and that end
@@ -48,7 +45,7 @@ follows_gone_on run going = follows_gone run.left run refl going
 drawn_more : (collection : List ℕ) (new : New) (run : Run) → length (inserted collection new run).drawn ≤ length run.drawn + 1
 drawn_more collection new run =
     elim new.is_drawn as
-        (λ (b : Bool). length (cond b (run.drawn ++ collection ∷ []) run.drawn) ≤ length run.drawn + 1) [ true ↦ omega (arith, length-append run.drawn (collection ∷ [])) | false ↦ omega arith ]
+    (λ (b : Bool). length (cond b (run.drawn ++ collection ∷ []) run.drawn) ≤ length run.drawn + 1) [ true ↦ omega (arith, length-append run.drawn (collection ∷ [])) | false ↦ omega arith ]
 
 -- the run that inserted a document goes on, or ends with an outcome
 gone_inserted : (left : List ProgramStep) (collection : List ℕ) (new : New) (run : Run) → run.left ≡ left → run.outcome ≡ None →
@@ -126,7 +123,7 @@ done_step_follows s rows run (step.Insert collection doc) going =
     if_made_follows rows run (new_in run collection doc) _ (λ new. by_answer_follows rows run _ _ (λ a. gone_inserted run.left collection new run refl going))
 done_step_follows s rows run (step.Update collection selector modifier all) going =
     if_made_follows rows run (selector_in run selector) _
-        (λ q. if_made_follows rows run (modifier_in run modifier) _ (λ m. by_answer_follows rows run _ _ (λ a. follows_gone_on run going)))
+    (λ q. if_made_follows rows run (modifier_in run modifier) _ (λ m. by_answer_follows rows run _ _ (λ a. follows_gone_on run going)))
 done_step_follows s rows run (step.Remove collection selector) going =
     if_made_follows rows run (selector_in run selector) _ (λ q. by_answer_follows rows run _ _ (λ a. follows_gone_on run going))
 done_step_follows s rows run (step.Require collection selector fault) going =

@@ -48,7 +48,7 @@ field_names_reading place (Some v) = bad flaw.BadShape place
 abbrev pub is_rule : Fields → Bool
 is_rule fs =
     has_only_keys shape.Rule fs && is_some (field_of fs (codes "on")) &&
-        (not (is_some (field_of fs (codes "fields"))) || is_update (action_of (field_of fs (codes "on"))))
+    (not (is_some (field_of fs (codes "fields"))) || is_update (action_of (field_of fs (codes "on"))))
 
 abbrev pub rule_parts_reading : Place → Fields → Reading Rule
 rule_parts_reading place fs =

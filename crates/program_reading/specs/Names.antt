@@ -38,7 +38,7 @@ is_key shape.Application key =
     is_name key (codes "collections") || is_name key (codes "methods") || is_name key (codes "publications") || is_name key (codes "rules")
 is_key shape.Cursor key =
     is_name key (codes "collection") || is_name key (codes "as") || is_name key (codes "selector") || is_name key (codes "fields") || is_name key
-        (codes "sort") || is_name key (codes "limit")
+    (codes "sort") || is_name key (codes "limit")
 is_key shape.Program key = is_name key (codes "steps") || is_name key (codes "stub")
 is_key shape.Rules key = is_name key (codes "allow") || is_name key (codes "deny")
 is_key shape.Rule key = is_name key (codes "on") || is_name key (codes "selector") || is_name key (codes "fields")

@@ -2,7 +2,7 @@ pub mod Projected
 pub mod Parts
 pub mod Faults
 pub mod Cursors
-pub mod Distinct
+pub mod DistinctLaws
 pub mod Published
 pub mod Ordered
 pub mod Putting

@@ -59,7 +59,7 @@ abbrev mutual
   fields_projected including paths no_fields = no_fields
   fields_projected including paths (field name v fs) =
       field_before name (field_projected including (rests_below name paths) v (value_projected including (rests_below name paths) v))
-          (fields_projected including paths fs)
+      (fields_projected including paths fs)
 
 -- what is left of one field
 abbrev pub at_field : Bool → List APath → List ℕ → Val → Option Val

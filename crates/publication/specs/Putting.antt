@@ -21,7 +21,7 @@ Publishing = List ℕ → Entries → Option Entries
 abbrev pub published_among : Cursor → Documents → Publishing
 published_among cursor docs id doc =
     if holds cursor.selector id doc && is_within cursor.limit (rank cursor docs id doc) then Some
-        (entries_of (projected cursor.fields (fields_of doc))) else None
+    (entries_of (projected cursor.fields (fields_of doc))) else None
 
 -- what is published of a row, if it is of the cursor's collection
 abbrev pub row_published : Publishing → Cursor → Key → Entries → Option Entries

@@ -1,6 +1,5 @@
 -- What is said and what waits is what was to be said; only the client's own texts and losses change that.
-use Rattle.std.specs.Prelude.{◌≡◌, ℕ, List, [], ◌∷◌, ◌++◌, true, false, cond, not, ◌&&◌, ◌||◌, Option, Some, None, is_some, option_to_list, Result,
-    Ok, Err, refl}
+use Rattle.std.specs.Prelude.{◌≡◌, ℕ, List, [], ◌∷◌, ◌++◌, true, false, cond, not, ◌&&◌, ◌||◌, Option, Some, None, is_some, option_to_list, Result, Ok, Err, refl}
 use Rattle.std.proofs.Common.{sym, ap, ◌∙◌}
 use Rattle.std.proofs.lemmas.List.{append_assoc}
 use Rattle.ddp_messages.specs.Answers.{client_answer, server_answer}
@@ -11,8 +10,7 @@ use Rattle.ddp_messages.specs.ServerMessage as server
 use Rattle.ddp_messages.specs.ServerMessage.{ServerMessage}
 use Rattle.reconnect_model.specs.Revival.{Revival}
 use Rattle.reconnect_model.specs.Saying.{asked, asked_by, first_of, behind_first}
-use Rattle.reconnect_model.specs.Giving.{noted, settled, all_settled, gives, released_by, released, Heard, left_unsaid, updated_before, made_ready,
-    revived, revived_then, revived_when, holds, passed, is_at_once, is_answered, text_refusal, heard_message, heard_unless, hears}
+use Rattle.reconnect_model.specs.Giving.{noted, settled, all_settled, gives, released_by, released, Heard, left_unsaid, updated_before, made_ready, revived, revived_then, revived_when, holds, passed, is_at_once, is_answered, text_refusal, heard_message, heard_unless, hears}
 use Rattle.reconnect_model.specs.History.{History, Event, queued, heard, said, lost, revival_of, said_in, to_say}
 
 -- ---- what a server sends changes nothing of what waits, and a text that no rule refuses breaks nothing

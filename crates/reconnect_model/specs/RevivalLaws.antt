@@ -9,8 +9,7 @@ use Rattle.ddp_messages.specs.ServerMessage as server
 use Rattle.ddp_messages.specs.ServerMessage.{ServerMessage}
 use Rattle.reconnect_model.specs.Revival.{Revival}
 use Rattle.reconnect_model.specs.Saying.{asked, asked_by, said_too, queues, loses}
-use Rattle.reconnect_model.specs.Giving.{documents, noted, settled, all_settled, gives, released_by, released, Heard, left_unsaid, updated_before,
-    made_ready, revived, revived_then, revived_when, holds, passed, is_at_once, is_answered, text_refusal, heard_message, heard_unless, hears}
+use Rattle.reconnect_model.specs.Giving.{documents, noted, settled, all_settled, gives, released_by, released, Heard, left_unsaid, updated_before, made_ready, revived, revived_then, revived_when, holds, passed, is_at_once, is_answered, text_refusal, heard_message, heard_unless, hears}
 
 -- the documents given are those that the present session sent
 abbrev pub IsShown : Revival → Type 0
@@ -108,7 +107,7 @@ unless_shown r text (Some n) w = w
 pub hears-shown : (r : Revival) (text : List ℕ) → IsShown r → IsShown (hears r text).revival
 hears-shown r text w =
     elim (is_some r.broken) as
-        (λ b. IsShown (cond b (let h : Heard = record { revival = r; texts = [] } in h) (heard_unless r text (text_refusal r text))).revival) [
+    (λ b. IsShown (cond b (let h : Heard = record { revival = r; texts = [] } in h) (heard_unless r text (text_refusal r text))).revival) [
       | true ↦ w
       | false ↦ unless_shown r text (text_refusal r text) w
     ]

@@ -20,7 +20,7 @@ use Rattle.world_core.specs.world_model.Events.{IsEvent}
 use Rattle.world_events.specs.Events.{event_in}
 use Rattle.checking.specs.InputLaws.{value_of_text}
 use Rattle.replay_core.specs.Stepping.{IsOperation}
-use Rattle.replay_core.specs.ValuesRead.{parsed_is}
+use Rattle.replay_core.specs.ValuesReadLaws.{parsed_is}
 
 -- ---- levels
 

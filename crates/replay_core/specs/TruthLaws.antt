@@ -5,7 +5,7 @@ use Rattle.app_model.specs.App.{App}
 use Rattle.app_model.specs.Reading.{app_reading}
 use Rattle.program_reading.specs.Faults.{Reading}
 use Rattle.world_core.specs.world_values_laws.Values.{HasValues}
-use Rattle.world_values_laws.specs.AppsRead.{read_apps_have_values}
+use Rattle.world_values_laws.specs.AppsReadLaws.{read_apps_have_values}
 use Rattle.world_core.specs.world_model.Store.{programs}
 use Rattle.world_core.specs.world_model.declared.events.Event.{Event}
 use Rattle.world_core.specs.world_model.declared.events.Event.TheVariants as event
@@ -15,15 +15,16 @@ use Rattle.world_core.specs.world_model.Events.{step, run, IsEvent, AreEvents}
 use Rattle.world_events.specs.Events.{event_in}
 use Rattle.client_model.specs.Showing.{IsShown}
 use Rattle.world_core.specs.world_invariant_laws.Links.{IsLinked}
-use Rattle.world_core.specs.world_invariant_laws_for_proofs.Worlds.{all_linked}
-use Rattle.world_core.specs.headline_for_proofs.Worlds.{worlds_are_true}
-use Rattle.world_core.specs.world_settles_laws_for_proofs.Worlds.{worlds_have_long_alone}
+use Rattle.world_core.specs.world_invariant_laws_for_proofs.WorldsLaws.{all_linked}
+use Rattle.world_core.specs.headline_for_proofs.WorldsLaws.{worlds_are_true}
+use Rattle.world_core.specs.world_settles_laws_for_proofs.WorldsLaws.{worlds_have_long_alone}
 use Rattle.world_core.specs.AtRest.{settled_worlds_rest}
 use Rattle.world_core.specs.RestingRounds.{rounds_stay}
 use Rattle.checking.specs.Input.{lines_in, rest_of, is_blank, value_in}
 use Rattle.replay_core.specs.Replay.{read_as, app_of, event_of, before_bad, events_of}
-use Rattle.replay_core.specs.ValuesRead.{from_one, IsRead, line_is}
-use Rattle.replay_core.specs.EventsRead.{event_is}
+use Rattle.replay_core.specs.ValuesRead.{IsRead}
+use Rattle.replay_core.specs.ValuesReadLaws.{from_one, line_is}
+use Rattle.replay_core.specs.EventsReadLaws.{event_is}
 use Rattle.replay_core.specs.Truth.{AreShown, IsSettled, world_after, IsTrueRun, IsTrueReplay}
 
 first_events : (n : ℕ) (events : List Event) → AreEvents events → AreEvents (take n events)

@@ -12,9 +12,9 @@ use crate::tasks::read_lines;
 use app_model::{App, AppFault};
 use checking::{Outcome, add_bad, first_line, value_in};
 use ejson_value::Mem;
-use world_values_laws::read_application;
 use std::alloc::Global;
 use world_core::{Hands, World};
+use world_values_laws::read_application;
 
 // How many bytes the first lines have that are read at once, and how many those that follow have at most.
 const FIRST_BYTES: usize = 65_536;

@@ -1,6 +1,5 @@
 -- How a value is read as a selector (query operators, in MongoDB's documentation). The first fault in reading order is answered, keys by bytes.
-use Rattle.std.specs.Prelude.{◌≡◌, ℕ, Bool, true, false, not, List, [], ◌∷◌, codes, bytes_eq, Option, None, Some, option_map, ok_or, Result, Ok, Err,
-    if◌then◌else◌, ◌&&◌, ◌||◌, ◌==◌, pos}
+use Rattle.std.specs.Prelude.{◌≡◌, ℕ, Bool, true, false, not, List, [], ◌∷◌, codes, bytes_eq, Option, None, Some, option_map, ok_or, Result, Ok, Err, if◌then◌else◌, ◌&&◌, ◌||◌, ◌==◌, pos}
 use Rattle.std.specs.List.{list_all}
 use Rattle.value_model.specs.Val.{Val, null, boolean, int, list, object, user, Vals, no_vals, val, Fields, no_fields, field, list_of}
 use Rattle.value_model.specs.Branches.{path_of}
@@ -13,9 +12,7 @@ use Rattle.selector_match.specs.declared.names.PlainName.{PlainName}
 use Rattle.selector_match.specs.declared.names.PlainName.TheVariants as plain
 use Rattle.selector_match.specs.declared.names.Connective.{Connective}
 use Rattle.selector_match.specs.declared.names.Connective.TheVariants as connective
-use Rattle.selector_match.specs.Query.{Query, no_clauses, clause, Clause, all_of, any_of, none_of, at_path, Queries, no_queries, query, Predicates,
-    no_predicates, predicate, Predicate, equal, not_equal, among, not_among, greater, at_least, less, at_most, present, sized, has_all, has_element,
-    negated, ElementTest, by_predicates, by_query}
+use Rattle.selector_match.specs.Query.{Query, no_clauses, clause, Clause, all_of, any_of, none_of, at_path, Queries, no_queries, query, Predicates, no_predicates, predicate, Predicate, equal, not_equal, among, not_among, greater, at_least, less, at_most, present, sized, has_all, has_element, negated, ElementTest, by_predicates, by_query}
 
 abbrev pub Reading : Type 0 → Type 0
 Reading X = Result X SelectorFault
@@ -41,7 +38,7 @@ is_operator_set fs = has_operator fs && not (has_plain_name fs)
 abbrev pub connective_named : List ℕ → Option Connective
 connective_named n =
     if bytes_eq n (codes "$and") then Some connective.And else
-        (if bytes_eq n (codes "$or") then Some connective.Or else (if bytes_eq n (codes "$nor") then Some connective.Nor else None))
+    (if bytes_eq n (codes "$or") then Some connective.Or else (if bytes_eq n (codes "$nor") then Some connective.Nor else None))
 
 -- the operators whose operands hold no operators
 abbrev pub plain_named : List ℕ → Option PlainName
@@ -61,7 +58,7 @@ plain_named n =
 abbrev pub operator_named : List ℕ → Option OperatorName
 operator_named n =
     if bytes_eq n (codes "$elemMatch") then Some name.ElementMatch else
-        (if bytes_eq n (codes "$not") then Some name.Not else option_map name.Plain (plain_named n))
+    (if bytes_eq n (codes "$not") then Some name.Not else option_map name.Plain (plain_named n))
 
 -- Operands: a list; what can be compared; a boolean; a number from 0; a list of literals, in which no object has an operator.
 abbrev pub list_operand : Val → Reading (List Val)

@@ -19,7 +19,7 @@ use Rattle.session_model.specs.State.{State, own_after}
 use Rattle.session_model.specs.Subscriptions.{cursor_of}
 use Rattle.session_model.specs.Taking.{Taken, at_once, to_queue}
 use Rattle.session_model.specs.Fits.{item_for}
-use Rattle.session_journal_laws.specs.Blocking.{turned_length, fire_length}
+use Rattle.session_journal_laws.specs.BlockingLaws.{turned_length, fire_length}
 use Rattle.session_journal_laws.specs.declared.stored.Stored.{Stored}
 use Rattle.session_laws.specs.declared.fault.EventFault.TheVariants as fault
 use Rattle.session_laws.specs.Session.{ASession, is_full, IsCause, can_handle, can_load, can_advance, can_learn, can_refuse}

@@ -15,7 +15,8 @@ use Rattle.session_model.specs.Methods.{Phase, running, refused, finished, told,
 use Rattle.session_model.specs.State.{State, started, or_zero, own_after, after, state_from, state_of}
 use Rattle.session_model.specs.Moments.{Moment}
 use Rattle.session_model.specs.Fits.{seed_or, opened_by, closed_by, item_for, CanFollow, FitsFrom}
-use Rattle.session_journal_laws.specs.Fences.{IsShut, AreShut, after_shut}
+use Rattle.session_journal_laws.specs.Fences.{IsShut, AreShut}
+use Rattle.session_journal_laws.specs.FencesLaws.{after_shut}
 use Rattle.session_state.specs.Work.{running_by, running_from}
 use Rattle.server_connection.specs.AtRest.{IsDone, AreDone, is_at, are_at}
 

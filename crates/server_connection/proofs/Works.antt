@@ -18,7 +18,7 @@ use Rattle.history_model.specs.BegunLaws.{run_where_begun}
 use Rattle.world_model.specs.Store.{programs, moments}
 use Rattle.session_model.specs.Methods.{Blocking, is_blocked_by}
 use Rattle.session_model.specs.State.{State, started, state_of}
-use Rattle.session_journal_laws.specs.Blocking.{last_from}
+use Rattle.session_journal_laws.specs.BlockingLaws.{last_from}
 use Rattle.world_invariant_laws.specs.Moments.{moments_length}
 use Rattle.session_journal_laws.specs.Stands.{items_of}
 use Rattle.session_state.specs.Work.{running_from}
@@ -34,7 +34,7 @@ use Rattle.shared_store.specs.Store.{over, Begins, IsNotNext, StepsOn, StepsAt, 
 use Rattle.shared_session.specs.Held.{AHeld, Stands}
 use Rattle.shared_session.specs.Standing.{WasSo, HadNoRoom}
 use Rattle.shared_session.specs.Events.{Keeps}
-use Rattle.shared_session.specs.Reached.{reached_from}
+use Rattle.shared_session.specs.ReachedLaws.{reached_from}
 use Rattle.server_connection.specs.AtRest.{AreDone, are_at, IsIdle}
 use Rattle.server_connection.specs.Looks.{Stays, Sees, begun_below, IsForeign, IsServed, Works, HadNoRoomFor, RestsAsItStands}
 use Rattle.server_connection.proofs.Journals.{blocking_known, are_done, opens}

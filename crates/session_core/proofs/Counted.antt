@@ -9,7 +9,7 @@ use Rattle.map_model.specs.MapLaws.{sorted-set}
 use Rattle.session_core.specs.session_model.Subscriptions.{Live}
 use Rattle.session_core.specs.session_model.Methods.{Phase, running, refused, finished, Method, Blocking, freed, phase_at, turned, fired, fire}
 use Rattle.session_core.specs.session_model.State.{State}
-use Rattle.session_core.specs.session_journal_laws.Blocking.{turned_other, phase_new, phase_fired}
+use Rattle.session_core.specs.session_journal_laws.BlockingLaws.{turned_other, phase_new, phase_fired}
 use Rattle.session_core.specs.session_journal_laws.Fired.{Armed, unfired, least_with, is_opening}
 use Rattle.session_core.specs.session_journal_laws_for_proofs.FiredLaws.{number_order, fired_armed, turned_armed, called_armed, refused_armed}
 use Rattle.session_core.specs.session_journal_laws.Stands.{end_of, armed_at, fired_state}

@@ -13,7 +13,7 @@ use Rattle.session_core.specs.session_laws.declared.fault.EventFault.TheVariants
 use Rattle.session_core.specs.session_laws.Session.{ASession, max_outbox, is_full, is_at_work, can_handle, can_load, can_advance, can_learn, can_refuse, IsCause, HadRoom, tested, dropped}
 use Rattle.session_core.specs.session_laws.Events.{Outcome, IsTakenAs, IsCrowdedOut, IsPutCause, IsTakeCause, KeepsTaking, Takes, HasHandled, Handles, HasLoaded, Loads, HasAdvanced, Advances, HasFed, Feeds, observer_of, IsLearnt, Learns, HasRefused, Refuses, Closes}
 use Rattle.session_core.specs.session_laws.Keeping.{answered_keeps, queued_keeps}
-use Rattle.session_core.specs.session_laws_for_proofs.Learning.{learnt_keeps, refused_keeps, dropped_keeps}
+use Rattle.session_core.specs.session_laws_for_proofs.LearningLaws.{learnt_keeps, refused_keeps, dropped_keeps}
 use Rattle.session_core.specs.session_laws_for_proofs.Handled.{handled_keeps}
 use Rattle.session_core.specs.session_laws.Showing.{StandsAnywhere, loaded_keeps, advanced_keeps, fed_keeps}
 

@@ -26,7 +26,7 @@ use Rattle.session_core.specs.session_state.Subs.{observers_of, live_of, observe
 use Rattle.session_core.specs.declared.adding.Addition.{Addition}
 use Rattle.session_core.specs.session_laws.Session.{ASession, is_full, is_at_work, can_load, place_on, place_after}
 use Rattle.session_core.specs.session_laws.Observers.{observer_at, observers_with}
-use Rattle.session_core.specs.session_laws.Loading.{advanced_is, with_same}
+use Rattle.session_core.specs.session_laws.LoadingLaws.{advanced_is, with_same}
 use Rattle.session_core.specs.session_laws.Events.{HasLoaded, HasAdvanced, HasFed, Tells, observer_of}
 use Rattle.session_core.specs.declared.inner.Inner.{Inner}
 use Rattle.session_core.specs.Kept.{seen, IsKept}

@@ -3,3 +3,4 @@ pub use Rattle.session_laws.specs.session_journal_laws.Fired
 pub use Rattle.session_laws.specs.session_journal_laws.Stands
 pub use Rattle.session_laws.specs.session_journal_laws.declared
 pub use Rattle.session_laws.specs.session_journal_laws.Blocking
+pub use Rattle.session_laws.specs.session_journal_laws.BlockingLaws

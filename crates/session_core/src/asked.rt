@@ -15,13 +15,13 @@ ghost use Rattle.session_state.specs.Own.{as_state, as_blocking};
 ghost use Rattle.session_state.specs.Subs.{as_live};
 ghost use Rattle.session_core.specs.Asked.{Adds, state_in, item_in};
 
+use crate::Addition;
 use app_model::App;
 use ddp_messages::FromClient;
 use ejson_value::{Items, Mem, Text, Value, copy};
-use session_laws::session_model::SubFault;
 use session_laws::publication::Cursors;
 use session_laws::session_journal_laws::Stored;
-use crate::Addition;
+use session_laws::session_model::SubFault;
 use session_state::{Call, Own, Step, Sub, is_crowded, sub_named};
 use session_texts::{Texts, making, nosub_text, unknown_texts};
 use std::alloc::Global;

@@ -8,13 +8,12 @@ ghost use Rattle.session_core.specs.Kept.{seen, IsKept};
 ghost use Rattle.session_core.specs.Handling.{IsNextBy, IsNext, gone_by, passed};
 
 use crate::inner::{Inner, add, is_at_work, test};
+use crate::session_laws::EventFault;
+use crate::session_state::Step;
+use crate::{Addition, Asked, News};
 use ddp_messages::FromClient;
 use ejson_value::Mem;
 use method_queue::MethodQueue;
-use crate::Asked;
-use crate::session_laws::EventFault;
-use crate::session_state::Step;
-use crate::{Addition, News};
 use std::collections::VecDeque;
 
 // Whether a message waits and no call blocks.

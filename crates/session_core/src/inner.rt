@@ -7,13 +7,13 @@ ghost use Rattle.session_core.specs.session_laws.Session.{new_session, is_full, 
 ghost use Rattle.session_core.specs.Kept.{seen, IsKept};
 ghost use Rattle.session_core.specs.Adding.{IsAddedTo, AreAlike, Follows};
 
+use crate::session_laws::EventFault;
+use crate::{Addition, News, Parts};
 use app_model::App;
 use ejson_value::Mem;
 use json::Scratch;
 use known_texts::KnownTexts;
 use method_queue::MethodQueue;
-use crate::session_laws::EventFault;
-use crate::{Addition, News, Parts};
 use std::alloc::Global;
 use std::collections::VecDeque;
 

@@ -7,14 +7,14 @@ ghost use Rattle.session_core.specs.session_laws.Events.{IsLearnt, HasRefused, L
 ghost use Rattle.session_core.specs.Kept.{seen, IsKept};
 
 use crate::inner::{Inner, add, is_at_work, is_blocked_by, test};
-use ejson_value::Mem;
-use method_queue::MethodQueue;
-use program_steps::{End, Status};
-use crate::session_laws::EventFault;
 use crate::session_journal_laws::Stored;
+use crate::session_laws::EventFault;
 use crate::session_state::{Phase, Step, id_at, phase_at};
 use crate::session_texts::{Texts, refused_texts, result_text};
 use crate::{Addition, News};
+use ejson_value::Mem;
+use method_queue::MethodQueue;
+use program_steps::{End, Status};
 
 // The number of the call that the status has news of for a session.
 fn has_news(status: &Status, is_blocking: bool) -> bool

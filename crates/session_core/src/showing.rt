@@ -16,17 +16,17 @@ ghost use Rattle.session_core.specs.Limits.{watched_count};
 ghost use Rattle.session_core.specs.Observed.{IsObserved, committed};
 
 use crate::inner::{Inner, add, add_known, is_at_work, test};
+use crate::live_observer::{Observer, Plan};
+use crate::publication::query;
+use crate::session_journal_laws::Stored;
+use crate::session_laws::EventFault;
+use crate::session_state::{Own, Step, Sub, cursor_of, may_load, sub_of};
+use crate::session_texts::{Texts, ready_text};
+use crate::{Addition, News};
 use ejson_value::{Contents, Mem, Publishes};
 use history_log::Batch;
 use known_texts::KnownTexts;
 use selector_match::Steps;
-use crate::live_observer::{Observer, Plan};
-use crate::publication::query;
-use crate::session_laws::EventFault;
-use crate::session_journal_laws::Stored;
-use crate::session_state::{Own, Step, Sub, cursor_of, may_load, sub_of};
-use crate::session_texts::{Texts, ready_text};
-use crate::{Addition, News};
 use std::alloc::Global;
 use std::sync::ledger::Ledger;
 

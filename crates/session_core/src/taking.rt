@@ -12,14 +12,14 @@ ghost use Rattle.session_core.specs.Kept.{seen, IsKept};
 ghost use Rattle.session_core.specs.Adding.{step_by, fault_of, IsPushCause};
 
 use crate::inner::{Inner, add, is_at_work, test};
-use ddp_messages::FromClient;
-use ejson_value::{Mem, Text};
-use method_queue::{MethodQueue, PushFault};
-use crate::session_laws::EventFault;
 use crate::session_journal_laws::Stored;
+use crate::session_laws::EventFault;
 use crate::session_state::Step;
 use crate::session_texts::{Answer, Taken, answer_texts, taken_from};
 use crate::{Addition, News};
+use ddp_messages::FromClient;
+use ejson_value::{Mem, Text};
+use method_queue::{MethodQueue, PushFault};
 use std::alloc::Global;
 use std::collections::VecDeque;
 

@@ -58,7 +58,7 @@ module _ (number : ℕ) (C : List Moment) where
 
   pub counts_from-append : (past : Calls) (st : State) (items : List Item) (i : Item) →
       counts_from C number past st (items ++ i ∷ []) ≡ counts_from C number past st items ++ length
-          (messages_of C number (calls_from C past st items) (state_from st items) i) ∷ []
+      (messages_of C number (calls_from C past st items) (state_from st items) i) ∷ []
   counts_from-append past st [] i = refl
   counts_from-append past st (j ∷ items) i =
       ap (λ (ns : List ℕ). length (messages_of C number past st j) ∷ ns) (counts_from-append (call_of C st j ∷ past) (after st j) items i)

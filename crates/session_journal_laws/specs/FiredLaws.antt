@@ -1,6 +1,5 @@
 -- The fences that stay armed are those of the calls that are still to be told.
-use Rattle.std.specs.Prelude.{◌≡◌, ℕ, zero, suc, nat_le, List, [], ◌∷◌, ◌++◌, Bool, true, false, cond, not, ◌&&◌, ◌||◌, Option, Some, None, is_none,
-    option_and_then, refl}
+use Rattle.std.specs.Prelude.{◌≡◌, ℕ, zero, suc, nat_le, List, [], ◌∷◌, ◌++◌, Bool, true, false, cond, not, ◌&&◌, ◌||◌, Option, Some, None, is_none, option_and_then, refl}
 use Rattle.std.proofs.Common.{ap, sym, subst, ◌∙◌, arith}
 use Rattle.std.specs.Ordering.{nat_cmp, eq_by_cmp}
 use Rattle.std.proofs.lemmas.Bool.{le-leb, leb-true, leb-false}
@@ -17,7 +16,8 @@ use Rattle.session_model.specs.Moments.{Moment}
 use Rattle.session_model.specs.Fits.{CanFollow}
 use Rattle.session_model.specs.Subscriptions.{Live, past, is_open}
 use Rattle.session_model.specs.Methods.{Phase, running, refused, finished, told, Method, phase_at, turned, fired, fire}
-use Rattle.session_journal_laws.specs.Blocking.{turned_here, turned_other, BlocksLast, refused_runs}
+use Rattle.session_journal_laws.specs.Blocking.{BlocksLast}
+use Rattle.session_journal_laws.specs.BlockingLaws.{turned_here, turned_other, refused_runs}
 use Rattle.session_journal_laws.specs.Fired.{Armed, is_reached, unfired, lesser, least_with, is_opening, armed_with}
 use Rattle.session_journal_laws.specs.Stands.{end_of, armed_at}
 
@@ -91,7 +91,7 @@ pub turned_armed : (armed : Armed) (n end : ℕ) (q : Phase) (ms : List Method) 
     (k : ℕ) → at nat_cmp (set nat_cmp armed n (Some end)) k ≡ armed_at k (turned n (finished end) ms)
 turned_armed armed n end q ms s h there k =
     at-set number_order armed n (Some end) k s
-        ∙ elim (eq_by_cmp nat_cmp k n) as (λ b. eq_by_cmp nat_cmp k n ≡ b → cond b (Some end) (at nat_cmp armed k) ≡ armed_at k (turned n (finished end) ms)) [
+    ∙ elim (eq_by_cmp nat_cmp k n) as (λ b. eq_by_cmp nat_cmp k n ≡ b → cond b (Some end) (at nat_cmp armed k) ≡ armed_at k (turned n (finished end) ms)) [
       | true ↦ λ e. sym
           (ap (λ x. armed_at x (turned n (finished end) ms)) (key_is number_order k n e) ∙ ap (option_and_then end_of) (turned_here n (finished end) q ms there))
       | false ↦ λ e. h k
@@ -132,6 +132,6 @@ sorted_with i armed s = s
 pub armed_after : (app : App) (number : ℕ) (C : List Moment) (st : State) (i : Item) (armed : Armed) → IsSorted nat_cmp armed →
     ((k : ℕ) → at nat_cmp armed k ≡ armed_at k st.methods) → CanFollow app number C st i → BlocksLast st →
     let ls = (own_after st i).subs in (k : ℕ) →
-        at nat_cmp (unfired (is_opening ls) (least_with None ls) (armed_with i armed)) k ≡ armed_at k (after st i).methods
+    at nat_cmp (unfired (is_opening ls) (least_with None ls) (armed_with i armed)) k ≡ armed_at k (after st i).methods
 armed_after app number C st i armed s h f l k =
     let own = own_after st i in fired_armed own.subs (armed_with i armed) own.methods (sorted_with i armed s) (armed_own app number C st i armed s h f l) k

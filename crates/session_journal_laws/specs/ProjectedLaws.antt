@@ -11,8 +11,7 @@ use Rattle.value_model.specs.Valid.{IsValue, AreValues, HaveValues, HasRisingNam
 use Rattle.ddp_messages.specs.Limits.{IsShallow}
 use Rattle.app_model.specs.declared.publication.Projection.{Projection}
 use Rattle.app_model.specs.declared.publication.Projection.TheVariants as projection
-use Rattle.publication.specs.Projected.{APath, rests_below, ends_here, reaches_nothing, whole_if, field_projected, element_before, field_before,
-    value_projected, elements_projected, fields_projected, at_field, projected}
+use Rattle.publication.specs.Projected.{APath, rests_below, ends_here, reaches_nothing, whole_if, field_projected, element_before, field_before, value_projected, elements_projected, fields_projected, at_field, projected}
 
 -- what is left of a value is a value of no more levels
 abbrev Left : Val → Option Val → Type 0

@@ -1,6 +1,5 @@
 -- Laws of what cursors publish: it is the one answer of the whole query, and contents again.
-use Rattle.std.specs.Prelude.{◌≡◌, ◌↔◌, List, [], ◌∷◌, ◌++◌, map, Bool, true, false, Option, Some, None, IfSome, unwrap_or, option_and_then,
-    if◌then◌else◌, refl}
+use Rattle.std.specs.Prelude.{◌≡◌, ◌↔◌, List, [], ◌∷◌, ◌++◌, map, Bool, true, false, Option, Some, None, IfSome, unwrap_or, option_and_then, if◌then◌else◌, refl}
 use Rattle.std.proofs.Common.{ap, sym, subst, ◌∙◌}
 use Rattle.std.proofs.lemmas.List.{append_assoc, append-nil}
 use Rattle.std.specs.Option.{option_or}
@@ -52,7 +51,7 @@ pub only_queried : (cursors : ACursors) (rows : Rows) (answer : List Publish) �
     answer ≡ map publish_of (queried cursors rows)
 only_queried cursors rows answer s q =
     q.listed ∙ ap (map publish_of)
-        (same_maps key_order q.documents (queried cursors rows) q.by_key (sorted_queried cursors rows s) (λ key. q.each key ∙ sym (at_queried cursors rows key s)))
+    (same_maps key_order q.documents (queried cursors rows) q.by_key (sorted_queried cursors rows s) (λ key. q.each key ∙ sym (at_queried cursors rows key s)))
 
 -- The whole query answers what is published, and nothing else is its answer.
 pub query_is : (cursors : ACursors) (rows : Rows) (answer : List Publish) → IsSorted key_cmp rows →

@@ -1,6 +1,5 @@
 -- No more methods are told `updated` than have their writes shown.
-use Rattle.std.specs.Prelude.{◌≡◌, ◌⊎◌, ℕ, zero, suc, ◌+◌, ◌≤◌, ◌==◌, List, [], ◌∷◌, ◌++◌, length, drop, Bool, true, false, cond, not, ◌||◌, Option,
-    Some, None, option_map, refl}
+use Rattle.std.specs.Prelude.{◌≡◌, ◌⊎◌, ℕ, zero, suc, ◌+◌, ◌≤◌, ◌==◌, List, [], ◌∷◌, ◌++◌, length, drop, Bool, true, false, cond, not, ◌||◌, Option, Some, None, option_map, refl}
 use Rattle.std.proofs.Common.{ap, ap₂, sym, subst, ◌∙◌, arith, inl, inr}
 use Rattle.std.proofs.lemmas.Bool.{le-ltb, eq-eqb}
 use Rattle.value_model.specs.Size.{is_name}
@@ -17,11 +16,12 @@ use Rattle.session_model.specs.Counting.{one_if, updateds, method_by, methods_ha
 use Rattle.session_model.specs.CaughtUp.{far, AreFar, IsShown, AreShown}
 use Rattle.session_model.specs.LooksBack.{opened_in, cursor_in, refuses, is_refused_in, finished_at}
 use Rattle.session_model.specs.Reflected.{is_behind, is_one_behind, is_reflected_at, is_reflected, reflected_by, reflected_among, methods_reflected}
-use Rattle.session_journal_laws.specs.Blocking.{turned_length, fire_length, turned_other, phase_fired, call_number}
-use Rattle.session_journal_laws.specs.Counts.{methods_are_answered}
-use Rattle.session_journal_laws.specs.Fences.{caught_up}
-use Rattle.session_journal_laws.specs.Tracking.{tracks}
-use Rattle.session_journal_laws.specs.Told.{Says, says}
+use Rattle.session_journal_laws.specs.BlockingLaws.{turned_length, fire_length, turned_other, phase_fired, call_number}
+use Rattle.session_journal_laws.specs.CountsLaws.{methods_are_answered}
+use Rattle.session_journal_laws.specs.FencesLaws.{caught_up}
+use Rattle.session_journal_laws.specs.TrackingLaws.{tracks}
+use Rattle.session_journal_laws.specs.Told.{Says}
+use Rattle.session_journal_laws.specs.ToldLaws.{says}
 
 or_left : (a b : Bool) → a ≡ true → (a || b) ≡ true
 or_left true b e = refl

@@ -48,7 +48,7 @@ module _ (taken : List (List ℕ)) (C : List Moment) (sent : List (List ℕ)) (o
       IsAdded stored (apply 0 []) own words old new →
       let i = resolved old.app old.number (taken ++ t ∷ []) stored in
       taken_text old.own.connected t ≡ at_once i → is_at_once i ≡ true → new.taken ≡ suc old.taken → new.waiting ≡ old.waiting →
-          IsPlaced (suc (length taken)) stored →
+      IsPlaced (suc (length taken)) stored →
       CanFollow old.app old.number C old.own i → own ≡ own_after old.own i → words ≡ own_messages C old.number old.own i → Stands (taken ++ t ∷ []) C sent new
   once_stands t own words order p a made once count waiting placed can is_own is_words =
       let items = items_of taken old in
@@ -63,7 +63,7 @@ module _ (taken : List (List ℕ)) (C : List Moment) (sent : List (List ℕ)) (o
       (subst (λ (ms : List ClientMessage). Answers (taken ++ t ∷ []) (items ++ i ∷ []) ms) (sym waiting)
       (answers_at_once taken items old.waiting t i p.answers (ap (λ (st : State). taken_text st.connected t) (sym p.own) ∙ made) once))
       (subst (λ (st : State). CanFollow old.app old.number C st i) p.own can) (is_own ∙ ap (λ (st : State). own_after st i) p.own)
-          (is_words ∙ ap (λ (st : State). own_messages C old.number st i) p.own)
+      (is_words ∙ ap (λ (st : State). own_messages C old.number st i) p.own)
       (shows_idle C order items i idle.0 (ap (λ ls. shown_in C ls 0) (sym (idle.1 (state_of items)))))
 
   -- Any other item: it handles the first message that waits, or none.
@@ -73,7 +73,7 @@ module _ (taken : List (List ℕ)) (C : List Moment) (sent : List (List ℕ)) (o
       is_at_once i ≡ false → new.taken ≡ old.taken → old.waiting ≡ handled_by i ++ new.waiting → IsPlaced (length taken) stored →
       CanFollow old.app old.number C old.own i → own ≡ own_after old.own i → words ≡ own_messages C old.number old.own i →
       ((r : ℕ) → shown key_cmp (call ∷ calls_of C (items_of taken old)) r ≡ shown_in C (after (state_of (items_of taken old)) i).subs r) →
-          Stands taken C sent new
+      Stands taken C sent new
   later_stands call own words order p a later count waiting placed can is_own is_words shows =
       let items = items_of taken old in
       let i = resolved old.app old.number taken stored in
@@ -81,4 +81,4 @@ module _ (taken : List (List ℕ)) (C : List Moment) (sent : List (List ℕ)) (o
       (subst (ArePlaced (length taken)) (sym a.journal) (placed-append (length taken) old.journal stored p.placed placed))
       (answers_in_turn taken items new.waiting i (subst (λ (ms : List ClientMessage). Answers taken items ms) waiting p.answers) later)
       (subst (λ (st : State). CanFollow old.app old.number C st i) p.own can) (is_own ∙ ap (λ (st : State). own_after st i) p.own)
-          (is_words ∙ ap (λ (st : State). own_messages C old.number st i) p.own) shows
+      (is_words ∙ ap (λ (st : State). own_messages C old.number st i) p.own) shows

@@ -27,7 +27,7 @@ use Rattle.session_model.specs.Fits.{CanFollow, Fits}
 use Rattle.session_model.specs.Taking.{to_queue, taken_text}
 use Rattle.session_model.specs.Answering.{Answers}
 use Rattle.session_journal_laws.specs.Appending.{state-append, calls-append, fits-append, out_texts-append, counts_from-append}
-use Rattle.session_journal_laws.specs.Longer.{calls-longer, fits_from-longer, out_texts-longer, counts_from-longer}
+use Rattle.session_journal_laws.specs.LongerLaws.{calls-longer, fits_from-longer, out_texts-longer, counts_from-longer}
 use Rattle.session_journal_laws.specs.Shows.{AreInOrder, one_more, calls_show, others_stay, merge_is}
 use Rattle.session_journal_laws.specs.Takes.{answers_first, answers_later}
 use Rattle.session_journal_laws.specs.declared.stored.Stored.{Stored}
@@ -115,7 +115,7 @@ module _ (taken taken2 : List (List ℕ)) (C : List Moment) (sent : List (List �
       let stands : StandsFor (call_of C st i ∷ past) new.box = same_calls (call_of C st i) call past new.box next (stands_after key_order name_order call past old.box new.box p.shows a.box a.order) in
       let messages : added_messages own words old.box new.box ≡ messages_of C old.number past st i =
       ap₂ (λ m n. map about (difference m n) ++ (words ++ map updated (all_told own.subs own.methods))) (seen_is past old.box p.shows)
-          (seen_is (call_of C st i ∷ past) new.box stands)
+      (seen_is (call_of C st i ∷ past) new.box stands)
       ∙ ap₂ (λ (ws : List ServerMessage) (o : State). map about (difference (merge_of past) (merge_of (call_of C st i ∷ past))) ++ (ws ++ map updated (all_told o.subs o.methods))) is_words is_own in
       record {
         count = count;

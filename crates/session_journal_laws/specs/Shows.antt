@@ -45,7 +45,7 @@ module _ {K D : Type 0} {R : K → K → Ordering} (o : IsKeyOrder R) where
       let rest = renewed_at b a2 ks q (sorted-set o a k (at R b k) p) in
       let here = at-set o a k (at R b k) q p in
       elim (eq_by_cmp R q k) as
-          (λ c. eq_by_cmp R q k ≡ c → at R (renewed R a2 (map (λ x. (x, at R b x)) ks)) q ≡ cond (c || list_any (eq_by_cmp R q) ks) (at R b q) (at R a q)) [
+      (λ c. eq_by_cmp R q k ≡ c → at R (renewed R a2 (map (λ x. (x, at R b x)) ks)) q ≡ cond (c || list_any (eq_by_cmp R q) ks) (at R b q) (at R a q)) [
         | true ↦ λ is.
             let same : at R a2 q ≡ at R b q = here ∙ (ap (λ c. cond c (at R b k) (at R a q)) is ∙ ap (at R b) (sym (key_is o q k is))) in
             rest ∙ (ap (λ x. cond (list_any (eq_by_cmp R q) ks) (at R b q) x) same ∙ elim (list_any (eq_by_cmp R q) ks) as (λ c. cond c (at R b q) (at R b q) ≡ at R b q) [ true ↦ refl | false ↦ refl ])
@@ -62,7 +62,7 @@ module _ {K D : Type 0} {R : K → K → Ordering} (o : IsKeyOrder R) where
   renewed_news a b p q = same_maps o (renewed R a (news R a b)) b (sorted_renewed a (news R a b) p) q (λ k.
       renewed_at b a (keys_of (union R a b)) k p
       ∙ elim (list_any (eq_by_cmp R k) (keys_of (union R a b))) as
-          (λ c. list_any (eq_by_cmp R k) (keys_of (union R a b)) ≡ c → cond c (at R b k) (at R a k) ≡ at R b k) [
+      (λ c. list_any (eq_by_cmp R k) (keys_of (union R a b)) ≡ c → cond c (at R b k) (at R a k) ≡ at R b k) [
         | true ↦ λ is. refl
         | false ↦ λ is. let none = none_there (at R a k) (at R b k) (ap is_some (sym (at-union o a b k)) ∙ (is_some-at R (union R a b) k ∙ is)) in none.0 ∙ sym none.1
       ] refl)
@@ -94,7 +94,7 @@ module _ (C : List Moment) (order : AreInOrder C) where
       let a = shown_in C st.subs s in
       let b = shown_in C (after st i).subs s in
       elim (r == s) as
-          (λ c. r == s ≡ c → cond c (renewed key_cmp (shown key_cmp past r) (news key_cmp a b)) (shown key_cmp past r) ≡ shown_in C (after st i).subs r) [
+      (λ c. r == s ≡ c → cond c (renewed key_cmp (shown key_cmp past r) (news key_cmp a b)) (shown key_cmp past r) ≡ shown_in C (after st i).subs r) [
         | true ↦ λ is.
             let same : r ≡ s = eqb-true r s is in
             ap (λ m. renewed key_cmp m (news key_cmp a b)) (h r ∙ ap (shown_in C st.subs) same)

@@ -1,6 +1,5 @@
 -- What a session makes of a text may follow its journal, and the journal with it answers the texts with that one.
-use Rattle.std.specs.Prelude.{◌≡◌, ℕ, List, [], ◌∷◌, ◌++◌, length, Bool, true, false, cond, not, ◌&&◌, nat_le, nat_lt, Option, Some, None, IfSome,
-    codes, is_some, option_and_then, Result, Ok, Err, refl}
+use Rattle.std.specs.Prelude.{◌≡◌, ℕ, List, [], ◌∷◌, ◌++◌, length, Bool, true, false, cond, not, ◌&&◌, nat_le, nat_lt, Option, Some, None, IfSome, codes, is_some, option_and_then, Result, Ok, Err, refl}
 use Rattle.std.proofs.Common.{ap, ap₂, sym, subst, ◌∙◌, append-nil}
 use Rattle.std.proofs.lemmas.List.{append_assoc}
 use Rattle.std.proofs.lemmas.Bool.{leb-true}
@@ -29,8 +28,7 @@ use Rattle.session_model.specs.Items as item
 use Rattle.session_model.specs.State.{State, started, after, state_of}
 use Rattle.session_model.specs.Moments.{Moment}
 use Rattle.session_model.specs.Fits.{CanFollow}
-use Rattle.session_model.specs.Taking.{max_text, Taken, at_once, to_queue, offending_of, refused_for, taken_as, taken_named, taken_tree, taken_text,
-    connects, item_of, message_of, is_connected_by, answered_from, queued_from}
+use Rattle.session_model.specs.Taking.{max_text, Taken, at_once, to_queue, offending_of, refused_for, taken_as, taken_named, taken_tree, taken_text, connects, item_of, message_of, is_connected_by, answered_from, queued_from}
 use Rattle.session_model.specs.Answering.{is_at_once, at_once_in, Answers}
 use Rattle.session_journal_laws.specs.Appending.{state-append, handled-append}
 
@@ -152,7 +150,7 @@ answered-append connected [] t = append-nil (item_of (taken_text connected t))
 answered-append connected (x ∷ ts) t =
     let c = connects connected (taken_text connected x) in
     ap (λ rest. item_of (taken_text connected x) ++ rest) (answered-append c ts t)
-        ∙ sym (append_assoc (item_of (taken_text connected x)) (answered_from c ts) (item_of (taken_text (is_connected_by c ts) t)))
+    ∙ sym (append_assoc (item_of (taken_text connected x)) (answered_from c ts) (item_of (taken_text (is_connected_by c ts) t)))
 
 queued-append : (connected : Bool) (ts : List (List ℕ)) (t : List ℕ) →
     queued_from connected (ts ++ t ∷ []) ≡ queued_from connected ts ++ message_of (taken_text (is_connected_by connected ts) t)
@@ -160,15 +158,15 @@ queued-append connected [] t = append-nil (message_of (taken_text connected t))
 queued-append connected (x ∷ ts) t =
     let c = connects connected (taken_text connected x) in
     ap (λ rest. message_of (taken_text connected x) ++ rest) (queued-append c ts t)
-        ∙ sym (append_assoc (message_of (taken_text connected x)) (queued_from c ts) (message_of (taken_text (is_connected_by c ts) t)))
+    ∙ sym (append_assoc (message_of (taken_text connected x)) (queued_from c ts) (message_of (taken_text (is_connected_by c ts) t)))
 
 at_once-append : (items : List Item) (i : Item) → at_once_in (items ++ i ∷ []) ≡ at_once_in items ++ at_once_in (i ∷ [])
 at_once-append [] i = refl
 at_once-append (j ∷ items) i = elim (is_at_once j) as
     (λ b. cond b (j ∷ at_once_in (items ++ i ∷ [])) (at_once_in (items ++ i ∷ [])) ≡ cond b (j ∷ at_once_in items) (at_once_in items) ++ at_once_in (i ∷ [])) [
-  | true ↦ ap (λ rest. j ∷ rest) (at_once-append items i)
-  | false ↦ at_once-append items i
-]
+      | true ↦ ap (λ rest. j ∷ rest) (at_once-append items i)
+      | false ↦ at_once-append items i
+    ]
 
 handled-one : (items : List Item) (i : Item) → handled (items ++ i ∷ []) ≡ handled items ++ handled_by i
 handled-one items i = handled-append items (i ∷ []) ∙ ap (λ xs. handled items ++ xs) (append-nil (handled_by i))

@@ -22,7 +22,7 @@ use Rattle.session_laws.specs.Adding.{HasAdded}
 use Rattle.session_laws.specs.Storing.{kept_as, shown_id}
 use Rattle.session_laws.specs.Meaning.{AreFrom, AreOpen, AreWatched, Means}
 use Rattle.session_laws.specs.Events.{Waits}
-use Rattle.session_laws.specs.Taking.{open_after}
+use Rattle.session_laws.specs.TakingLaws.{open_after}
 use Rattle.session_laws.specs.Keeping.{ids_added}
 
 -- it answers no text and handles no message
@@ -38,7 +38,7 @@ module _ (taken : List (List ℕ)) (C : List Moment) (sent : List (List ℕ)) (i
   pub added_keeps : IsTextless i → Means taken C sent old → HasAdded (kept_as 0 i) (shown_id i) call (own_after old.carried.own i) words old new →
       Waits old new →
       resolved old.carried.app old.carried.number taken (kept_as 0 i) ≡ i → CanFollow old.carried.app old.carried.number C old.carried.own i →
-          words ≡ own_messages C old.carried.number old.carried.own i →
+      words ≡ own_messages C old.carried.number old.carried.own i →
       ((r : ℕ) → shown key_cmp (call ∷ calls_of C (items_of taken old.carried)) r ≡ shown_in C (after (state_of (items_of taken old.carried)) i).subs r) →
       AreWatched C new.carried.own.subs new.observers → Means taken C sent new
   added_keeps q m a w reads can says shows watched =
@@ -50,7 +50,7 @@ module _ (taken : List (List ℕ)) (C : List Moment) (sent : List (List ℕ)) (i
         stands = later_stands taken C sent old.carried new.carried (kept_as 0 i) call (own_after own i) words m.order m.stands a.added
             (ap is_at_once reads ∙ q.later) w.taken
             (sym (ap (λ (ms : List ClientMessage). ms ++ new.carried.waiting) handles ∙ w.waiting)) (q.placed _)
-                (subst (CanFollow old.carried.app old.carried.number C own) (sym reads) can) (ap (own_after own) (sym reads))
+            (subst (CanFollow old.carried.app old.carried.number C own) (sym reads) can) (ap (own_after own) (sym reads))
             (says ∙ ap (own_messages C old.carried.number own) (sym reads))
             (subst (λ (j : Item). (r : ℕ) → shown key_cmp (call ∷ calls_of C items) r ≡ shown_in C (after (state_of items) j).subs r) (sym reads) shows);
         ids = ids_added taken (kept_as 0 i) i call (own_after own i) words old new a reads m.ids;

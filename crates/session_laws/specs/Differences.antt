@@ -57,9 +57,9 @@ listed_at : (documents : Rows) (key : Key) →
 listed_at [] key = refl
 listed_at (row ∷ documents) key = elim (eq_by_cmp key_cmp key row.0) as
     (λ b. cond b (Some (Some row.1)) (at key_cmp (news_of (map publish_of documents)) key) ≡ option_map (λ (doc : Entries). let one : Option Entries = Some doc in one) (cond b (Some row.1) (at key_cmp documents key))) [
-  | true ↦ refl
-  | false ↦ listed_at documents key
-]
+      | true ↦ refl
+      | false ↦ listed_at documents key
+    ]
 
 some_back : (o : Option Entries) → unwrap_or (option_map (λ (doc : Entries). let one : Option Entries = Some doc in one) o) None ≡ o
 some_back None = refl
@@ -74,7 +74,7 @@ query_leads cursors rows answer s q =
     let sorted : IsSorted key_cmp news = subst (λ (ks : List Key). IsStrictlySortedBy key_cmp ks) (sym (listed_keys documents)) q.by_key in
     ap (λ (ps : List Publish). renewed key_cmp none (news_of ps)) q.listed
     ∙ same_maps key_order (renewed key_cmp none news) (queried cursors rows) (sorted_renewed key_order none news (sorted-nil key_cmp))
-        (sorted_queried cursors rows s) (λ key.
+    (sorted_queried cursors rows s) (λ key.
     renewed_at key_order none news key (sorted-nil key_cmp) sorted
     ∙ (ap (λ (x : Option (Option Entries)). unwrap_or x None) (listed_at documents key) ∙ (some_back (at key_cmp documents key) ∙ (q.each key ∙ sym (at_queried cursors rows key s)))))
 
@@ -92,7 +92,7 @@ difference_leads cursors rows rows' told p q d =
     let shown = queried cursors rows in
     let sorted = sorted_queried cursors rows p in
     same_maps key_order (renewed key_cmp shown told) (queried cursors rows') (sorted_renewed key_order shown told sorted)
-        (sorted_queried cursors rows' q) (λ key.
+    (sorted_queried cursors rows' q) (λ key.
     renewed_at key_order shown told key sorted d.by_key
     ∙ (ap (λ (x : Option Entries). unwrap_or (at key_cmp told key) x) (at_queried cursors rows key p)
     ∙ (differs_by (published cursors rows) (published cursors rows') told key d (at key_cmp told key) refl ∙ sym (at_queried cursors rows' key q))))

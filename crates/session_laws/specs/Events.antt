@@ -1,6 +1,5 @@
 -- The events of a session: what each changes, when and why it is refused, that a refusal changes nothing, and what the session stands for afterwards.
-use Rattle.std.specs.Prelude.{◌≡◌, ◌⊎◌, ℕ, suc, ◌+◌, ◌<◌, List, [], ◌∷◌, ◌++◌, drop, length, map, true, false, Option, None, Some, option_map, Result,
-    OnOk, OnErr, IfErr, IfSome}
+use Rattle.std.specs.Prelude.{◌≡◌, ◌⊎◌, ℕ, suc, ◌+◌, ◌<◌, List, [], ◌∷◌, ◌++◌, drop, length, map, true, false, Option, None, Some, option_map, Result, OnOk, OnErr, IfErr, IfSome}
 use Rattle.map_model.specs.Changes.{Leads}
 use Rattle.merge_model.specs.Publishing.{Call, apply, drop_sub, renewed}
 use Rattle.value_model.specs.Val.{Entries}
@@ -29,8 +28,7 @@ use Rattle.session_model.specs.Out.{own_messages, result_by}
 use Rattle.session_model.specs.Fits.{item_for, IsRefusedAt}
 use Rattle.session_laws.specs.declared.fault.EventFault.{EventFault}
 use Rattle.session_laws.specs.declared.fault.EventFault.TheVariants as fault
-use Rattle.session_laws.specs.Session.{ASession, is_full, is_crowded, is_at_work, can_handle, can_load, can_advance, can_learn, can_refuse, IsCause,
-    HadRoom, dropped}
+use Rattle.session_laws.specs.Session.{ASession, is_full, is_crowded, is_at_work, can_handle, can_load, can_advance, can_learn, can_refuse, IsCause, HadRoom, dropped}
 use Rattle.session_laws.specs.Observers.{observers_without, observer_at, observers_with}
 use Rattle.session_laws.specs.Adding.{HasAdded}
 use Rattle.session_laws.specs.Storing.{kept_as, shown_id}
@@ -204,7 +202,7 @@ pub record IsBatch (C : List Moment) (place : Option ℕ) (start count : ℕ) (c
 abbrev pub KeepsAdvancing : ℕ → ℕ → ℕ → List Change → ASession → ASession → Type 0
 KeepsAdvancing sub start count changes old new =
     (taken : List (List ℕ)) (C : List Moment) (sent : List (List ℕ)) → Means taken C sent old →
-        IsBatch C (cursor_of sub old.carried.own.subs) start count changes → Means taken C sent new
+    IsBatch C (cursor_of sub old.carried.own.subs) start count changes → Means taken C sent new
 
 -- the subscription goes on over a batch of entries
 pub record Advances (sub start count : ℕ) (changes : List Change) (old new : ASession) (result : Outcome) : Type 0 where
@@ -273,7 +271,7 @@ pub record Learns (k : ℕ) (status : Status) (old new : ASession) (result : Out
 abbrev pub KeepsRefusing : ℕ → ℕ → ASession → ASession → Type 0
 KeepsRefusing k place old new =
     (taken : List (List ℕ)) (C : List Moment) (sent : List (List ℕ)) → Means taken C sent old →
-        IsRefusedAt (moment_at C place) k old.carried.own.blocking → Means taken C sent new
+    IsRefusedAt (moment_at C place) k old.carried.own.blocking → Means taken C sent new
 
 abbrev pub HasRefused : ℕ → ℕ → ASession → ASession → Type 0
 HasRefused k place old new = HasLearnt (item.refused k place) (own_messages [] old.carried.number old.carried.own (item.refused k place)) old new

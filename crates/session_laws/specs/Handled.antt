@@ -31,7 +31,7 @@ use Rattle.session_laws.specs.Storing.{kept_as}
 use Rattle.session_laws.specs.Session.{ASession}
 use Rattle.session_laws.specs.Meaning.{is_request, AreFrom, AreOpen, IsWatched, AreWatched}
 use Rattle.session_laws.specs.Events.{Keeps, plain_call, observers_after, IsHandledAs, HasHandled}
-use Rattle.session_laws.specs.Taking.{open_after, open_less}
+use Rattle.session_laws.specs.TakingLaws.{open_after, open_less}
 use Rattle.session_laws.specs.Keeping.{ids_added}
 
 -- ---- which items a message makes
@@ -39,7 +39,7 @@ use Rattle.session_laws.specs.Keeping.{ids_added}
 module _ (P : Item → Type 0) (app : App) (number : ℕ) (st : State) (m : ClientMessage) (same : P (item.same m))
     (nosub : (f : Option SubFault) → P (item.nosub m f))
     (opens : (cursors : ACursors) → making app (name_of m) (params_of m) ≡ Ok cursors → P (item.subscribe st.opened m cursors))
-        (closes : (s : ℕ) → P (item.close s m))
+    (closes : (s : ℕ) → P (item.close s m))
     (calls : P (item.call (length st.methods) m (seed_or number (length st.methods) (seed_in m)))) (unknown : P (item.unknown m)) where
   if_opened : (made : Making) → making app (name_of m) (params_of m) ≡ made → P (opened_by st.opened m made)
   if_opened (Ok cursors) e = opens cursors e
@@ -114,7 +114,7 @@ pub plain_shows : (C : List Moment) → AreInOrder C → (app : App) (number : �
     let i = item_for app number (state_of items) m in (r : ℕ) → shown key_cmp (plain_call i ∷ calls_of C items) r ≡ shown_in C (after (state_of items) i).subs r
 plain_shows C order app number items m w =
     let st = state_of items in item_cases
-        (λ (i : Item). (r : ℕ) → shown key_cmp (plain_call i ∷ calls_of C items) r ≡ shown_in C (after st i).subs r) app number st m w
+    (λ (i : Item). (r : ℕ) → shown key_cmp (plain_call i ∷ calls_of C items) r ≡ shown_in C (after st i).subs r) app number st m w
     (shows_idle C order items (item.same m) refl refl)
     (λ f. shows_idle C order items (item.nosub m f) refl refl)
     (λ cursors is. shows_idle C order items (item.subscribe st.opened m cursors) refl (sym (same_opened (λ (l : Live). shown_at C l.cursors l.cursor) [] 0 st.subs (opening st st.opened m cursors) refl)))
@@ -138,9 +138,9 @@ watched_closed C s [] (o ∷ os) w = absurd w
 watched_closed C s (x ∷ ls) [] w = absurd w
 watched_closed C s (x ∷ ls) (o ∷ os) w = elim (s == x.sub) as
     (λ b. AreWatched C (cond (not b) (x ∷ closed s ls) (closed s ls)) (cond b (observers_without s ls os) (o ∷ observers_without s ls os))) [
-  | true ↦ watched_closed C s ls os w.1
-  | false ↦ (w.0, watched_closed C s ls os w.1)
-]
+      | true ↦ watched_closed C s ls os w.1
+      | false ↦ (w.0, watched_closed C s ls os w.1)
+    ]
 
 watched_after : (C : List Moment) (app : App) (number : ℕ) (st : State) (m : ClientMessage) (os : List (Option AnObserver)) → is_request m ≡ true →
     AreWatched C st.subs os →
@@ -182,7 +182,7 @@ module _ (old new : ASession) (free : old.carried.own.blocking ≡ None) where
             (own_messages [] number own i) k.order k.stands a.done.added (ap is_at_once reads ∙ turn.later) a.taken
             (waiting ∙ (ap (λ (xs : List ClientMessage). m ∷ xs) (sym rest) ∙ ap (λ (xs : List ClientMessage). xs ++ new.carried.waiting) (sym (ap handled_by reads ∙ turn.handles))))
             (turn.placed (length taken) place f.within)
-                (subst (CanFollow app number C own) (sym reads) (may_follow C app number own m f.waits (record { connected = connected; free = free; short = f.short; made = refl })))
+            (subst (CanFollow app number C own) (sym reads) (may_follow C app number own m f.waits (record { connected = connected; free = free; short = f.short; made = refl })))
             (ap (own_after own) (sym reads)) (turn.says C number own ∙ ap (own_messages C number own) (sym reads))
             (subst (λ (j : Item). (r : ℕ) → shown key_cmp (plain_call i ∷ calls_of C items) r ≡ shown_in C (after (state_of items) j).subs r) (sym reads) shows);
         ids = ids_added taken (kept_as place i) i (plain_call i) (own_after own i) (own_messages [] number own i) old new a.done reads k.ids;

@@ -30,7 +30,7 @@ use Rattle.session_laws.specs.Adding.{HasAdded}
 use Rattle.session_laws.specs.Storing.{kept_as, shown_id}
 use Rattle.session_laws.specs.Meaning.{IsFrom, AreFrom, AreOpen, AreWatched}
 use Rattle.session_laws.specs.Events.{IsAnswered, KeepsTaking, queued}
-use Rattle.session_laws.specs.Taking.{answered_once, queued_waits, queued_connected, once_says, once_subs, once_resolved, open_after, open_more}
+use Rattle.session_laws.specs.TakingLaws.{answered_once, queued_waits, queued_connected, once_says, once_subs, once_resolved, open_after, open_more}
 
 -- ---- parts of what a session stands for
 
@@ -44,7 +44,7 @@ items_added taken i old new app number journal =
 pub ids_added : (taken : List (List ℕ)) (kept : Stored) (i : Item) (call : Call Key Entries) (state : State) (words : List ServerMessage)
     (old new : ASession) → HasAdded kept (shown_id i) call state words old new →
     resolved old.carried.app old.carried.number taken kept ≡ i → old.ids ≡ map shown_id (items_of taken old.carried) →
-        new.ids ≡ map shown_id (items_of taken new.carried)
+    new.ids ≡ map shown_id (items_of taken new.carried)
 ids_added taken kept i call state words old new a is ids =
     let items = items_of taken old.carried in
     a.ids ∙ (ap (λ (xs : List (Option (List ℕ))). xs ++ shown_id i ∷ []) ids
@@ -99,9 +99,9 @@ module _ (t : List ℕ) (i : Item) (old new : ASession) (failed : old.carried.ow
         stands = once_stands taken C sent old.carried new.carried kept t (own_after old.carried.own i)
             (own_messages [] number old.carried.own i) m.order m.stands a.done.added
             (is ∙ ap at_once (sym reads)) (ap is_at_once reads ∙ once) a.taken a.waiting
-                (subst (λ n. IsPlaced (suc (length taken)) (kept_as n i)) (sym m.stands.count) (placed_once (length taken) i once))
+            (subst (λ n. IsPlaced (suc (length taken)) (kept_as n i)) (sym m.stands.count) (placed_once (length taken) i once))
             (subst (CanFollow app number C old.carried.own) (sym reads) may) (ap (own_after old.carried.own) (sym reads))
-                (once_says C number old.carried.own i once ∙ ap (own_messages C number old.carried.own) (sym reads));
+            (once_says C number old.carried.own i once ∙ ap (own_messages C number old.carried.own) (sym reads));
         ids = ids_added (taken ++ t ∷ []) kept i (apply 0 []) (own_after old.carried.own i)
             (own_messages [] number old.carried.own i) old new a.done reads
             (m.ids ∙ ap (map shown_id) (sym (items-more app number taken (t ∷ []) old.carried.journal m.stands.placed)));

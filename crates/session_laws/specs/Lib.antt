@@ -5,13 +5,16 @@ pub mod Adding
 pub mod Meaning
 pub mod Events
 pub mod Taking
+pub mod TakingLaws
 pub mod Keeping
 pub mod Added
 pub mod Learning
+pub mod LearningLaws
 pub mod Handled
 pub mod Longer
 pub mod Differences
 pub mod Loading
+pub mod LoadingLaws
 pub mod Showing
 -- what lies below, for the crates above
 pub mod session_journal_laws

@@ -7,7 +7,8 @@ use Rattle.session_model.specs.Subscriptions.{Live}
 use Rattle.session_model.specs.State.{State, started}
 use Rattle.session_model.specs.Moments.{Moment, rows_of}
 use Rattle.session_journal_laws.specs.Shows.{AreInOrder}
-use Rattle.session_journal_laws.specs.Longer.{IsPlace, AreWithin, within_from, moment_at-longer}
+use Rattle.session_journal_laws.specs.Longer.{IsPlace, AreWithin}
+use Rattle.session_journal_laws.specs.LongerLaws.{within_from, moment_at-longer}
 use Rattle.session_journal_laws.specs.Stands.{items_of}
 use Rattle.session_journal_laws.specs.RelationKeeping.{new_stands, longer_stands}
 use Rattle.session_laws.specs.Session.{ASession, new_session}

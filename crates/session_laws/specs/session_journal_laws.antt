@@ -5,3 +5,4 @@ pub use Rattle.session_journal_laws.specs.ResolvedLaws
 pub use Rattle.session_journal_laws.specs.Stands
 pub use Rattle.session_journal_laws.specs.declared
 pub use Rattle.session_journal_laws.specs.Blocking
+pub use Rattle.session_journal_laws.specs.BlockingLaws

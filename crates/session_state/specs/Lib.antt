@@ -4,4 +4,5 @@ pub mod Kept
 pub mod Subs
 pub mod Calls
 pub mod Progress
+pub mod ProgressLaws
 pub mod Own

@@ -6,5 +6,8 @@ mod said;
 mod taking;
 
 pub use publications::making;
-pub use said::{Texts, answer_texts, data_text, error_of, nosub_text, ready_text, refused_texts, result_text, session_name, unknown_texts, updated_text, };
+pub use said::{
+    Texts, answer_texts, data_text, error_of, nosub_text, ready_text, refused_texts, result_text,
+    session_name, unknown_texts, updated_text,
+};
 pub use taking::{Answer, Taken, taken_from};

@@ -4,8 +4,8 @@ ghost use Rattle.session_model.specs.Publication.{making};
 
 use app_model::App;
 use ejson_value::{Items, Mem, Text};
-use session_model::SubFault;
 use publication::{CursorFault, Cursors};
+use session_model::SubFault;
 use std::alloc::Global;
 
 /// The cursors of the publication of this name, or why a `sub` of it is refused.

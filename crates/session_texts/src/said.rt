@@ -13,8 +13,8 @@ ghost use Rattle.session_texts.specs.Taking.{as_item};
 use crate::taking::Answer;
 use ddp_messages::{DataMsg, Fault, FromServer};
 use ejson_value::{Mem, Names, Text, Value, copy, copy_option};
-use session_model::SubFault;
 use program_steps::Outcome;
+use session_model::SubFault;
 use std::alloc::Global;
 use std::collections::VecDeque;
 

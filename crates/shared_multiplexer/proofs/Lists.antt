@@ -11,13 +11,13 @@ use Rattle.history_model.specs.declared.entry.Entry.{Entry}
 use Rattle.history_model.specs.History.{Programs, changes_between}
 use Rattle.pass_log.specs.History.{longer}
 use Rattle.store_machine.specs.State.{MachineState, programs}
-use Rattle.world_news_laws.specs.multiplexer.Longer.{between_longer, told_longer}
+use Rattle.world_news_laws.specs.multiplexer.LongerLaws.{between_longer, told_longer}
 use Rattle.world_news_laws.specs.multiplexer.Looks.{looks}
 use Rattle.world_news_laws.specs.multiplexer.Spans.{IsLent}
 use Rattle.world_news_laws.specs.multiplexer.Telling.{ANews, batch_of}
 use Rattle.world_news_laws.specs.multiplexer.declared.news.Lent.{Lent}
-use Rattle.world_news_laws.specs.multiplexer_for_proofs.Between.{between_more, none_between}
-use Rattle.world_news_laws.specs.multiplexer_for_proofs.Lending.{lent_longer, lent_shorter}
+use Rattle.world_news_laws.specs.multiplexer_for_proofs.BetweenLaws.{between_more, none_between}
+use Rattle.world_news_laws.specs.multiplexer_for_proofs.LendingLaws.{lent_longer, lent_shorter}
 use Rattle.session_state.specs.declared.subs.Sub.{Sub}
 use Rattle.world_news_laws.specs.Sources.{cursors_at_of}
 use Rattle.shared_multiplexer.specs.Copied.{ACopy, all_of, changes_in, next_of, with_one, AreFrom, AreCopiedOf, IsNext, IsBatchOf, AreBehind}

@@ -8,9 +8,9 @@ ghost use Rattle.shared_multiplexer.specs.Copied.{all_of, changes_in, next_of, w
 
 use ejson_value::{Change, Changes, Mem};
 use history_log::Batch;
-use world_news_laws::multiplexer::Entries;
 use std::alloc::Global;
 use std::marker::Model;
+use world_news_laws::multiplexer::Entries;
 
 /// What some entries of a store's history changed, one behind another. A contract sees how many entries stand before
 /// them, and the changes of each.

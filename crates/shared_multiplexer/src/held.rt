@@ -17,11 +17,11 @@ use history_model::entry::Entry;
 use pass_log::{Log, Note};
 use selector_match::Steps;
 use session_state::Sub;
-use world_news_laws::multiplexer::{Lent, Multiplexer};
 use std::alloc::Global;
 use std::marker::Model;
 use std::sync::ledger::Ledger;
 use store_name::{StoreName, StorePass};
+use world_news_laws::multiplexer::{Lent, Multiplexer};
 
 /// A multiplexer of the store `N`, with a pass of its history. Each answer that is kept is that of the pass's list.
 #[derive(Drop)]

@@ -16,12 +16,12 @@ use pass_log::{Log, Note};
 use selector_match::Steps;
 use session_state::Sub;
 use shared_store::SharedStore;
-use world_news_laws::multiplexer::Lent;
 use std::alloc::Global;
 use std::marker::Brand;
 use std::sync::ledger::{Blank, Ledger};
 use std::sync::{Mutex, Wait};
 use store_name::{StoreName, StorePass};
+use world_news_laws::multiplexer::Lent;
 
 /// A multiplexer that threads share. Each call takes its lock, and none of a store.
 #[derive(Drop)]

@@ -2,7 +2,8 @@
 use Rattle.std.specs.Prelude.{ℕ, List, length}
 use Rattle.std.proofs.Common.{sym, subst, arith}
 use Rattle.session_model.specs.State.{State, started}
-use Rattle.shared_session.specs.Reached.{AreReached, reached_from}
+use Rattle.shared_session.specs.Reached.{AreReached}
+use Rattle.shared_session.specs.ReachedLaws.{reached_from}
 use Rattle.world_model.specs.Store.{moments}
 use Rattle.world_invariant_laws.specs.Moments.{moments_length}
 use Rattle.session_journal_laws.specs.Stands.{items_of}

@@ -23,7 +23,7 @@ use Rattle.history_model.specs.declared.entry.Entry.{Entry}
 use Rattle.history_model.specs.History.{Programs, Held, held_at, status_in, status_at, changes_from, changes_between, is_full}
 use Rattle.history_model.specs.HistoryLaws.{held_at-longer, between_leads}
 use Rattle.world_model.specs.Store.{programs, moment_of, moments}
-use Rattle.world_invariant_laws.specs.Places.{ended_there}
+use Rattle.world_invariant_laws.specs.PlacesLaws.{ended_there}
 use Rattle.world_invariant_laws.specs.Moments.{moments_length, moment_there, run_there}
 use Rattle.session_laws.specs.Session.{ASession}
 use Rattle.session_laws.specs.Events.{IsSnapshot, IsBatch, IsStatus, IsFeed, cursors_at}

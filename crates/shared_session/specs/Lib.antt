@@ -1,4 +1,5 @@
 pub mod Reached
+pub mod ReachedLaws
 pub mod Held
 pub mod Standing
 pub mod Events

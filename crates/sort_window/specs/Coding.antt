@@ -25,7 +25,7 @@ news_code = coded_list (coded× id_code (coded_option row_code))
 abbrev pub change_code : Coded (Change (List ℕ) Row)
 change_code =
     code_by (List ℕ × (Option Row × Option Row)) (coded× id_code (coded× (coded_option row_code) (coded_option row_code)))
-        (λ c. (c.key, (c.before, c.after))) (λ p. record { key = p.0; before = p.1.0; after = p.1.1 }) (λ _. refl)
+    (λ c. (c.key, (c.before, c.after))) (λ p. record { key = p.0; before = p.1.0; after = p.1.1 }) (λ _. refl)
 
 abbrev pub sort_key_code : Coded SortKey
 sort_key_code = code_by (List (List ℕ) × Bool) (coded× (coded_list id_code) coded_bool) (λ k. (k.path, k.descending))
@@ -34,7 +34,7 @@ sort_key_code = code_by (List (List ℕ) × Bool) (coded× (coded_list id_code) 
 abbrev pub window_code : Coded WindowState
 window_code =
     code_by (List SortKey × (ℕ × RowMap)) (coded× (coded_list sort_key_code) (coded× coded_ℕ (coded_list held_code)))
-        (λ w. (w.sort, (w.limit, w.rows))) (λ p. record { sort = p.0; limit = p.1.0; rows = p.1.1 }) (λ _. refl)
+    (λ w. (w.sort, (w.limit, w.rows))) (λ p. record { sort = p.0; limit = p.1.0; rows = p.1.1 }) (λ _. refl)
 
 abbrev pub told_code : Coded (List (List ℕ × Option Entries))
 told_code = coded_list (coded× id_code (coded_option entries_code))
@@ -42,4 +42,4 @@ told_code = coded_list (coded× id_code (coded_option entries_code))
 abbrev pub moves_code : Coded MovesState
 moves_code =
     code_by (List (Change (List ℕ) Row) × (ℕ × List (List ℕ × Option Entries))) (coded× (coded_list change_code) (coded× coded_ℕ told_code))
-        (λ m. (m.changes, (m.room, m.told))) (λ p. record { changes = p.0; room = p.1.0; told = p.1.1 }) (λ _. refl)
+    (λ m. (m.changes, (m.room, m.told))) (λ p. record { changes = p.0; room = p.1.0; told = p.1.1 }) (λ _. refl)

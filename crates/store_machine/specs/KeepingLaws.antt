@@ -1,6 +1,5 @@
 -- What is kept is what the history leads to, entry by entry.
-use Rattle.std.specs.Prelude.{◌≡◌, ℕ, suc, ◌+◌, ◌-◌, ◌≤◌, List, [], ◌∷◌, ◌++◌, length, Bool, true, false, cond, not, ◌&&◌, Option, None, Some,
-    is_some, option_map, Ok, IfSome, refl}
+use Rattle.std.specs.Prelude.{◌≡◌, ℕ, suc, ◌+◌, ◌-◌, ◌≤◌, List, [], ◌∷◌, ◌++◌, length, Bool, true, false, cond, not, ◌&&◌, Option, None, Some, is_some, option_map, Ok, IfSome, refl}
 use Rattle.std.proofs.Common.{ap, ap₂, sym, subst, ◌∙◌, arith}
 use Rattle.map_model.specs.Maps.{at, set}
 use Rattle.value_model.specs.Val.{Val}
@@ -22,10 +21,7 @@ use Rattle.program_steps.specs.Runs.{Outcome as RunOutcome}
 use Rattle.history_model.specs.declared.entry.Entry.{Entry}
 use Rattle.history_model.specs.declared.entry.Entry.TheVariants as entry
 use Rattle.history_model.specs.Operations.{operation_in}
-use Rattle.history_model.specs.History.{Programs, RunKey, run_cmp, Begun, Runs, Held, status_of, later, setting_in, room_in, steps_of, call_bytes,
-    no_steps, goes_on, with_begin, with_call, with_step, with_stepped, with_operation, with_answer, step_changes, operation_changes, answer_changes,
-    changes_by, carried, held, status_in, max_kept, max_entries, reserved, entries_with, is_full, is_full_for_operation, is_next, is_made,
-    is_answered, can_follow}
+use Rattle.history_model.specs.History.{Programs, RunKey, run_cmp, Begun, Runs, Held, status_of, later, setting_in, room_in, steps_of, call_bytes, no_steps, goes_on, with_begin, with_call, with_step, with_stepped, with_operation, with_answer, step_changes, operation_changes, answer_changes, changes_by, carried, held, status_in, max_kept, max_entries, reserved, entries_with, is_full, is_full_for_operation, is_next, is_made, is_answered, can_follow}
 use Rattle.history_model.specs.Bounds.{IsBegun, IsWithin}
 use Rattle.history_model.specs.HistoryLaws.{held-append, held_entries}
 use Rattle.history_model.specs.RunsLaws.{held_is}
@@ -36,8 +32,7 @@ use Rattle.store_machine.specs.LogOfLaws.{log_of-append, length-log_of}
 use Rattle.store_machine.specs.Places.{Life, Lives, IsLife, AreLives, status_by, put, noted}
 use Rattle.store_machine.specs.PlaceLaws.{lives_stay, lives_put, begun_told, stepped_told, stepped_life, no_lives}
 use Rattle.store_machine.specs.ReservedLaws.{reserved-set}
-use Rattle.store_machine.specs.Keeping.{Kept, Keeps, no_entries, room_by, setting_with, next_place, first_life, with_begun, next_life, with_step_made,
-    with_operation_made}
+use Rattle.store_machine.specs.Keeping.{Kept, Keeps, no_entries, room_by, setting_with, next_place, first_life, with_begun, next_life, with_step_made, with_operation_made}
 
 -- nothing is kept at first
 pub keeps_nothing : (app : Programs) → Keeps app [] no_entries
@@ -85,7 +80,7 @@ first_is n params seed steps = record {
 pub keeps_begun : (app : Programs) (history : List Entry) (m : Kept) (session k : ℕ) (name : List ℕ) (params : List Val) (seed : Value) →
     Keeps app history m → m.lives (session, k) ≡ None → is_some (app.method name) ≡ true
     → is_next session k (held app history).runs ≡ true → is_full app (held app history) name params (view seed) ≡ false →
-        Keeps app (history ++ entry.Begin session k name params seed ∷ []) (with_begun app m session k name params seed)
+    Keeps app (history ++ entry.Begin session k name params seed ∷ []) (with_begun app m session k name params seed)
 keeps_begun app history m session k name params seed keeps none known next free =
     let h = held app history in
     let n = length history in
@@ -141,7 +136,7 @@ same_step app history m run keeps = ap₂ (λ bytes rows. stepped (setting_with 
 made_stepped : (app : Programs) (history : List Entry) (m : Kept) (session k : ℕ) (old : Life) → Keeps app history m → m.lives (session, k) ≡ Some old →
     no_steps old.now.run.left ≡ false
     → Keeps app (history ++ entry.Step session k ∷ [])
-        (with_step_made m session k old (stepped (setting_in app (held app history)) (held app history).rows old.now.run))
+    (with_step_made m session k old (stepped (setting_in app (held app history)) (held app history).rows old.now.run))
 made_stepped app history m session k old keeps was going =
     let h = held app history in
     let n = length history in
@@ -175,7 +170,7 @@ pub keeps_stepped : (app : Programs) (history : List Entry) (m : Kept) (session 
     → Keeps app (history ++ entry.Step session k ∷ []) (with_step_made m session k old (stepped (setting_with app (room_by m)) m.rows old.now.run))
 keeps_stepped app history m session k old keeps was going =
     subst (λ (s : Stepped). Keeps app (history ++ entry.Step session k ∷ []) (with_step_made m session k old s))
-        (sym (same_step app history m old.now.run keeps)) (made_stepped app history m session k old keeps was going)
+    (sym (same_step app history m old.now.run keeps)) (made_stepped app history m session k old keeps was going)
 
 -- its documents have room
 pub step_fits : (app : Programs) (history : List Entry) (m : Kept) (run : Run) → Keeps app history m →

@@ -1,6 +1,5 @@
 -- Laws of how far runs were at earlier places.
-use Rattle.std.specs.Prelude.{◌≡◌, ℕ, zero, suc, ◌≤◌, ◌<◌, ◌+◌, List, [], ◌∷◌, ◌++◌, length, take, Bool, true, false, cond, nat_le, Option, None,
-    Some, is_some, option_map, option_and_then, IfSome, refl, if◌then◌else◌}
+use Rattle.std.specs.Prelude.{◌≡◌, ℕ, zero, suc, ◌≤◌, ◌<◌, ◌+◌, List, [], ◌∷◌, ◌++◌, length, take, Bool, true, false, cond, nat_le, Option, None, Some, is_some, option_map, option_and_then, IfSome, refl, if◌then◌else◌}
 use Rattle.std.specs.Ordering.{eq_by_cmp}
 use Rattle.std.proofs.Common.{ap, sym, subst, ◌∙◌, arith, length-append}
 use Rattle.std.proofs.lemmas.Bool.{leb-true, leb-false, le-leb, lt-leb}
@@ -50,7 +49,7 @@ one_longer xs x = omega (arith, length-append xs (x ∷ []))
 
 grown : (app : Programs) (history : List Entry) (e : Entry) (lives after : Lives) → AreLives app history lives
     → ((key : RunKey) → option_map (λ (l : Life). l.now) (after key) ≡ at run_cmp (held app (history ++ e ∷ [])).runs key) →
-        ((key : RunKey) → IfSome (after key) (IsLife (suc (length history))))
+    ((key : RunKey) → IfSome (after key) (IsLife (suc (length history))))
     → ((place : ℕ) → place ≤ length history → (key : RunKey) → option_and_then (status_by place) (after key) ≡ option_and_then (status_by place) (lives key)) → AreLives app (history ++ e ∷ []) after
 grown app history e lives after a now are earlier = record { now = now; are = own; places = places }
   where
@@ -69,7 +68,7 @@ grown app history e lives after a now are earlier = record { now = now; are = ow
         let behind = leb-false place (length history) is in
         let last : length (history ++ e ∷ []) ≡ place = omega (arith, behind, fits, one_longer history e) in
         subst (λ p. option_and_then (status_by p) (after key) ≡ status_at app (history ++ e ∷ []) p key.0 key.1) last
-            (told_at_end app (history ++ e ∷ []) after now own key)
+        (told_at_end app (history ++ e ∷ []) after now own key)
 
     places : (place : ℕ) → place ≤ length (history ++ e ∷ []) → (key : RunKey) →
         option_and_then (status_by place) (after key) ≡ status_at app (history ++ e ∷ []) place key.0 key.1
@@ -88,7 +87,7 @@ pub lives_stay : (app : Programs) (history : List Entry) (e : Entry) (lives : Li
     (held app (history ++ e ∷ [])).runs ≡ (held app history).runs → AreLives app (history ++ e ∷ []) lives
 lives_stay app history e lives a same =
     grown app history e lives lives a (λ key. a.now key ∙ sym (ap (λ (runs : Runs). at run_cmp runs key) same))
-        (λ key. more_life (length history) (lives key) (a.are key)) (λ place fits key. refl)
+    (λ key. more_life (length history) (lives key) (a.are key)) (λ place fits key. refl)
 
 put_now : (b : Bool) (l : Life) (o : Option Life) →
     option_map (λ (l : Life). l.now) (cond b (Some l) o) ≡ cond b (Some l.now) (option_map (λ (l : Life). l.now) o)
@@ -103,7 +102,7 @@ put_is n false l o one all = all
 pub lives_put : (app : Programs) (history : List Entry) (e : Entry) (lives : Lives) (key : RunKey) (l : Life) → AreLives app history lives →
     IsLife (suc (length history)) l
     → (held app (history ++ e ∷ [])).runs ≡ set run_cmp (held app history).runs key (Some l.now) →
-        ((place : ℕ) → place ≤ length history → status_by place l ≡ option_and_then (status_by place) (lives key))
+    ((place : ℕ) → place ≤ length history → status_by place l ≡ option_and_then (status_by place) (lives key))
     → AreLives app (history ++ e ∷ []) (put lives key l)
 lives_put app history e lives key l a one runs told_so = grown app history e lives (put lives key l) a now are earlier
   where
@@ -133,7 +132,7 @@ pub begun_told : (n : ℕ) (l : Life) (o : Option Life) (place : ℕ) → place 
 begun_told n l o place fits begun none =
     let late : place < l.begun = omega (arith, fits, begun) in
     ap (λ b. cond b (Some (told (is_by place l.unblocked) (end_by place l.now))) None) (lt-leb l.begun place late)
-        ∙ sym (ap (option_and_then (status_by place)) none)
+    ∙ sym (ap (option_and_then (status_by place)) none)
 
 is_by-noted : (place n : ℕ) (o : Option ℕ) (free : Bool) → place ≤ n → is_by place (noted o free (suc n)) ≡ is_by place o
 is_by-noted place n (Some p) free fits = refl

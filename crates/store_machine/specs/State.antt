@@ -12,8 +12,7 @@ use Rattle.collection_store.specs.Applied.{Applied, applied}
 use Rattle.history_model.specs.declared.entry.Entry.{Entry}
 use Rattle.history_model.specs.declared.entry.Entry.TheVariants as entry
 use Rattle.history_model.specs.Operations.{operation_in}
-use Rattle.history_model.specs.History.{Programs, Held, run_cmp, steps_of, goes_on, room_in, held, held_at, status_in, entries_with, kept_with,
-    is_full, is_full_for_operation}
+use Rattle.history_model.specs.History.{Programs, Held, run_cmp, steps_of, goes_on, room_in, held, held_at, status_in, entries_with, kept_with, is_full, is_full_for_operation}
 use Rattle.store_machine.specs.declared.fault.BeginFault.{BeginFault}
 use Rattle.store_machine.specs.declared.fault.BeginFault.TheVariants as begin
 use Rattle.store_machine.specs.declared.fault.AdminFault.{AdminFault}

@@ -1,6 +1,5 @@
 -- Laws of the keys that simulations hold.
-use Rattle.std.specs.Prelude.{◌≡◌, ◌≢◌, ℕ, Bool, true, false, cond, not, ◌&&◌, ◌||◌, List, [], ◌∷◌, filter, Option, Some, None, is_some, IfSome,
-    option_and_then, unwrap_or, refl}
+use Rattle.std.specs.Prelude.{◌≡◌, ◌≢◌, ℕ, Bool, true, false, cond, not, ◌&&◌, ◌||◌, List, [], ◌∷◌, filter, Option, Some, None, is_some, IfSome, option_and_then, unwrap_or, refl}
 use Rattle.std.specs.List.{list_any, list_all, AllByRecursion}
 use Rattle.std.specs.List.Sorted.{IsStrictlySortedBy}
 use Rattle.std.specs.Set.{remove_key}
@@ -29,7 +28,7 @@ with_number-again [] n = ap (λ o. match_ordering o (n ∷ n ∷ []) (n ∷ []) 
 with_number-again (h ∷ hs) n =
     let rest = with_number-again hs n in
     elim (nat_cmp n h) as
-        (λ o. nat_cmp n h ≡ o → with_number (match_ordering o (n ∷ h ∷ hs) (h ∷ hs) (h ∷ with_number hs n)) n ≡ match_ordering o (n ∷ h ∷ hs) (h ∷ hs) (h ∷ with_number hs n)) [
+    (λ o. nat_cmp n h ≡ o → with_number (match_ordering o (n ∷ h ∷ hs) (h ∷ hs) (h ∷ with_number hs n)) n ≡ match_ordering o (n ∷ h ∷ hs) (h ∷ hs) (h ∷ with_number hs n)) [
       | Less ↦ λ e. ap (λ o. match_ordering o (n ∷ n ∷ h ∷ hs) (n ∷ h ∷ hs) (n ∷ with_number (h ∷ hs) n)) (tied_itself nat_cmp_total n)
       | Equal ↦ λ e. ap (λ o. match_ordering o (n ∷ h ∷ hs) (h ∷ hs) (h ∷ with_number hs n)) e
       | Greater ↦ λ e. ap (λ o. match_ordering o (n ∷ h ∷ with_number hs n) (h ∷ with_number hs n) (h ∷ with_number (with_number hs n) n)) e
@@ -44,7 +43,7 @@ above_stays : (n : ℕ) (hs : List ℕ) → AllByRecursion (λ h. nat_cmp n h �
 above_stays n [] up = refl
 above_stays n (h ∷ hs) up =
     ap (λ b. cond (not b) (h ∷ without_numbers (n ∷ []) hs) (without_numbers (n ∷ []) hs)) (test_same n h ∙ ap is_eq up.0)
-        ∙ ap (λ r. h ∷ r) (above_stays n hs up.1)
+    ∙ ap (λ r. h ∷ r) (above_stays n hs up.1)
 
 -- to take one number out
 pub without_one : (n : ℕ) (hs : List ℕ) → IsStrictlySortedBy nat_cmp hs → remove_key (is_at (nat_cmp n)) hs ≡ without_numbers (n ∷ []) hs
@@ -52,7 +51,7 @@ without_one n [] s = refl
 without_one n (h ∷ hs) s =
     let rest = without_one n hs (sorted_tail nat_cmp h hs s) in
     elim (is_at (nat_cmp n) h) as
-        (λ b. is_at (nat_cmp n) h ≡ b → cond b hs (h ∷ remove_key (is_at (nat_cmp n)) hs) ≡ cond (not b) (h ∷ without_numbers (n ∷ []) hs) (without_numbers (n ∷ []) hs)) [
+    (λ b. is_at (nat_cmp n) h ≡ b → cond b hs (h ∷ remove_key (is_at (nat_cmp n)) hs) ≡ cond (not b) (h ∷ without_numbers (n ∷ []) hs) (without_numbers (n ∷ []) hs)) [
       | true ↦ λ e. sym
           (above_stays n hs (subst (λ m. AllByRecursion (λ q. nat_cmp m q ≡ Less) hs) (sym (key_is number_order n h e)) (sorted_head nat_cmp h hs s)))
       | false ↦ λ e. ap (λ r. h ∷ r) rest
@@ -75,7 +74,7 @@ without_more ns n [] = refl
 without_more ns n (h ∷ hs) =
     let rest = without_more ns n hs in
     elim (is_among ns h) as
-        (λ a. without_numbers (n ∷ []) (cond (not a) (h ∷ without_numbers ns hs) (without_numbers ns hs)) ≡ cond (not (eq_by_cmp nat_cmp h n || a)) (h ∷ without_numbers (n ∷ ns) hs) (without_numbers (n ∷ ns) hs)) [
+    (λ a. without_numbers (n ∷ []) (cond (not a) (h ∷ without_numbers ns hs) (without_numbers ns hs)) ≡ cond (not (eq_by_cmp nat_cmp h n || a)) (h ∷ without_numbers (n ∷ ns) hs) (without_numbers (n ∷ ns) hs)) [
       | true ↦ rest
           ∙ elim (eq_by_cmp nat_cmp h n) as
           (λ b. without_numbers (n ∷ ns) hs ≡ cond (not (b || true)) (h ∷ without_numbers (n ∷ ns) hs) (without_numbers (n ∷ ns) hs)) [ true ↦ refl | false ↦ refl ]
@@ -88,7 +87,7 @@ none_left ns [] = refl
 none_left ns (h ∷ hs) =
     let rest = none_left ns hs in
     elim (is_among ns h) as
-        (λ a. is_some (unless_none (cond (not a) (h ∷ without_numbers ns hs) (without_numbers ns hs))) ≡ not (a && are_all_among ns hs)) [ true ↦ rest | false ↦ refl ]
+    (λ a. is_some (unless_none (cond (not a) (h ∷ without_numbers ns hs) (without_numbers ns hs))) ≡ not (a && are_all_among ns hs)) [ true ↦ rest | false ↦ refl ]
 
 -- ---- held keys
 
@@ -106,11 +105,11 @@ module _ {K : Type 0} {R : K → K → Ordering} (o : IsKeyOrder R) where
       ∙ ap (λ w. cond (list_any (eq_by_cmp R q) ks) (Some (with_number (unwrap_or w []) n)) w) (at-put o pending k (with_number (holders R pending k) n) q)
       ∙ elim (eq_by_cmp R q k) as (λ b. eq_by_cmp R q k ≡ b →
       cond (list_any (eq_by_cmp R q) ks) (Some (with_number (unwrap_or (cond b (Some (with_number (holders R pending k) n)) (at R pending q)) []) n))
-          (cond b (Some (with_number (holders R pending k) n)) (at R pending q))
+      (cond b (Some (with_number (holders R pending k) n)) (at R pending q))
       ≡ cond (b || list_any (eq_by_cmp R q) ks) (Some (with_number (holders R pending q) n)) (at R pending q)) [
         | true ↦ λ t.
             elim (list_any (eq_by_cmp R q) ks) as
-                (λ c. cond c (Some (with_number (with_number (holders R pending k) n) n)) (Some (with_number (holders R pending k) n)) ≡ Some (with_number (holders R pending k) n)) [
+            (λ c. cond c (Some (with_number (with_number (holders R pending k) n) n)) (Some (with_number (holders R pending k) n)) ≡ Some (with_number (holders R pending k) n)) [
               | true ↦ ap Some (with_number-again (holders R pending k) n)
               | false ↦ refl
             ]

@@ -1,6 +1,5 @@
 -- The view is the server's copy at each key that no open simulation holds.
-use Rattle.std.specs.Prelude.{◌≡◌, ◌≢◌, ◌⊎◌, ℕ, Bool, true, false, cond, not, ◌&&◌, ◌||◌, List, [], ◌∷◌, Option, Some, None, is_some, option_and_then,
-    unwrap_or, refl}
+use Rattle.std.specs.Prelude.{◌≡◌, ◌≢◌, ◌⊎◌, ℕ, Bool, true, false, cond, not, ◌&&◌, ◌||◌, List, [], ◌∷◌, Option, Some, None, is_some, option_and_then, unwrap_or, refl}
 use Rattle.std.specs.List.{list_any}
 use Rattle.std.specs.declared.cmp.Ordering.{Ordering}
 use Rattle.std.specs.declared.cmp.Ordering.TheVariants.{Less, Equal, Greater}
@@ -41,7 +40,7 @@ module _ {K D : Type 0} {R : K → K → Ordering} (o : IsKeyOrder R) where
       at R (shown_at R server pending v k) q ≡ cond (eq_by_cmp R q k && not (is_held R pending q)) (at R server q) (at R v q)
   at-shown_at server pending v k q s =
       elim (is_held R pending k) as
-          (λ b. is_held R pending k ≡ b → at R (cond b v (set R v k (at R server k))) q ≡ cond (eq_by_cmp R q k && not (is_held R pending q)) (at R server q) (at R v q)) [
+      (λ b. is_held R pending k ≡ b → at R (cond b v (set R v k (at R server k))) q ≡ cond (eq_by_cmp R q k && not (is_held R pending q)) (at R server q) (at R v q)) [
         | true ↦ λ h. elim (eq_by_cmp R q k) as (λ b. eq_by_cmp R q k ≡ b → at R v q ≡ cond (b && not (is_held R pending q)) (at R server q) (at R v q)) [
           | true ↦ λ t. ap (λ b. cond (not b) (at R server q) (at R v q)) (sym (ap (is_held R pending) (key_is o q k t) ∙ h))
           | false ↦ λ t. refl
@@ -49,10 +48,10 @@ module _ {K D : Type 0} {R : K → K → Ordering} (o : IsKeyOrder R) where
         | false ↦ λ h. at-set o v k (at R server k) q s
             ∙ elim (eq_by_cmp R q k) as
             (λ b. eq_by_cmp R q k ≡ b → cond b (at R server k) (at R v q) ≡ cond (b && not (is_held R pending q)) (at R server q) (at R v q)) [
-          | true ↦ λ t. ap (at R server) (sym (key_is o q k t))
-              ∙ ap (λ b. cond (not b) (at R server q) (at R v q)) (sym (ap (is_held R pending) (key_is o q k t) ∙ h))
-          | false ↦ λ t. refl
-        ] refl
+              | true ↦ λ t. ap (at R server) (sym (key_is o q k t))
+                  ∙ ap (λ b. cond (not b) (at R server q) (at R v q)) (sym (ap (is_held R pending) (key_is o q k t) ∙ h))
+              | false ↦ λ t. refl
+            ] refl
       ] refl
 
   either : (b c : Bool) (x y : Option D) → cond (c && not b) x (cond (not b) x y) ≡ cond (not b) x y
@@ -68,7 +67,7 @@ module _ {K D : Type 0} {R : K → K → Ordering} (o : IsKeyOrder R) where
       at-shown server pending (shown_at R server pending v k) ks q (sorted-shown_at server pending v k s)
       ∙ ap (cond (list_any (eq_by_cmp R q) ks && not (is_held R pending q)) (at R server q)) (at-shown_at server pending v k q s)
       ∙ elim (eq_by_cmp R q k) as
-          (λ b. cond (list_any (eq_by_cmp R q) ks && not (is_held R pending q)) (at R server q) (cond (b && not (is_held R pending q)) (at R server q) (at R v q))
+      (λ b. cond (list_any (eq_by_cmp R q) ks && not (is_held R pending q)) (at R server q) (cond (b && not (is_held R pending q)) (at R server q) (at R v q))
       ≡ cond ((b || list_any (eq_by_cmp R q) ks) && not (is_held R pending q)) (at R server q) (at R v q)) [
         | true ↦ either (is_held R pending q) (list_any (eq_by_cmp R q) ks) (at R server q) (at R v q)
         | false ↦ refl
@@ -106,9 +105,9 @@ module _ {K D : Type 0} {R : K → K → Ordering} (o : IsKeyOrder R) where
     ] (sym (at-held_by o n keys s.pending q) ∙ none);
     agrees = λ q free. elim (list_any (eq_by_cmp R q) keys) as
         (λ b. list_any (eq_by_cmp R q) keys ≡ b → is_some (cond b (Some (with_number (holders R s.pending q) n)) (at R s.pending q)) ≡ false → at R view q ≡ at R s.server q) [
-      | true ↦ λ t e. cc e
-      | false ↦ λ t e. alone q t ∙ w.agrees q e
-    ] refl (ap is_some (sym (at-held_by o n keys s.pending q)) ∙ free);
+          | true ↦ λ t e. cc e
+          | false ↦ λ t e. alone q t ∙ w.agrees q e
+        ] refl (ap is_some (sym (at-held_by o n keys s.pending q)) ∙ free);
   }
 
   -- afterwards the view has the server's document at each key that is free
@@ -118,7 +117,7 @@ module _ {K D : Type 0} {R : K → K → Ordering} (o : IsKeyOrder R) where
       at-shown s.server (let_go ns s.pending) s.view (keys_of s.pending) q w.view
       ∙ ap (λ b. cond (b && not (is_held R (let_go ns s.pending) q)) (at R s.server q) (at R s.view q)) (sym (is_some-at R s.pending q))
       ∙ elim (is_held R (let_go ns s.pending) q) as
-          (λ b. cond (is_held R s.pending q && not b) (at R s.server q) (at R s.view q) ≡ cond b (at R s.view q) (at R s.server q)) [
+      (λ b. cond (is_held R s.pending q && not b) (at R s.server q) (at R s.view q) ≡ cond b (at R s.view q) (at R s.server q)) [
         | true ↦ elim (is_held R s.pending q) as (λ c. cond (c && false) (at R s.server q) (at R s.view q) ≡ at R s.view q) [ true ↦ refl | false ↦ refl ]
         | false ↦ elim (is_held R s.pending q) as
             (λ c. is_held R s.pending q ≡ c → cond (c && true) (at R s.server q) (at R s.view q) ≡ at R s.server q) [ true ↦ λ t. refl | false ↦ λ t. w.agrees q t ] refl

@@ -18,9 +18,9 @@ use Rattle.world_core.specs.world_model.Events.{acts, act_by, step}
 use Rattle.world_core.specs.world_model.Lines.{idle_unless, answer_values, broken_values, told_values as told_in, act_values, texts_of, lines_of}
 use Rattle.world_core.specs.connection_laws.Connection.{AConnection, as_conn}
 use Rattle.world_core.specs.connection_laws.Acting.{IsDone}
-use Rattle.world_core.specs.Answers.{Acts}
-use Rattle.world_core.specs.Storing.{Enters}
-use Rattle.world_core.specs.Acting.{IsTold}
+use Rattle.world_core.specs.connection.Answers.{Acts}
+use Rattle.world_core.specs.connection.Storing.{Enters}
+use Rattle.world_core.specs.connection.Acting.{IsTold}
 use Rattle.world_core.specs.Printed.{told_values}
 use Rattle.world_laws.specs.World.{Names, AConnections, AWorld, as_world, connection_of, IsWorld}
 use Rattle.world_laws.specs.Doing.{with_name, touched, is_take, IsActed, IsLeft}

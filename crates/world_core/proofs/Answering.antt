@@ -10,15 +10,16 @@ use Rattle.connection.specs.world_model.declared.events.Answer.{Answer}
 use Rattle.connection.specs.world_model.declared.events.Answer.TheVariants as answer
 use Rattle.connection.specs.world_model.Conn.{Conn}
 use Rattle.connection.specs.world_model.Acts.{outcome, is_done, can, does, entries}
-use Rattle.connection.specs.world_invariant_laws.Links.{IsLinked, links_kept}
+use Rattle.connection.specs.world_invariant_laws.Links.{IsLinked}
+use Rattle.connection.specs.world_invariant_laws.LinksLaws.{links_kept}
 use Rattle.world_rounds_laws.specs.Visits.{Side, can_on, act_on}
 use Rattle.connection.specs.connection_laws.Connection.{AConnection, as_conn, IsConnection}
-use Rattle.connection.specs.connection_laws.Standing.{longer_stays}
+use Rattle.connection.specs.connection_laws.StandingLaws.{longer_stays}
 use Rattle.connection.specs.Answers.{Acts, AnswersIn, Answers}
 use Rattle.connection.specs.Storing.{Enters, Begins, StepsOn, Learns}
 use Rattle.connection.specs.connection_laws.Acting.{IsDone}
 use Rattle.world_news_laws.specs.multiplexer.Telling.{ANews}
-use Rattle.world_news_laws.specs.multiplexer.Longer.{told_longer}
+use Rattle.world_news_laws.specs.multiplexer.LongerLaws.{told_longer}
 use Rattle.world_news_laws.specs.Sources.{cursors_at_of}
 use Rattle.world_news_laws.specs.News.{AreNews}
 use Rattle.world_core.specs.Visit.{AVisit, visit, side, IsReady, IsSame}

@@ -15,8 +15,8 @@ use Rattle.world_core.specs.world_model.Lines.{idle_unless, ask_values, texts_of
 use Rattle.world_core.specs.world_invariant_laws.Lift.{IsAsk}
 use Rattle.world_core.specs.connection_laws.Connection.{AConnection, as_conn}
 use Rattle.world_core.specs.connection_laws.Asks.{IsAsked}
-use Rattle.world_core.specs.Answers.{DoesAsked}
-use Rattle.world_core.specs.Acting.{ask_in, AsksBy as AsksOf}
+use Rattle.world_core.specs.connection.Answers.{DoesAsked}
+use Rattle.world_core.specs.connection.Acting.{ask_in, AsksBy as AsksOf}
 use Rattle.world_laws.specs.World.{Names, AConnections, AWorld, as_world, connection_of, IsWorld}
 use Rattle.world_laws.specs.Doing.{with_name, without_name, touched, is_drop, after_ask, after_drop, IsAskedIn, IsStep, IsLeft}
 use Rattle.world_laws.specs.Changing.{client_is}

@@ -14,13 +14,15 @@ use Rattle.connection.specs.world_model.declared.events.Act.TheVariants as act
 use Rattle.connection.specs.world_model.Store.{held_in}
 use Rattle.connection.specs.world_model.Conn.{state_in}
 use Rattle.connection.specs.world_model.Settle.{Phase, begins, learns, loadings, advancings, loads, running_from}
-use Rattle.world_rounds_laws.specs.Visits.{Side, can_on, act_on, phase_on, act_none}
+use Rattle.world_rounds_laws.specs.Visits.{Side, can_on, act_on, phase_on}
+use Rattle.world_rounds_laws.specs.VisitsLaws.{act_none}
 use Rattle.world_rounds_laws.specs.Steps.{Covers}
 use Rattle.connection.specs.session_state.Work.{running_by, running_from as running_in}
 use Rattle.connection.specs.connection_laws.Connection.{as_conn}
-use Rattle.connection.specs.connection_laws.Standing.{state_is}
-use Rattle.world_rounds_laws.specs.Covering.{running_rises, running_covers}
-use Rattle.world_rounds_laws.specs.Listing.{behind, advances_left, advances_none}
+use Rattle.connection.specs.connection_laws.StandingLaws.{state_is}
+use Rattle.world_rounds_laws.specs.CoveringLaws.{running_rises, running_covers}
+use Rattle.world_rounds_laws.specs.Listing.{behind}
+use Rattle.world_rounds_laws.specs.ListingLaws.{advances_left, advances_none}
 use Rattle.world_core.specs.Visit.{AVisit, side, IsReady, AreMade, Makes, ArePassed, Passes}
 use Rattle.world_core.specs.Acting.{Tried, learns_of}
 use Rattle.world_core.proofs.PhaseVisits.{side_same, same_on, led_left, led_on, none_one}

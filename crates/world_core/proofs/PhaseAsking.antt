@@ -15,11 +15,12 @@ use Rattle.connection.specs.world_model.Store.{held_in}
 use Rattle.connection.specs.world_model.Conn.{state_in}
 use Rattle.connection.specs.world_model.Acts.{unbegun, without_run, is_done}
 use Rattle.connection.specs.world_model.Settle.{Phase, ups, recvs, handles, begins, steps, learns, loadings, advancings, sendings, takings, order}
-use Rattle.world_rounds_laws.specs.Visits.{Side, can_on, act_on, phase_on, act_none}
+use Rattle.world_rounds_laws.specs.Visits.{Side, can_on, act_on, phase_on}
+use Rattle.world_rounds_laws.specs.VisitsLaws.{act_none}
 use Rattle.connection.specs.session_state.Work.{running_from}
 use Rattle.connection.specs.connection_laws.Connection.{as_conn, waiting_of}
 use Rattle.connection.specs.Asks.{says_nothing, asks_nothing}
-use Rattle.world_rounds_laws.specs.Listing.{no_steps_listed}
+use Rattle.world_rounds_laws.specs.ListingLaws.{no_steps_listed}
 use Rattle.world_core.specs.Visit.{AVisit, side, IsReady, ArePassed, Passes}
 use Rattle.world_core.proofs.PhaseVisits.{same_itself, led_none}
 use Rattle.world_core.proofs.Passing.{own_is, calls_cover, learns_are, passed_on}

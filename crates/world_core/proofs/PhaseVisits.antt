@@ -7,7 +7,7 @@ use Rattle.connection.specs.store_machine.State.{MachineState}
 use Rattle.rounds_model.specs.Rounds.{made, none_of}
 use Rattle.connection.specs.world_model.declared.events.Act.{Act}
 use Rattle.connection.specs.world_invariant_laws.Links.{IsLinked}
-use Rattle.world_rounds_laws.specs.Repeats.{made-append}
+use Rattle.world_rounds_laws.specs.RepeatsLaws.{made-append}
 use Rattle.world_rounds_laws.specs.Visits.{Side, act_on}
 use Rattle.connection.specs.connection_laws.Connection.{AConnection, as_conn, IsConnection}
 use Rattle.world_news_laws.specs.News.{AreNews}

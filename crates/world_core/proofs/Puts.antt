@@ -13,7 +13,7 @@ use Rattle.world_core.specs.world_model.declared.events.Answer.{Answer}
 use Rattle.world_core.specs.world_model.declared.events.Answer.TheVariants as answer
 use Rattle.world_core.specs.world_model.declared.events.Event.{Event}
 use Rattle.world_core.specs.connection_laws.Connection.{AConnection}
-use Rattle.world_core.specs.Acting.{AsksFor}
+use Rattle.world_core.specs.connection.Acting.{AsksFor}
 use Rattle.world_core.specs.multiplexer.Telling.{ANews}
 use Rattle.lanes.specs.Lanes.{VisitBy}
 use Rattle.world_core.specs.Clients.{Acts}

@@ -7,9 +7,11 @@ use Rattle.app_model.specs.App.{App}
 use Rattle.rounds_model.specs.Rounds.{made, none_of}
 use Rattle.connection.specs.world_model.declared.events.Act.{Act}
 use Rattle.connection.specs.world_model.declared.events.Act.TheVariants as act
-use Rattle.world_rounds_laws.specs.Visits.{Side, can_on, act_on, act_none}
-use Rattle.world_rounds_laws.specs.Loops.{ups_lower, recvs_lower, handles_lower, sends_lower, takes_lower, IsLoop, loop_begins, loop_goes_on, loop_ends}
-use Rattle.world_rounds_laws.specs.Steps.{step_lowers}
+use Rattle.world_rounds_laws.specs.Visits.{Side, can_on, act_on}
+use Rattle.world_rounds_laws.specs.VisitsLaws.{act_none}
+use Rattle.world_rounds_laws.specs.Loops.{IsLoop}
+use Rattle.world_rounds_laws.specs.LoopsLaws.{ups_lower, recvs_lower, handles_lower, sends_lower, takes_lower, loop_begins, loop_goes_on, loop_ends}
+use Rattle.world_rounds_laws.specs.StepsLaws.{step_lowers}
 use Rattle.world_core.specs.Visit.{AVisit, side, IsReady, IsLed, IsSame, AreMade}
 use Rattle.world_core.specs.Acting.{IsMade, IsLeft, is_repeatable, count_of}
 use Rattle.world_core.proofs.PhaseVisits.{side_same, same_on, same_itself, led_none, led_left, led_on, none_both, none_one}

@@ -12,7 +12,7 @@ use Rattle.ejson_value.specs.Key.{name_order}
 use Rattle.world_core.specs.store_machine.State.{MachineState}
 use Rattle.world_core.specs.world_rounds_laws.Visits.{Side}
 use Rattle.world_core.specs.connection_laws.Connection.{AConnection, IsConnection}
-use Rattle.world_core.specs.Asks.{asks_nothing}
+use Rattle.world_core.specs.connection.Asks.{asks_nothing}
 use Rattle.world_core.specs.multiplexer.Telling.{ANews, nothing_told}
 use Rattle.world_core.specs.Visit.{visit}
 use Rattle.world_core.specs.Visit as one

@@ -16,8 +16,9 @@ use Rattle.connection.specs.world_model.declared.events.Act.TheVariants as act
 use Rattle.connection.specs.world_model.Store.{held_in}
 use Rattle.connection.specs.world_model.Settle.{steps}
 use Rattle.world_rounds_laws.specs.Visits.{Side, can_on, act_on, phase_on}
-use Rattle.world_rounds_laws.specs.Steps.{left_in, all_stepped, Covers, can_step, steps_are}
-use Rattle.world_rounds_laws.specs.Listing.{no_steps_listed}
+use Rattle.world_rounds_laws.specs.Steps.{left_in, all_stepped, Covers}
+use Rattle.world_rounds_laws.specs.StepsLaws.{can_step, steps_are}
+use Rattle.world_rounds_laws.specs.ListingLaws.{no_steps_listed}
 use Rattle.world_core.specs.Visit.{AVisit, side, IsReady, IsLed, IsSame, AreMade, ArePassed}
 use Rattle.world_core.specs.Acting.{count_of}
 use Rattle.world_core.proofs.PhaseVisits.{side_same, same_on, same_itself, led_none, led_on}

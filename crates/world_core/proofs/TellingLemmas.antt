@@ -23,7 +23,8 @@ use Rattle.world_news_laws.specs.multiplexer.declared.news.Lent.{Lent}
 use Rattle.world_news_laws.specs.multiplexer.Leading.{IsLead}
 use Rattle.world_news_laws.specs.multiplexer.Telling.{batch_of, IsSource}
 use Rattle.world_news_laws.specs.multiplexer.Spans.{IsLent}
-use Rattle.world_news_laws.specs.multiplexer_for_proofs.Lending.{with_texts, known_of, known_with}
+use Rattle.world_news_laws.specs.multiplexer_for_proofs.Lending.{with_texts}
+use Rattle.world_news_laws.specs.multiplexer_for_proofs.LendingLaws.{known_of, known_with}
 use Rattle.connection.specs.session_core.Known.{AreRight, AreLearnt}
 use Rattle.world_news_laws.specs.Sources.{cursors_at_of, has_limit, IsSub}
 use Rattle.world_news_laws.specs.Found.{is_source, place_is, told_feeds}

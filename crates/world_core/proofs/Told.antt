@@ -13,7 +13,8 @@ use Rattle.world_core.specs.world_model.Settle.{Phase, order}
 use Rattle.world_core.specs.connection_laws.Connection.{AConnection}
 use Rattle.world_core.specs.connection.Asks.{asks_nothing}
 use Rattle.world_core.specs.multiplexer.Telling.{ANews, nothing_told}
-use Rattle.world_core.specs.News.{AreNews, nothing_is_news}
+use Rattle.world_core.specs.News.{AreNews}
+use Rattle.world_core.specs.NewsLaws.{nothing_is_news}
 use Rattle.world_core.specs.Visit.{visit, IsReady, Passes}
 use Rattle.lanes.specs.Lanes.{Named, VisitBy, EachTold, IsAmong, AreLed, AreTold, Hears}
 use Rattle.lanes.specs.Telling.{next_take, told_more, visit_ok, told_left}

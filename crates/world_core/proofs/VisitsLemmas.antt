@@ -15,7 +15,8 @@ use Rattle.world_core.specs.world_model.Settle.{order, round, settled}
 use Rattle.world_core.specs.world_rounds_laws.Visits.{Side, visits}
 use Rattle.world_core.specs.connection_laws.Connection.{AConnection, as_conn, IsConnection}
 use Rattle.world_core.specs.multiplexer.Telling.{ANews, nothing_told}
-use Rattle.world_core.specs.News.{AreNews, nothing_is_news}
+use Rattle.world_core.specs.News.{AreNews}
+use Rattle.world_core.specs.NewsLaws.{nothing_is_news}
 use Rattle.world_core.specs.Visit.{visit, ArePassed, Passes}
 use Rattle.world_core.specs.Visit as one
 use Rattle.world_laws.specs.World.{Names, AConnections, AWorld, as_world, connection_of, IsIdle, IsWorld}

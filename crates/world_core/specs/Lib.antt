@@ -11,12 +11,7 @@ pub mod Names
 pub mod Rounds
 pub mod Runs
 pub use Rattle.world_news_laws.specs.News
-pub use Rattle.world_core.specs.connection.Acting
-pub use Rattle.world_core.specs.Visit
-pub use Rattle.world_core.specs.connection.Answers
-pub use Rattle.world_core.specs.connection.Asks
-pub use Rattle.world_core.specs.connection.Storing
-pub use Rattle.world_core.specs.News
+pub use Rattle.world_news_laws.specs.NewsLaws
 pub use Rattle.world_laws.specs.AtRest
 pub use Rattle.world_laws.specs.RestingRounds
 -- what lies below, for the crates above

@@ -4,7 +4,7 @@ use Rattle.std.specs.Prelude.{◌≡◌, ℕ, List, [], ◌∷◌, Bool, true, R
 use Rattle.map_model.specs.Maps.{at}
 use Rattle.value_model.specs.Order.{text_cmp}
 use Rattle.world_core.specs.connection_laws.Connection.{AConnection}
-use Rattle.world_core.specs.Asks.{asks_nothing}
+use Rattle.world_core.specs.connection.Asks.{asks_nothing}
 use Rattle.lanes.specs.Lanes.{EachTold, IsAmong, AreLed}
 use Rattle.world_core.specs.Visits.{Tells, Leads}
 use Rattle.world_laws.specs.World.{AConnections, AWorld}

@@ -7,8 +7,8 @@ ghost use Rattle.world_core.specs.Acting.{AnswersTo, Tries, adds_entry};
 
 use crate::showing::advance;
 use connection::Connection;
-use connection::world_model::{Act, Answer};
 use connection::store_machine::Machine;
+use connection::world_model::{Act, Answer};
 use ejson_value::Mem;
 use heard_messages::Heard;
 use world_news_laws::multiplexer::Multiplexer;

@@ -7,12 +7,12 @@ ghost use Rattle.world_core.specs.Visit.{visit, IsReady, Passes};
 use crate::listing::{advances, loads};
 use crate::making::{each, repeat_over};
 use connection::Connection;
-use connection::world_model::Act;
 use connection::store_machine::Machine;
+use connection::world_model::Act;
 use ejson_value::Mem;
 use heard_messages::Heard;
-use world_news_laws::multiplexer::Multiplexer;
 use std::alloc::Global;
+use world_news_laws::multiplexer::Multiplexer;
 
 // Subscriptions are loaded.
 fn loadings(

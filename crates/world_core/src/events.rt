@@ -12,13 +12,12 @@ use crate::inside::Inside;
 use crate::opening::open;
 use crate::printing::{history, journal, show, store};
 use crate::rounds::settle;
-use crate::world_model::{Act, Event};
 use crate::store_machine::AdminFault;
-use crate::{Hands, acted, asked, named};
+use crate::world_model::{Act, Event};
+use crate::{Hands, Printed, acted, asked, named};
 use collection_store::Op;
 use ejson_value::{Items, Mem, Text};
 use lanes::Lanes;
-use crate::Printed;
 
 // The act of the client that the event names, if it names one.
 fn act_named(inside: &Inside, client: &Text, event: &Event) -> Option<Act>

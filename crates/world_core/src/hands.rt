@@ -11,18 +11,18 @@ ghost use Rattle.lanes.specs.Unions.{AreLanes};
 ghost use Rattle.world_core.specs.Visits.{AreReady, Tells, Leads};
 
 use crate::clients::{Clients, NoLane};
-use crate::telling::{either, told_in_turn};
 use crate::connection::Connection;
 use crate::multiplexer::Multiplexer;
 use crate::store_machine::Machine;
+use crate::telling::{either, told_in_turn};
 use ejson_codec::Lines;
 use ejson_value::{Mem, Text};
 use heard_messages::Heard;
+use history_log::store_lines;
 use lanes::{Both, Lane, Lanes};
 use std::alloc::Global;
 use std::marker::Sync;
 use std::thread::{Threads, available_parallelism, join_mut};
-use history_log::store_lines;
 
 /// How many entries of the history there are to show, to all of them together, so that threads are worth
 /// it.

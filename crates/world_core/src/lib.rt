@@ -20,8 +20,8 @@ mod visits;
 mod words;
 mod world;
 
-pub use connection;
 pub use clients::{Beside, Clients, NoLane, no_clients};
+pub use connection;
 pub use connection::{Connection, named, store_machine, world_model};
 pub use downward::tell;
 pub use hands::{Hands, InTurn, OnThreads};

@@ -6,8 +6,8 @@ ghost use Rattle.connection.specs.session_state.Subs.{as_live};
 ghost use Rattle.world_rounds_laws.specs.Listing.{behind_by, behind};
 ghost use Rattle.world_core.specs.Acting.{learns_of};
 
-use connection::world_model::Act;
 use connection::session_state::Sub;
+use connection::world_model::Act;
 use ejson_value::Mem;
 use std::alloc::Global;
 

@@ -9,8 +9,8 @@ ghost use Rattle.world_core.specs.Acting.{is_repeatable, count_of, adds_entry};
 
 use crate::acting::{tries, tries_over};
 use connection::Connection;
-use connection::world_model::Act;
 use connection::store_machine::Machine;
+use connection::world_model::Act;
 use ejson_value::Mem;
 use heard_messages::Heard;
 use world_news_laws::multiplexer::Multiplexer;

@@ -12,11 +12,10 @@ ghost use Rattle.world_core.specs.Happening.{Happens, Begins};
 
 use crate::inside::Inside;
 use crate::store_machine::Machine;
-use crate::{Clients, Connection};
+use crate::{Clients, Connection, Printed};
 use ejson_value::{Mem, Text};
 use lanes::Lanes;
 use std::alloc::Global;
-use crate::Printed;
 
 /// How many clients may be there at once.
 const CLIENT_LIMIT: usize = 128;

@@ -8,12 +8,12 @@ use crate::downward::tells;
 use crate::listing::learns;
 use crate::making::{each, repeat, steps};
 use connection::Connection;
-use connection::world_model::Act;
 use connection::store_machine::Machine;
+use connection::world_model::Act;
 use ejson_value::Mem;
 use heard_messages::Heard;
-use world_news_laws::multiplexer::Multiplexer;
 use std::alloc::Global;
+use world_news_laws::multiplexer::Multiplexer;
 
 // Texts go up while they can, and are taken.
 fn texts_up(

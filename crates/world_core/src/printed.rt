@@ -4,11 +4,11 @@ ghost use Rattle.world_model.specs.Lines.{idle_unless, refusal_values, texts_of}
 ghost use Rattle.world_core.specs.Printed.{told_values};
 
 use crate::words::{answer_lines, broken_lines, refused_lines};
-use world_model::Answer;
 use ejson_codec::Lines;
 use ejson_value::Mem;
 use std::alloc::Global;
 use std::marker::Model;
+use world_model::Answer;
 
 /// What there is to print.
 #[derive(Drop)]

@@ -6,10 +6,9 @@ ghost use Rattle.world_laws.specs.World.{as_world, IsWorld};
 ghost use Rattle.world_core.specs.Kept.{seen};
 
 use crate::inside::Inside;
-use crate::Hands;
+use crate::{Hands, Printed};
 use ejson_value::{Mem, Text};
 use lanes::Lanes;
-use crate::Printed;
 
 /// What the client has.
 pub(crate) fn show(inside: &Inside, client: &Text) -> Result<Printed, Mem>

@@ -11,14 +11,14 @@ ghost use Rattle.world_news_laws.specs.News.{AreNews};
 ghost use Rattle.world_core.specs.Lending.{SpansIn, IsLentTo};
 
 use connection::Connection;
-use connection::world_model::Answer;
 use connection::session_state::{Sub, sub_of};
 use connection::store_machine::Machine;
+use connection::world_model::Answer;
 use ejson_value::Mem;
 use selector_match::Steps;
-use world_news_laws::multiplexer::{Lent, Multiplexer};
 use std::marker::Brand;
 use std::sync::ledger::{Blank, Ledger};
+use world_news_laws::multiplexer::{Lent, Multiplexer};
 
 // The ledger counts how often documents are looked at.
 fn span_by<L: Ledger>(

@@ -4,10 +4,10 @@ ghost use Rattle.world_core.specs.News.{AreNews};
 ghost use Rattle.lanes.specs.Lanes.{AreTold, either};
 ghost use Rattle.world_core.specs.Visits.{AreReady, Tells, Leads};
 
-use crate::visits::told;
 use crate::connection::Connection;
 use crate::multiplexer::Multiplexer;
 use crate::store_machine::Machine;
+use crate::visits::told;
 use ejson_value::{Mem, Text};
 use heard_messages::Heard;
 use lanes::Lanes;

@@ -7,9 +7,9 @@ ghost use Rattle.world_core.specs.Clients.{IsReady, ActsIn, AsksIn};
 ghost use Rattle.world_core.specs.Visits.{CanVisit, VisitsIn, AreReady, TellsIn};
 
 use crate::connection::{Connection, act as act_of, ask};
-use crate::world_model::{Act, Answer, Event};
 use crate::multiplexer::Multiplexer;
 use crate::store_machine::Machine;
+use crate::world_model::{Act, Answer, Event};
 use crate::{round, tell};
 use ejson_value::{Mem, Text};
 use heard_messages::Heard;

@@ -1,13 +1,13 @@
 //! Lines of a word and perhaps a number.
 ghost use Rattle.std.specs.Prelude.{◌≡◌, ◌++◌, ◌∷◌, [], IfOk, OnOk, Some};
 ghost use Rattle.value_model.specs.Val.{text, list, vals_of};
-ghost use Rattle.history_model.specs.Lines.{number, line_of, worded};
+ghost use Rattle.world_core.specs.history_model.Lines.{number, line_of, worded};
 ghost use Rattle.world_model.specs.Lines.{answer_values, broken_values, refusal_values, texts_of};
 
-use world_model::Answer;
 use ejson_codec::{Lines, text};
 use ejson_value::{Items, Mem, Text, Value, Whole};
 use std::alloc::Global;
+use world_model::Answer;
 
 // The text of the list of these values. It takes them, so that no caller has to drop them.
 fn list_text(alloc: Global, items: Items) -> Result<Text, Mem>

@@ -17,9 +17,9 @@ ghost use Rattle.world_core.specs.Promises.{IsLeft, IsSettled};
 use crate::events::{admin_told, happen};
 use crate::inside::Inside;
 use crate::rounds::settle;
-use app_model::App;
 use crate::store_machine::Machine;
-use crate::{Hands, InTurn, no_clients};
+use crate::{Hands, InTurn, Printed, no_clients};
+use app_model::App;
 use collection_store::Op;
 use ejson_value::{Mem, Text};
 use heard_messages::Heard;
@@ -27,7 +27,6 @@ use lanes::Names;
 use std::alloc::Global;
 use std::marker::Model;
 use world_events::Event;
-use crate::Printed;
 
 /// A world. A contract sees its application, the history of its store, how many clients there were so
 /// far, and the clients by name, each with its session and the texts between them.

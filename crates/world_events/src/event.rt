@@ -7,10 +7,10 @@ ghost use Rattle.world_events.specs.Faults.{GivesEvent};
 
 use crate::fault::LineFault;
 use crate::grammar::event_in;
-use world_model::Event as Happening;
 use ejson_value::Value;
 use std::alloc::Global;
 use std::marker::Model;
+use world_model::Event as Happening;
 
 /// An event of the program, as a line describes it. A contract sees it as what happens; its parameters
 /// have at most 32 levels each, and an operation is of values of the program.

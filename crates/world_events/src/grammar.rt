@@ -10,9 +10,9 @@ ghost use Rattle.ddp_messages.specs.Limits.{AreShallow};
 ghost use Rattle.world_model.specs.Events.{IsEvent};
 ghost use Rattle.world_events.specs.Events.{text_first, number_first, is_nil, text_alone, texts_alone, params_in, admin_in, sub_with, sub_in, call_with, call_in, unsub_in, raw_in, number_in, placed_in, load_at, advance_by, called_in, run_step_in, learn_in, act_of, step_in, asked_in, placed_row, row_in, event_in};
 
-use world_model::{Act, Event};
 use ejson_value::{Items, Mem, Text, Value, Whole, depth};
 use std::alloc::Global;
+use world_model::{Act, Event};
 
 /// How many lists and objects may stand in one another in a parameter.
 const MAX_LEVELS: u64 = 32;

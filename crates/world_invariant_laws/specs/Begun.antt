@@ -1,6 +1,5 @@
 -- The calls that stand in a session's journal are those that the history begins, in order; but for the one that blocks, where it was not begun yet.
-use Rattle.std.specs.Prelude.{◌≡◌, ℕ, ◌<◌, ◌≤◌, ◌==◌, List, [], ◌∷◌, ◌++◌, length, Bool, true, false, cond, ◌||◌, Option, None, Some, is_some,
-    if◌then◌else◌, refl}
+use Rattle.std.specs.Prelude.{◌≡◌, ℕ, ◌<◌, ◌≤◌, ◌==◌, List, [], ◌∷◌, ◌++◌, length, Bool, true, false, cond, ◌||◌, Option, None, Some, is_some, if◌then◌else◌, refl}
 use Rattle.std.specs.List.{list_any}
 use Rattle.std.specs.Ordering.{eq_by_cmp}
 use Rattle.std.proofs.Common.{ap, ap₂, sym, subst, ◌∙◌, arith, append-nil}
@@ -26,13 +25,13 @@ use Rattle.world_model.specs.session_model.State.{State, started, calling, after
 use Rattle.world_model.specs.session_model.Moments.{Moment, moment_at}
 use Rattle.world_model.specs.session_model.Fits.{IsRefusedAt, CanFollow, Fits}
 use Rattle.session_journal_laws.specs.Appending.{state-append}
-use Rattle.session_journal_laws.specs.Blocking.{call_number, refused_blocks}
+use Rattle.session_journal_laws.specs.BlockingLaws.{call_number, refused_blocks}
 use Rattle.world_model.specs.Store.{programs, held_in, value_of}
 use Rattle.world_model.specs.Acts.{begin_entry}
 use Rattle.world_model.specs.Headline.{standing, begun_by, begun_in}
 use Rattle.world_invariant_laws.specs.Lift.{is_by}
-use Rattle.world_invariant_laws.specs.Standing.{AreBelow, below_first, KnowsCalls, standing_below, is_plain, plain_standing, call_standing,
-    refused_standing, knows_calls}
+use Rattle.world_invariant_laws.specs.Standing.{AreBelow, KnowsCalls, is_plain}
+use Rattle.world_invariant_laws.specs.StandingLaws.{below_first, standing_below, plain_standing, call_standing, refused_standing, knows_calls}
 
 -- ---- a value is made again of what contracts see
 
@@ -79,7 +78,7 @@ none_begun n m k (entry.Step s j ∷ h) le p = none_begun n m k h le p
 none_begun n m k (entry.Admin op ∷ h) le p = none_begun n m k h le p
 none_begun n m k (entry.Begin s j method params seed ∷ h) le p =
     elim (n == s) as
-        (λ b. n == s ≡ b → AreBelow m ((if b then record { k = j; method = method; params = params; seed = view seed } ∷ [] else []) ++ begun_in n h) → (eq_by_cmp run_cmp (n, k) (s, j) || list_any (begins (n, k)) h) ≡ false) [
+    (λ b. n == s ≡ b → AreBelow m ((if b then record { k = j; method = method; params = params; seed = view seed } ∷ [] else []) ++ begun_in n h) → (eq_by_cmp run_cmp (n, k) (s, j) || list_any (begins (n, k)) h) ≡ false) [
       | true ↦ λ is q. ap₂ (λ a b. a || b) (apart (eq_by_cmp run_cmp (n, k) (s, j)) refl q.0) (none_begun n m k h le q.1)
       | false ↦ λ is q. ap₂ (λ a b. a || b) (foreign_begins n k (entry.Begin s j method params seed) is) (none_begun n m k h le q)
     ] refl p
@@ -203,7 +202,7 @@ module _ (app : App) (number : ℕ) where
   refused_begun : (C : List Moment) (history : List Entry) (items : List Item) (k place : ℕ) →
       IsRefusedAt (moment_at C place) k (state_of items).blocking → is_some (runs_of app number history k) ≡ false → IsBegun app number history items →
       begun_in number history ++ unrun (runs_of app number history) (after (state_of items) (item.refused k place)).blocking ≡ standing
-          (items ++ item.refused k place ∷ [])
+      (items ++ item.refused k place ∷ [])
   refused_begun C history items k place r none p = by (state_of items).blocking refl (refused_blocks (moment_at C place) k (state_of items).blocking r)
     where
       by : (o : Option Blocking) → (state_of items).blocking ≡ o → is_blocked_by k o ≡ true →

@@ -25,8 +25,7 @@ use Rattle.world_model.specs.declared.events.Act.TheVariants as act
 use Rattle.world_model.specs.declared.events.Event.{Event}
 use Rattle.world_model.specs.declared.events.Event.TheVariants as event
 use Rattle.world_model.specs.Conn.{Waiting, Conn, new_conn, state_in}
-use Rattle.world_model.specs.Acts.{goes_up, received_as, receives, handles, is_kept, unbegun, is_refused, begin_entry, begun, learnt, learns_item,
-    sends, takes, can, does, entries}
+use Rattle.world_model.specs.Acts.{goes_up, received_as, receives, handles, is_kept, unbegun, is_refused, begin_entry, begun, learnt, learns_item, sends, takes, can, does, entries}
 use Rattle.world_model.specs.Asks.{Ask, can_ask, asked}
 use Rattle.world_model.specs.Asks as ask
 use Rattle.world_model.specs.World.{World, start, conn_of, with_conn, can_open, opened_with, opens, acted, done_by, done, asked_by, asked_in}
@@ -216,7 +215,7 @@ module _ (Q : App → List Entry → Type 0) (P : App → List Entry → Conn �
   done_by_holds w name a None is p = p
   done_by_holds w name a (Some c) is p =
       elim (can w.app w.history c a) as
-          (λ b. can w.app w.history c a ≡ b → Holds (cond b (acted w name a c) w)) [ true ↦ λ may. acted_holds w name a c is may p | false ↦ λ may. p ] refl
+      (λ b. can w.app w.history c a ≡ b → Holds (cond b (acted w name a c) w)) [ true ↦ λ may. acted_holds w name a c is may p | false ↦ λ may. p ] refl
 
   pub done_holds : (e : List ℕ × Act) (w : World) → Holds w → Holds (done e w)
   done_holds e w p = done_by_holds w e.0 e.1 (conn_of w e.0) refl p
@@ -238,7 +237,7 @@ module _ (Q : App → List Entry → Type 0) (P : App → List Entry → Conn �
   asked_by_holds w name a None good is p = p
   asked_by_holds w name a (Some c) good is p =
       elim (can_ask c a) as
-          (λ b. can_ask c a ≡ b → Holds (cond b (with_conn w name (asked w.app c a)) w)) [ true ↦ λ may. asked_holds w name a c is good may p | false ↦ λ may. p ] refl
+      (λ b. can_ask c a ≡ b → Holds (cond b (with_conn w name (asked w.app c a)) w)) [ true ↦ λ may. asked_holds w name a c is good may p | false ↦ λ may. p ] refl
 
   asked_in_holds : (name : List ℕ) (a : Ask) (w : World) → IsAsk a → Holds w → Holds (asked_in name a w)
   asked_in_holds name a w good p = asked_by_holds w name a (conn_of w name) good refl p

@@ -1,6 +1,5 @@
 -- Each act keeps what is so of a session.
-use Rattle.std.specs.Prelude.{◌≡◌, ℕ, suc, ◌+◌, ◌≤◌, nat_lt, nat_le, List, [], ◌∷◌, ◌++◌, length, map, take, drop, Bool, true, false, cond, not, ◌&&◌,
-    ◌||◌, Option, Some, None, is_some, is_none, option_map, if◌then◌else◌, refl}
+use Rattle.std.specs.Prelude.{◌≡◌, ℕ, suc, ◌+◌, ◌≤◌, nat_lt, nat_le, List, [], ◌∷◌, ◌++◌, length, map, take, drop, Bool, true, false, cond, not, ◌&&◌, ◌||◌, Option, Some, None, is_some, is_none, option_map, if◌then◌else◌, refl}
 use Rattle.std.specs.List.{list_any}
 use Rattle.std.proofs.Common.{ap, sym, subst, ◌∙◌, arith, append-nil}
 use Rattle.std.proofs.lemmas.List.{map-append, take-append-drop}
@@ -26,13 +25,14 @@ use Rattle.session_journal_laws.specs.Appending.{state-append}
 use Rattle.session_journal_laws.specs.Takes.{IsRight, taken_right, answers_at_once, answers_later, answers_in_turn}
 use Rattle.world_model.specs.Store.{programs, held_in, moment_of, moments}
 use Rattle.world_model.specs.Conn.{Waiting, Refusal, Conn, state_in, is_at_work, outbox_limit}
-use Rattle.world_model.specs.Acts.{goes_up, received_as, receives, handles, with_item, is_kept, without_run, unbegun, is_refused, begin_entry, begun,
-    refusal_kept, is_running, news_of, news_by, learns_item, learns, may_advance, sends, takes}
-use Rattle.world_invariant_laws.specs.Places.{ended_there}
+use Rattle.world_model.specs.Acts.{goes_up, received_as, receives, handles, with_item, is_kept, without_run, unbegun, is_refused, begin_entry, begun, refusal_kept, is_running, news_of, news_by, learns_item, learns, may_advance, sends, takes}
+use Rattle.world_invariant_laws.specs.PlacesLaws.{ended_there}
 use Rattle.world_invariant_laws.specs.Moments.{moments_length, moment_now, run_there, end_there}
 use Rattle.world_invariant_laws.specs.Begun.{Runs, runs_of, IsOfRuns, begin_kept, item_kept}
-use Rattle.world_invariant_laws.specs.Requests.{IsSorted, taken_sorted, next_request, request_turn}
-use Rattle.world_invariant_laws.specs.Session.{IsSession, IsRefusal, item_session, sent_session, entry_session, IsServed}
+use Rattle.world_invariant_laws.specs.Requests.{IsSorted}
+use Rattle.world_invariant_laws.specs.RequestsLaws.{taken_sorted, next_request, request_turn}
+use Rattle.world_invariant_laws.specs.Session.{IsSession, IsRefusal, IsServed}
+use Rattle.world_invariant_laws.specs.SessionLaws.{item_session, sent_session, entry_session}
 
 abbrev messages : List Waiting → List ClientMessage
 messages ws = map (λ (w : Waiting). w.message) ws
@@ -43,7 +43,7 @@ messages ws = map (λ (w : Waiting). w.message) ws
 item_served : (app : App) (h : List Entry) (c : Conn) (upward received : List (List ℕ)) (queue : List Waiting) (kept : Option Refusal) (i : Item) →
     IsServed app h c →
     CanFollow app c.number (moments app c.number h) (state_in c) i → IsOfRuns app c.number (runs_of app c.number h) i →
-        Answers received (c.items ++ i ∷ []) (messages queue) →
+    Answers received (c.items ++ i ∷ []) (messages queue) →
     IsRefusal (moments app c.number h) (runs_of app c.number h) kept (after (state_in c) i).blocking →
     IsServed app h (with_item app h (record c { upward = upward; received = received; queue = queue; kept = kept }) i)
 item_served app h c upward received queue kept i p f r a k =
@@ -84,7 +84,7 @@ works c e = not_true (state_in c).failed
 received_served : (app : App) (h : List Entry) (c : Conn) (t : List ℕ) (ts : List (List ℕ)) (x : Taken) → taken_text (state_in c).connected t ≡ x →
     (state_in c).failed ≡ false →
     IsRight app c.number (moments app c.number h) (state_in c).connected x → IsSorted x → IsServed app h c →
-        IsServed app h (received_as app h (record c { upward = ts; received = c.received ++ t ∷ [] }) (length t) x)
+    IsServed app h (received_as app h (record c { upward = ts; received = c.received ++ t ∷ [] }) (length t) x)
 received_served app h c t ts (at_once i) e unfailed right once p =
     item_served app h c ts (c.received ++ t ∷ []) c.queue c.kept i p (right (state_in c) refl unfailed) (once_runs app c.number (runs_of app c.number h) i once)
     (answers_at_once c.received c.items (messages c.queue) t i p.session.answers e once)
@@ -106,7 +106,7 @@ pub recv_served : (app : App) (h : List Entry) (c : Conn) (ts : List (List ℕ))
 recv_served app h c [] e work p = p
 recv_served app h c (t ∷ ts) e work p =
     received_served app h c t ts (taken_text (state_in c).connected t) refl (works c work)
-        (taken_right app c.number (moments app c.number h) (state_in c).connected t) (taken_sorted (state_in c).connected t) p
+    (taken_right app c.number (moments app c.number h) (state_in c).connected t) (taken_sorted (state_in c).connected t) p
 
 -- ---- handle
 
@@ -156,7 +156,7 @@ pub load_served : (app : App) (h : List Entry) (c : Conn) (s place : ℕ) → na
     IsServed app h c → IsServed app h (with_item app h c (item.load s place))
 load_served app h c s place le may p =
     item_served app h c c.upward c.received c.queue c.kept (item.load s place) p
-        (may, omega (arith, leb-true place (length h) le, moments_length app c.number h)) tt
+    (may, omega (arith, leb-true place (length h) le, moments_length app c.number h)) tt
     (plain_answers c (item.load s place) refl refl p.session.answers) p.refusal
 
 advance_may : (n count : ℕ) (o : Option ℕ) → may_advance n count o ≡ true → MayAdvance (suc n) count o
@@ -217,7 +217,7 @@ run_now app number h place k status e =
     ∙ (ap (list_any (begins (number, k))) (sym (take-append-drop place h))
     ∙ (list_any-append (begins (number, k)) (take place h) (drop place h)
     ∙ or_true (list_any (begins (number, k)) (take place h)) (list_any (begins (number, k)) (drop place h))
-        (sym (run_where_begun (programs app) (take place h) number k) ∙ ap is_some e)))
+    (sym (run_where_begun (programs app) (take place h) number k) ∙ ap is_some e)))
 
 running_is : (o : Option Phase) → is_running o ≡ true → o ≡ Some running
 running_is (Some running) e = refl
@@ -238,7 +238,7 @@ module _ (app : App) (h : List Entry) (c : Conn) (k place : ℕ) (status : Statu
       (freed_refusal C (runs_of app c.number h) c.kept k (state_in c).blocking other p.refusal)
   ends_served None e =
       elim (status.unblocked && is_blocked_by k (state_in c).blocking) as
-          (λ b. (status.unblocked && is_blocked_by k (state_in c).blocking) ≡ b → IsServed app h (learns_item app h c (cond b (Some (item.unblocked k)) None))) [
+      (λ b. (status.unblocked && is_blocked_by k (state_in c).blocking) ≡ b → IsServed app h (learns_item app h c (cond b (Some (item.unblocked k)) None))) [
         | true ↦ λ t.
             let C = moments app c.number h in
             let both = and_parts status.unblocked (is_blocked_by k (state_in c).blocking) t in
@@ -256,7 +256,7 @@ news_served : (app : App) (h : List Entry) (c : Conn) (k place : ℕ) (o : Optio
 news_served app h c k place None e le other p = p
 news_served app h c k place (Some status) e le other p =
     elim (is_running (phase_at k (state_in c).methods)) as
-        (λ b. is_running (phase_at k (state_in c).methods) ≡ b → IsServed app h (learns_item app h c (cond b (news_of (state_in c) k status.unblocked status.ended) None))) [
+    (λ b. is_running (phase_at k (state_in c).methods) ≡ b → IsServed app h (learns_item app h c (cond b (news_of (state_in c) k status.unblocked status.ended) None))) [
       | true ↦ λ t. ends_served app h c k place status e le (running_is (phase_at k (state_in c).methods) t) other p status.ended refl
       | false ↦ λ t. p
     ] refl
@@ -265,7 +265,7 @@ told_served : (app : App) (h : List Entry) (c : Conn) (k place : ℕ) → is_kep
     IsServed app h (learns_item app h c (if nat_le place (length h) then news_by (state_in c) k (status_at (programs app) h place c.number k) else None))
 told_served app h c k place other p =
     elim (nat_le place (length h)) as
-        (λ b. nat_le place (length h) ≡ b → IsServed app h (learns_item app h c (cond b (news_by (state_in c) k (status_at (programs app) h place c.number k)) None))) [
+    (λ b. nat_le place (length h) ≡ b → IsServed app h (learns_item app h c (cond b (news_by (state_in c) k (status_at (programs app) h place c.number k)) None))) [
       | true ↦ λ t. news_served app h c k place (status_at (programs app) h place c.number k) refl (leb-true place (length h) t) other p
       | false ↦ λ t. p
     ] refl
@@ -321,7 +321,7 @@ begin_served app h c p = by (state_in c).blocking refl
     here b e false t =
         let parts = or_parts (is_some (status_in (held_in app h) c.number b.k)) (is_kept b.k c.kept) t in
         elim (is_refused app h b) as
-            (λ y. is_refused app h b ≡ y → IsServed app (h ++ cond y [] (begin_entry c.number b ∷ [])) (record c { kept = cond y (Some (record { k = b.k; at = length h })) c.kept })) [
+        (λ y. is_refused app h b ≡ y → IsServed app (h ++ cond y [] (begin_entry c.number b ∷ [])) (record c { kept = cond y (Some (record { k = b.k; at = length h })) c.kept })) [
           | true ↦ λ full. subst (λ (x : List Entry). IsServed app x (record c { kept = Some (record { k = b.k; at = length h }) })) (sym (append-nil h))
               (record { session = p.session; begun = p.begun; refusal = refused_now app h c b e parts.0 full })
           | false ↦ λ full. record {

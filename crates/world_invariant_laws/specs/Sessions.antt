@@ -7,10 +7,10 @@ use Rattle.world_model.specs.session_model.Methods.{Blocking}
 use Rattle.world_model.specs.session_model.Moments.{Moment}
 use Rattle.world_model.specs.session_model.Fits.{Fits}
 use Rattle.session_journal_laws.specs.Beginnings.{beginnings_fit}
-use Rattle.session_journal_laws.specs.Order.{results_come_first}
+use Rattle.session_journal_laws.specs.OrderLaws.{results_come_first}
 use Rattle.session_journal_laws.specs.Reflecting.{updated_is_reflected}
-use Rattle.session_journal_laws.specs.Replying.{requests_are_answered}
-use Rattle.session_journal_laws.specs.Lengths.{journals_are_short}
+use Rattle.session_journal_laws.specs.ReplyingLaws.{requests_are_answered}
+use Rattle.session_journal_laws.specs.LengthsLaws.{journals_are_short}
 use Rattle.world_model.specs.Store.{moments}
 use Rattle.world_model.specs.StoreLaws.{moments_many}
 use Rattle.world_model.specs.Conn.{Waiting, Conn, state_in}

@@ -1,6 +1,5 @@
 -- A quiescent session is whole.
-use Rattle.std.specs.Prelude.{◌≡◌, ℕ, zero, suc, ◌+◌, ◌<◌, ◌≤◌, ◌==◌, List, [], ◌∷◌, ◌++◌, length, Bool, true, false, cond, not, ◌&&◌, ◌||◌, Option,
-    Some, None, is_some, option_map, option_and_then, refl}
+use Rattle.std.specs.Prelude.{◌≡◌, ℕ, zero, suc, ◌+◌, ◌<◌, ◌≤◌, ◌==◌, List, [], ◌∷◌, ◌++◌, length, Bool, true, false, cond, not, ◌&&◌, ◌||◌, Option, Some, None, is_some, option_map, option_and_then, refl}
 use Rattle.std.proofs.Common.{ap, ap₂, sym, subst, ◌∙◌, arith, append-nil}
 use Rattle.std.proofs.lemmas.Bool.{and_parts, eq-eqb, lt-ltb, le-leb}
 use Rattle.map_model.specs.Differences.{all_taken}
@@ -31,11 +30,13 @@ use Rattle.world_model.specs.session_model.Counting.{one_if, is_running, is_arme
 use Rattle.world_model.specs.session_model.LooksBack.{opened_in, loaded_at, advances, is_closed}
 use Rattle.session_journal_laws.specs.Shows.{merge_same, journal_merge}
 use Rattle.session_journal_laws.specs.Taken.{out-taken}
-use Rattle.session_journal_laws.specs.Readable.{out_reads}
-use Rattle.session_journal_laws.specs.Blocking.{BlocksLast, last_from}
-use Rattle.session_journal_laws.specs.Counts.{none_blocks, methods_are_answered}
-use Rattle.session_journal_laws.specs.Fences.{IsShut, AreShut, after_shut}
-use Rattle.session_journal_laws.specs.Tracking.{tracks}
+use Rattle.session_journal_laws.specs.ReadableLaws.{out_reads}
+use Rattle.session_journal_laws.specs.Blocking.{BlocksLast}
+use Rattle.session_journal_laws.specs.BlockingLaws.{last_from}
+use Rattle.session_journal_laws.specs.CountsLaws.{none_blocks, methods_are_answered}
+use Rattle.session_journal_laws.specs.Fences.{IsShut, AreShut}
+use Rattle.session_journal_laws.specs.FencesLaws.{after_shut}
+use Rattle.session_journal_laws.specs.TrackingLaws.{tracks}
 use Rattle.world_model.specs.Store.{held_in, moments}
 use Rattle.world_model.specs.Conn.{Conn, state_in}
 use Rattle.world_model.specs.Headline.{AreAtEnd, have_ended, IsQuiescent, whole_shown, since_in, standing, begun_in, IsAnswered, IsWhole}
@@ -54,7 +55,7 @@ at_end_cursor : (n : ℕ) (ls : List Live) (s : ℕ) → AreAtEnd n ls → is_li
 at_end_cursor n [] s a e = cc e
 at_end_cursor n (l ∷ ls) s a e =
     elim (s == l.sub) as
-        (λ b. cond b true (is_live s ls) ≡ true → cond b l.cursor (cursor_of s ls) ≡ Some n) [ true ↦ λ f. a.0 | false ↦ λ f. at_end_cursor n ls s a.1 f ] e
+    (λ b. cond b true (is_live s ls) ≡ true → cond b l.cursor (cursor_of s ls) ≡ Some n) [ true ↦ λ f. a.0 | false ↦ λ f. at_end_cursor n ls s a.1 f ] e
 
 at_end_open : (place n : ℕ) (ls : List Live) → place ≤ n → AreAtEnd n ls → is_open place ls ≡ true
 at_end_open place n [] le a = refl
@@ -68,7 +69,7 @@ ended_runs id (m ∷ ms) e =
     let parts = and_parts (not (is_running m.phase)) (have_ended ms) e in
     let rest = ended_runs id ms parts.1 in
     elim (is_running m.phase) as
-        (λ b. not b ≡ true → cond b (one_if (is_name id m.id)) 0 + number_in is_running id ms ≡ 0) [ true ↦ λ f. cc f | false ↦ λ f. omega (arith, rest) ] parts.0
+    (λ b. not b ≡ true → cond b (one_if (is_name id m.id)) 0 + number_in is_running id ms ≡ 0) [ true ↦ λ f. cc f | false ↦ λ f. omega (arith, rest) ] parts.0
 
 -- each finished call is at a place of the history
 abbrev IsAt : ℕ → Phase → Type 0
@@ -169,7 +170,7 @@ module _ (app : App) (h : List Entry) (c : Conn) (p : IsLinked app h c) (q : IsQ
         | false ↦ λ e.
             let live : is_live s (state_in c).subs ≡ true = t.live s ∙ ap₂ (λ x y. x && not y) (lt-ltb s (state_in c).opened (subst (λ n. s < n) (sym t.opened) less)) e in
             or_left (is_some (loaded_at s c.items))
-                (loaded (loaded_at s c.items) (ap (λ b. cond b None (option_map (λ place. place + advances s c.items) (loaded_at s c.items))) (sym e) ∙ (sym (t.cursors s) ∙ at_end_cursor (length h) (state_in c).subs s q.at_end live)))
+            (loaded (loaded_at s c.items) (ap (λ b. cond b None (option_map (λ place. place + advances s c.items) (loaded_at s c.items))) (sym e) ∙ (sym (t.cursors s) ∙ at_end_cursor (length h) (state_in c).subs s q.at_end live)))
       ] refl
     where
       or_true : (b : Bool) → (b || true) ≡ true
@@ -212,7 +213,7 @@ module _ (app : App) (h : List Entry) (c : Conn) (p : IsLinked app h c) (q : IsQ
       let heard = p.heard.heard q.unbroken in
       let all : heard.taken ≡ out_texts C c.number c.items =
       sym (append-nil heard.taken)
-          ∙ (ap (λ ts. heard.taken ++ ts) (sym q.downward) ∙ (heard.is ∙ (sym (append-nil c.sent) ∙ (ap (λ ts. c.sent ++ ts) (sym q.outbox) ∙ p.served.session.texts)))) in
+      ∙ (ap (λ ts. heard.taken ++ ts) (sym q.downward) ∙ (heard.is ∙ (sym (append-nil c.sent) ∙ (ap (λ ts. c.sent ++ ts) (sym q.outbox) ∙ p.served.session.texts)))) in
       heard.server
       ∙ (ap (λ ts. all_taken text_cmp key_cmp [] (data_of (messages_in ts))) all
       ∙ (ap (λ ms. all_taken text_cmp key_cmp [] (data_of ms)) (out_reads app c.number C c.items kept fits).1 ∙ out-taken C c.number c.items))

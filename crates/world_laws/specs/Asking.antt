@@ -1,6 +1,5 @@
 -- What is asked of a client, a client that begins, and an administrator's operation.
-use Rattle.std.specs.Prelude.{◌≡◌, ℕ, suc, nat_lt, List, [], ◌∷◌, length, Bool, true, false, cond, not, ◌&&◌, Option, Some, None, is_some, is_none,
-    option_map, IfSome, refl}
+use Rattle.std.specs.Prelude.{◌≡◌, ℕ, suc, nat_lt, List, [], ◌∷◌, length, Bool, true, false, cond, not, ◌&&◌, Option, Some, None, is_some, is_none, option_map, IfSome, refl}
 use Rattle.std.specs.Ordering.{eq_by_cmp}
 use Rattle.std.specs.BTreeMap.{insert_entry}
 use Rattle.std.proofs.Common.{ap, ap₂, sym, subst, ◌∙◌, arith, append-nil}
@@ -21,16 +20,15 @@ use Rattle.world_settles_laws.specs.world_model.declared.events.Event.TheVariant
 use Rattle.world_settles_laws.specs.world_model.Conn.{Conn, client_limit}
 use Rattle.world_settles_laws.specs.world_model.Asks.{Ask, can_ask, asked}
 use Rattle.world_settles_laws.specs.world_model.Asks as ask
-use Rattle.world_settles_laws.specs.world_model.World.{World, conn_of, with_conn, present as present_in, can_open, opened_with, opens, asked_by,
-    asked_in, can_ask_by}
+use Rattle.world_settles_laws.specs.world_model.World.{World, conn_of, with_conn, present as present_in, can_open, opened_with, opens, asked_by, asked_in, can_ask_by}
 use Rattle.world_settles_laws.specs.world_model.Events.{refusal_of, entered_by, administers, step, IsEvent, Reachable}
 use Rattle.world_settles_laws.specs.world_invariant_laws.Lift.{IsAsk}
 use Rattle.connection_laws.specs.Connection.{AConnection, new_connection, as_conn, IsConnection}
 use Rattle.connection_laws.specs.Asks.{IsAsked}
-use Rattle.connection_laws.specs.Standing.{new_stays}
+use Rattle.connection_laws.specs.StandingLaws.{new_stays}
 use Rattle.world_laws.specs.World.{Names, AWorld, as_conns, as_world, connection_of, is_among, is_there, IsClient, IsWorld}
 use Rattle.world_laws.specs.Names.{same_keys, sorted_mapped}
-use Rattle.world_laws.specs.Reaching.{step_reaches}
+use Rattle.world_laws.specs.ReachingLaws.{step_reaches}
 use Rattle.world_laws.specs.Changing.{conn_is, conn_there, put_seen, other_stays, change_stays}
 use Rattle.world_laws.specs.Making.{among_put, is_busy, busier, present_stays}
 use Rattle.world_laws.specs.Doing.{with_name, without_name, is_drop, after_ask, after_drop, IsAskedIn, after_open, IsOpened, after_operation, IsAdministered}
@@ -43,7 +41,7 @@ module _ (x : AWorld) (p : IsWorld x) (name : List ℕ) (new : AConnection) (ope
 
   pub client_changes : Reachable (as_world (next_of x.history)) → IsConnection x.app name x.history new →
       IsSorted text_cmp present × ((q : List ℕ) → is_among present q ≡ is_there (at text_cmp (insert_entry text_cmp x.conns name new) q)) →
-          IsWorld (next_of x.history)
+      IsWorld (next_of x.history)
   client_changes reach conn there =
       let nil = append-nil x.history in
       subst (λ (h : List Entry). IsWorld (next_of h)) nil
@@ -174,7 +172,7 @@ module _ (x : AWorld) (p : IsWorld x) (name : List ℕ) where
       record {
         stays = client_changes x p name fresh (suc x.opened) (with_name x.present name)
             (subst (λ (w : World). Reachable w) (sym does_it) (step_reaches (as_world x) p.reachable (event.Client name) tt))
-                (new_stays x.app name (suc x.opened) x.history)
+            (new_stays x.app name (suc x.opened) x.history)
             (sorted-put name_order x.present name tt p.present.0, there);
         does = does_it;
       }

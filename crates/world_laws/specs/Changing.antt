@@ -15,11 +15,12 @@ use Rattle.world_settles_laws.specs.world_model.World.{conn_of}
 use Rattle.world_settles_laws.specs.world_model.Events.{Reachable}
 use Rattle.world_settles_laws.specs.world_invariant_laws.Lift.{IsNumbered}
 use Rattle.connection_laws.specs.Connection.{AConnection, as_conn, IsConnection}
-use Rattle.connection_laws.specs.Standing.{longer_stays}
+use Rattle.connection_laws.specs.StandingLaws.{longer_stays}
 use Rattle.world_laws.specs.World.{Names, AConnections, AWorld, as_conns, as_world, connection_of, is_among, IsIdle, is_there, IsClient, IsWorld}
 use Rattle.world_laws.specs.Names.{at_mapped, sorted_mapped}
-use Rattle.world_laws.specs.Gone.{AreNotBy, gone_stays}
-use Rattle.world_laws.specs.Reaching.{reached_stands}
+use Rattle.world_laws.specs.Gone.{AreNotBy}
+use Rattle.world_laws.specs.GoneLaws.{gone_stays}
+use Rattle.world_laws.specs.ReachingLaws.{reached_stands}
 use Rattle.world_laws.specs.Doing.{changed}
 
 -- ---- as the definitions see it
@@ -85,7 +86,7 @@ other_stays x y p more sa sh ss q c is apart busier =
         let none : more ≡ [] = nil_length more (omega (arith, many, within)) in
         let was : IsIdle x.app x.history (as_conn c) = k.rests free (inl (omega (arith, many, within))) in
         subst (λ (es : List Entry). IsIdle x.app (x.history ++ es) (as_conn c)) (sym none)
-            (subst (λ (h : List Entry). IsIdle x.app h (as_conn c)) (sym (append-nil x.history)) was)
+        (subst (λ (h : List Entry). IsIdle x.app h (as_conn c)) (sym (append-nil x.history)) was)
 
 -- ---- one client changes
 

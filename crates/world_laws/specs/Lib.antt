@@ -3,10 +3,13 @@ pub mod Names
 pub mod Doing
 pub mod Idle
 pub mod Gone
+pub mod GoneLaws
 pub mod Reaching
+pub mod ReachingLaws
 pub mod Changing
 pub mod Making
 pub mod Growing
+pub mod GrowingLaws
 pub mod Settling
 pub mod Asking
 pub mod Promises

@@ -1,6 +1,5 @@
 -- An act of a client is the act of the world's definitions, and what is kept of the world stays right.
-use Rattle.std.specs.Prelude.{◌≡◌, ℕ, ◌==◌, List, [], ◌∷◌, ◌++◌, length, Bool, true, false, cond, not, Option, Some, None, is_some, IfSome,
-    option_map, option_and_then, if◌then◌else◌, refl}
+use Rattle.std.specs.Prelude.{◌≡◌, ℕ, ◌==◌, List, [], ◌∷◌, ◌++◌, length, Bool, true, false, cond, not, Option, Some, None, is_some, IfSome, option_map, option_and_then, if◌then◌else◌, refl}
 use Rattle.std.specs.Ordering.{eq_by_cmp}
 use Rattle.std.specs.BTreeMap.{insert_entry}
 use Rattle.std.proofs.Common.{ap, sym, subst, ◌∙◌}
@@ -18,16 +17,15 @@ use Rattle.world_settles_laws.specs.world_model.declared.events.Act.TheVariants 
 use Rattle.world_settles_laws.specs.world_model.declared.events.Answer.TheVariants as answer
 use Rattle.world_settles_laws.specs.world_model.declared.events.Event.{Event}
 use Rattle.world_settles_laws.specs.world_model.Conn.{Waiting, Conn, state_in}
-use Rattle.world_settles_laws.specs.world_model.Acts.{goes_up, received_as, receives, handles, is_kept, unbegun, is_refused, begin_entry, begun,
-    learnt, learns_item, sends, takes, outcome, is_done, can, does, entries}
+use Rattle.world_settles_laws.specs.world_model.Acts.{goes_up, received_as, receives, handles, is_kept, unbegun, is_refused, begin_entry, begun, learnt, learns_item, sends, takes, outcome, is_done, can, does, entries}
 use Rattle.world_settles_laws.specs.world_model.World.{World, conn_of, acted, done_by, done, outcome_by}
 use Rattle.world_settles_laws.specs.world_model.Events.{act_in, act_by, done_if, acts, step, Reachable}
 use Rattle.connection_laws.specs.Connection.{AConnection, as_conn}
 use Rattle.connection_laws.specs.Acting.{IsDone}
-use Rattle.connection_laws.specs.Standing.{longer_stays}
+use Rattle.connection_laws.specs.StandingLaws.{longer_stays}
 use Rattle.world_laws.specs.World.{Names, AWorld, as_world, connection_of, is_among, is_there, IsClient, IsWorld}
 use Rattle.world_laws.specs.Gone.{AreNotBy}
-use Rattle.world_laws.specs.Reaching.{done_reaches}
+use Rattle.world_laws.specs.ReachingLaws.{done_reaches}
 use Rattle.world_laws.specs.Changing.{conn_is, conn_there, put_seen, numbers_differ, change_stays}
 use Rattle.world_laws.specs.Doing.{IsStep, with_name, after_act, touched, IsActed}
 
@@ -139,8 +137,8 @@ same_number app h c act.Take = take_number c c.downward
 pub among_put : (names : Names) (name q : List ℕ) → is_among (with_name names name) q ≡ cond (eq_by_cmp text_cmp q name) true (is_among names q)
 among_put names name q =
     ap is_some (at-put name_order names name tt q)
-        ∙ elim (eq_by_cmp text_cmp q name) as
-        (λ b. is_some (cond b (Some (let u : Unit {0} = tt in u)) (at text_cmp names q)) ≡ cond b true (is_among names q)) [ true ↦ refl | false ↦ refl ]
+    ∙ elim (eq_by_cmp text_cmp q name) as
+    (λ b. is_some (cond b (Some (let u : Unit {0} = tt in u)) (at text_cmp names q)) ≡ cond b true (is_among names q)) [ true ↦ refl | false ↦ refl ]
 
 pub is_busy : (names : Names) (name : List ℕ) → is_among (with_name names name) name ≡ true
 is_busy names name = among_put names name name ∙ ap (λ b. cond b true (is_among names name)) (eq_by_cmp-self name_order name)

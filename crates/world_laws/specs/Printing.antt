@@ -12,12 +12,12 @@ use Rattle.world_settles_laws.specs.world_model.declared.events.Event.TheVariant
 use Rattle.world_settles_laws.specs.world_model.Acts.{outcome}
 use Rattle.world_settles_laws.specs.world_model.Asks.{Ask, can_ask}
 use Rattle.world_settles_laws.specs.world_model.Conn.{Conn}
-use Rattle.world_settles_laws.specs.world_model.Lines.{line_text, idle, idle_unless, answer_values, broken_values, broken_in, told_values, act_values,
-    ask_values, shown_values, journal_of, texts_of, lines_of}
+use Rattle.world_settles_laws.specs.world_model.Lines.{line_text, idle, idle_unless, answer_values, broken_values, broken_in, told_values, act_values, ask_values, shown_values, journal_of, texts_of, lines_of}
 use Rattle.world_settles_laws.specs.world_model.World.{World, conn_of, outcome_by, can_ask_by}
 use Rattle.world_settles_laws.specs.world_model.Events.{act_in, act_by}
 use Rattle.connection_laws.specs.Connection.{AConnection, as_conn}
-use Rattle.connection_laws.specs.Printing.{kept_journal, journal_is, show_is}
+use Rattle.connection_laws.specs.Printing.{kept_journal}
+use Rattle.connection_laws.specs.PrintingLaws.{journal_is, show_is}
 use Rattle.world_laws.specs.World.{AWorld, as_world, connection_of, IsWorld}
 use Rattle.world_laws.specs.Doing.{IsActed, is_take}
 use Rattle.world_laws.specs.Changing.{conn_is, conn_there, client_is}

@@ -9,13 +9,13 @@ use Rattle.world_settles_laws.specs.world_model.Store.{programs}
 use Rattle.world_settles_laws.specs.world_model.World.{World}
 use Rattle.world_settles_laws.specs.world_model.Settle.{settled}
 use Rattle.world_settles_laws.specs.world_model.Headline.{IsTrueWorld, HaveLongAlone, AreAtRest}
-use Rattle.world_settles_laws.specs.headline_for_proofs.Worlds.{worlds_are_true}
-use Rattle.world_settles_laws.specs.world_settles_laws_for_proofs.Worlds.{worlds_have_long_alone}
+use Rattle.world_settles_laws.specs.headline_for_proofs.WorldsLaws.{worlds_are_true}
+use Rattle.world_settles_laws.specs.world_settles_laws_for_proofs.WorldsLaws.{worlds_have_long_alone}
 use Rattle.world_settles_laws.specs.AtRest.{settled_worlds_rest}
 use Rattle.world_settles_laws.specs.world_invariant_laws.Links.{IsLinked}
 use Rattle.connection_laws.specs.Connection.{AConnection, as_conn}
 use Rattle.world_laws.specs.World.{AWorld, new_world, as_world, connection_of, IsWorld}
-use Rattle.world_laws.specs.Reaching.{start_reaches, reached_stands}
+use Rattle.world_laws.specs.ReachingLaws.{start_reaches, reached_stands}
 use Rattle.world_laws.specs.Changing.{conn_there}
 
 pub worlds_true : (x : AWorld) → IsWorld x → IsTrueWorld (as_world x)

@@ -1,6 +1,5 @@
 -- A world settles as the code does it: by name, those that may have something to do, in rounds until nothing is made.
-use Rattle.std.specs.Prelude.{◌≡◌, ◌⊎◌, ℕ, zero, suc, List, [], ◌∷◌, ◌++◌, length, map, Bool, true, false, cond, not, ◌&&◌, Option, Some, None,
-    is_some, option_map, IfSome, refl}
+use Rattle.std.specs.Prelude.{◌≡◌, ◌⊎◌, ℕ, zero, suc, List, [], ◌∷◌, ◌++◌, length, map, Bool, true, false, cond, not, ◌&&◌, Option, Some, None, is_some, option_map, IfSome, refl}
 use Rattle.std.specs.List.{list_all, list_any}
 use Rattle.std.specs.Map.{keys_of}
 use Rattle.std.specs.declared.cmp.Ordering.{Ordering}
@@ -19,7 +18,7 @@ use Rattle.rounds_model.specs.Tower.{often}
 use Rattle.rounds_model.specs.TowerLaws.{tower_makes}
 use Rattle.rounds_model.specs.Rounds.{made, through, none_of, none_in}
 use Rattle.world_settles_laws.specs.world_values_laws.Values.{HasValues}
-use Rattle.world_rounds_laws.specs.Repeats.{made-append}
+use Rattle.world_rounds_laws.specs.RepeatsLaws.{made-append}
 use Rattle.world_settles_laws.specs.world_model.declared.events.Act.{Act}
 use Rattle.world_settles_laws.specs.world_model.declared.events.Event.TheVariants as event
 use Rattle.world_settles_laws.specs.world_model.Store.{programs}
@@ -30,20 +29,22 @@ use Rattle.world_settles_laws.specs.world_model.Settle.{Phase, acts_by, phase, o
 use Rattle.world_settles_laws.specs.world_model.Events.{Reachable}
 use Rattle.world_settles_laws.specs.world_invariant_laws.Lift.{round_holds}
 use Rattle.world_settles_laws.specs.world_invariant_laws.Links.{IsLinked}
-use Rattle.world_settles_laws.specs.headline_for_proofs.Worlds.{IsSound, sound_kept}
-use Rattle.world_settles_laws.specs.Stuck.{none_of_phase}
+use Rattle.world_settles_laws.specs.headline_for_proofs.Worlds.{IsSound}
+use Rattle.world_settles_laws.specs.headline_for_proofs.WorldsLaws.{sound_kept}
+use Rattle.world_settles_laws.specs.StuckLaws.{none_of_phase}
 use Rattle.world_settles_laws.specs.Tidy.{Stands}
 use Rattle.world_settles_laws.specs.Settling as settling
 use Rattle.connection_laws.specs.Connection.{AConnection, as_conn, IsConnection}
 use Rattle.world_laws.specs.World.{AWorld, as_world, connection_of, is_among, IsIdle, is_there, IsClient, IsWorld}
-use Rattle.world_rounds_laws.specs.Visits.{Side, can_on, act_on, phase_on, with_side, visited as client_visited, visited_by, visits, all_visited,
-    round_is, idle_left}
+use Rattle.world_rounds_laws.specs.Visits.{Side, can_on, act_on, phase_on, with_side, visited as client_visited, visited_by, visits, all_visited}
+use Rattle.world_rounds_laws.specs.VisitsLaws.{round_is, idle_left}
 use Rattle.world_laws.specs.Idle.{idle_from}
 use Rattle.world_laws.specs.Names.{names_from, behind, behind_it, empty_first, visited, next_comes, none_comes, all_come, same_keys, sorted_mapped}
-use Rattle.world_laws.specs.Reaching.{reached_stands, put_itself, made_put, made_reaches, visit_reaches}
+use Rattle.world_laws.specs.ReachingLaws.{reached_stands, put_itself, made_put, made_reaches, visit_reaches}
 use Rattle.world_laws.specs.Changing.{conn_is, conn_there, put_seen, client_is, numbers_differ, change_stays}
 use Rattle.world_laws.specs.Making.{present_stays}
-use Rattle.world_laws.specs.Growing.{Grows, made_grows, visit_grows}
+use Rattle.world_laws.specs.Growing.{Grows}
+use Rattle.world_laws.specs.GrowingLaws.{made_grows, visit_grows}
 use Rattle.world_laws.specs.Doing.{visits_from, IsPassed, IsIdleBefore, after_visit, IsWorker, IsVisited, at_rest, IsStep, ActsLead}
 
 -- ---- a round
@@ -99,7 +100,7 @@ module _ (x : AWorld) (p : IsWorld x) where
       let s = client_visited w.app (record { history = w.history; conn = c }) in
       ap (λ (v : World). keys_of v.conns) (ap (visited_by w name) e)
       ∙ same_keys (insert_entry text_cmp w.conns name s.conn) w.conns (sorted-put name_order w.conns name s.conn seen_sorted) seen_sorted
-          (λ q. ap is_some (at-put name_order w.conns name s.conn q) ∙ by q s.conn (eq_by_cmp text_cmp q name) refl)
+      (λ q. ap is_some (at-put name_order w.conns name s.conn q) ∙ by q s.conn (eq_by_cmp text_cmp q name) refl)
     where
       by : (q : List ℕ) (d : Conn) (b : Bool) → eq_by_cmp text_cmp q name ≡ b →
           is_some (cond b (Some d) (at text_cmp (as_world x).conns q)) ≡ is_some (at text_cmp (as_world x).conns q)
@@ -206,7 +207,7 @@ module _ (w : World) where
   nobody_stuck name is more rest [] = rest
   nobody_stuck name is more rest (q ∷ ps) =
       ap (λ (o : Option Conn). none_of can_in (map (λ a. (name, a)) (acts_by w q o)) w && none_in can_in (map (phase name) ps ++ more) w) is
-          ∙ nobody_stuck name is more rest ps
+      ∙ nobody_stuck name is more rest ps
 
   one_stuck : (name : List ℕ) (o : Option Conn) → conn_of w name ≡ o → IfSome o (IsIdle w.app w.history) → (more : List (World → List (List ℕ × Act))) →
       none_in can_in more w ≡ true → none_in can_in (map (phase name) order ++ more) w ≡ true

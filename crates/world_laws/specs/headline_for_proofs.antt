@@ -1,2 +1,3 @@
 -- What proofs of crates above name of `headline`.
 pub use Rattle.world_settles_laws.specs.headline_for_proofs.Worlds
+pub use Rattle.world_settles_laws.specs.headline_for_proofs.WorldsLaws

@@ -1,7 +1,6 @@
 -- The acts of a client, of its session and of the store: when each is enabled, what it does to the client and its session, and the entry that it adds to the history (Meteor's DDP.md, "Managing data",
 -- "Remote procedure calls"; the limits and the order of their tests are ours).
-use Rattle.std.specs.Prelude.{ℕ, ◌+◌, ◌==◌, List, [], ◌∷◌, ◌++◌, length, map, Bool, true, false, not, ◌&&◌, ◌||◌, nat_lt, nat_le, Option, Some, None,
-    is_some, is_none, option_map, if◌then◌else◌}
+use Rattle.std.specs.Prelude.{ℕ, ◌+◌, ◌==◌, List, [], ◌∷◌, ◌++◌, length, map, Bool, true, false, not, ◌&&◌, ◌||◌, nat_lt, nat_le, Option, Some, None, is_some, is_none, option_map, if◌then◌else◌}
 use Rattle.map_model.specs.Maps.{at}
 use Rattle.program_steps.specs.declared.outcome.Status.{Status}
 use Rattle.program_steps.specs.Runs.{End}

@@ -1,6 +1,5 @@
 -- What holds of a world: the headline, and what holds of a settled world.
-use Rattle.std.specs.Prelude.{◌≡◌, ◌⊎◌, ℕ, ◌+◌, ◌-◌, ◌*◌, ◌<◌, ◌≤◌, ◌==◌, List, [], ◌∷◌, ◌++◌, length, filter, take, Bool, true, false, not, ◌||◌,
-    nat_lt, Some, None, IsSome, IfSome, is_some, if◌then◌else◌}
+use Rattle.std.specs.Prelude.{◌≡◌, ◌⊎◌, ℕ, ◌+◌, ◌-◌, ◌*◌, ◌<◌, ◌≤◌, ◌==◌, List, [], ◌∷◌, ◌++◌, length, filter, take, Bool, true, false, not, ◌||◌, nat_lt, Some, None, IsSome, IfSome, is_some, if◌then◌else◌}
 use Rattle.std.specs.List.{list_any, list_all}
 use Rattle.merge_model.specs.Merge.{IsMerge}
 use Rattle.merge_model.specs.Publishing.{shown_since}

@@ -1,6 +1,5 @@
 -- A session's live subscriptions are sources of its application's news.
-use Rattle.std.specs.Prelude.{◌≡◌, ℕ, ◌+◌, ◌≤◌, ◌==◌, List, [], ◌∷◌, map, Bool, true, false, cond, ◌||◌, Option, None, Some, IfSome, is_some,
-    unwrap_or, length, take, refl}
+use Rattle.std.specs.Prelude.{◌≡◌, ℕ, ◌+◌, ◌≤◌, ◌==◌, List, [], ◌∷◌, map, Bool, true, false, cond, ◌||◌, Option, None, Some, IfSome, is_some, unwrap_or, length, take, refl}
 use Rattle.std.specs.List.{All}
 use Rattle.std.proofs.Common.{ap, sym, subst, ◌∙◌}
 use Rattle.std.proofs.lemmas.List.Elements.{All-from_recursion}
@@ -38,7 +37,7 @@ use Rattle.connection_laws.specs.Showing.{leading_feeds}
 use Rattle.connection_laws.specs.Connection.{AConnection, IsConnection}
 use Rattle.multiplexer.specs.Leading.{News, IsLead}
 use Rattle.world_news_laws.specs.Sources.{IsMadeBy, AreMadeBy, has_limit, AreSubs, IsSub, IsSourceOf, AreSourcesOf}
-use Rattle.world_news_laws.specs.Made.{journal_made}
+use Rattle.world_news_laws.specs.MadeLaws.{journal_made}
 
 -- ---- limits
 
@@ -89,7 +88,7 @@ module _ (app : App) (C : List Moment) (number : ℕ) (sub : Sub) where
   found (l ∷ ls) [] made watched is observes = absurd watched
   found (l ∷ ls) (o ∷ os) made watched is observes =
       elim (number == l.sub) as
-          (λ b. Some (as_live sub) ≡ cond b (Some l) (live_of number ls) → sub.observer ≡ cond b o (observer_at number ls os) → IsMadeBy app (as_live sub) × IsWatched C (as_live sub) sub.cursor sub.observer) [
+      (λ b. Some (as_live sub) ≡ cond b (Some l) (live_of number ls) → sub.observer ≡ cond b o (observer_at number ls os) → IsMadeBy app (as_live sub) × IsWatched C (as_live sub) sub.cursor sub.observer) [
         | true ↦ λ e q. this l o made.0 watched.0 e q
         | false ↦ λ e q. found ls os made.1 watched.1 e q
       ] is observes
@@ -123,7 +122,7 @@ renewed_leads cursors rows rows' told p q d =
     let shown = queried cursors rows in
     let sorted = sorted_queried cursors rows p in
     same_maps key_order (renewed key_cmp shown told) (queried cursors rows') (sorted_renewed key_order shown told sorted)
-        (sorted_queried cursors rows' q) (λ key.
+    (sorted_queried cursors rows' q) (λ key.
     renewed_at key_order shown told key sorted d.by_key
     ∙ (ap (λ (x : Option Entries). unwrap_or (at key_cmp told key) x) (at_queried cursors rows key p)
     ∙ (d.leads key ∙ sym (at_queried cursors rows' key q))))
@@ -137,7 +136,7 @@ module _ (app : App) (taken : List (List ℕ)) (C : List Moment) (sent : List (L
   session_made =
       let k = s.carried in
       subst (λ (a : App). AreMadeBy a k.own.subs) served
-          (subst (λ (st : State). AreMadeBy k.app st.subs) (sym m.stands.own) (journal_made k.app k.number C (items_of taken k) m.stands.fits))
+      (subst (λ (st : State). AreMadeBy k.app st.subs) (sym m.stands.own) (journal_made k.app k.number C (items_of taken k) m.stands.fits))
 
   pub session_sources : (subs : List Sub) → AreSubs subs s → All (IsSourceOf app) subs
   session_sources subs these =
@@ -186,7 +185,7 @@ pub lead_feeds : (app : App) (name : List ℕ) (history : List Entry) (x : AConn
     cursor_of number x.session.carried.own.subs ≡ Some start → (news : List Publish) →
     start + count ≤ length history → HaveNoLimit (cursors_at number x.session) →
     IsLead (published (cursors_at number x.session) (held_at (programs app) history start).rows)
-        (published (cursors_at number x.session) (held_at (programs app) history (start + count)).rows) (news_of news) →
+    (published (cursors_at number x.session) (held_at (programs app) history (start + count)).rows) (news_of news) →
     IsFeed (moments app x.session.carried.number history) number count news x.session
 lead_feeds app name history x p number start count is news le none d =
     leading_feeds app name history x p number start is count news le none
@@ -197,10 +196,10 @@ lead_feeds app name history x p number start count is news le none d =
 pub told_feeds : (m : MachineState) (name : List ℕ) (x : AConnection) (number start count : ℕ) (sub : Sub) (told : List Publish) →
     IsConnection m.app name m.history x → IsSub number sub x.session → sub.cursor ≡ Some start →
     start + count ≤ length m.history → has_limit sub.cursors ≡ false →
-        IsLead (published sub.cursors (held_after m start).rows) (published sub.cursors (held_after m (start + count)).rows) (news_of told) →
+    IsLead (published sub.cursors (held_after m start).rows) (published sub.cursors (held_after m (start + count)).rows) (news_of told) →
     IsFeed (moments m.app x.session.carried.number m.history) number count told x.session
 told_feeds m name x number start count sub told p is placed fits none d =
     let same : sub.cursors ≡ cursors_at number x.session = sym (cursors_are m.app name m.history x p number sub is) in
     lead_feeds m.app name m.history x p number start count (place_is m.app name m.history x p number sub is ∙ placed) told fits
-        (subst HaveNoLimit same (unlimited sub.cursors none))
+    (subst HaveNoLimit same (unlimited sub.cursors none))
     (subst (λ (cs : ACursors). IsLead (published cs (held_after m start).rows) (published cs (held_after m (start + count)).rows) (news_of told)) same d)

@@ -30,7 +30,7 @@ use Rattle.session_state.specs.declared.subs.Sub.{Sub}
 use Rattle.connection_laws.specs.session_laws.Session.{ASession}
 use Rattle.connection_laws.specs.session_laws.Meaning.{Means}
 use Rattle.connection_laws.specs.session_laws.Events.{cursors_at}
-use Rattle.connection_laws.specs.session_laws.Loading.{shown_from}
+use Rattle.connection_laws.specs.session_laws.LoadingLaws.{shown_from}
 use Rattle.session_core.specs.Known.{text_about, text_told, IsRight, AreRight, IsLearnt, AreLearnt}
 use Rattle.connection_laws.specs.world_model.Store.{moments}
 use Rattle.connection_laws.specs.world_invariant_laws.Moments.{moment_there}
@@ -98,7 +98,7 @@ module _ (taken : List (List ℕ)) (C : List Moment) (sent : List (List ℕ)) (s
   sees_alone key alone =
       let past = calls_of C (items_of taken s.carried) in
       subst (IsSeenAs (seen_in s.carried.box key)) (shows_at key)
-          (seen_alone (shown key_cmp past) (shown_since key_cmp text_cmp past) s.carried.box m.stands.shows number key alone)
+      (seen_alone (shown key_cmp past) (shown_since key_cmp text_cmp past) s.carried.box m.stands.shows number key alone)
 
 -- ---- a connection
 
@@ -116,7 +116,7 @@ module _ (m : MachineState) (name : List ℕ) (x : AConnection) (p : IsConnectio
   client_sees : SeesAlone number x.session.carried.box shown_before
   client_sees =
       subst (λ (cs : ACursors). SeesAlone number x.session.carried.box (published cs (held_after m start).rows))
-          (cursors_are m.app name m.history x p number sub is)
+      (cursors_are m.app name m.history x p number sub is)
       (subst (λ (rows : Rows). SeesAlone number x.session.carried.box (published (cursors_at number x.session) rows)) rows_are
       (sees_alone x.received (moments m.app x.session.carried.number m.history) x.sent x.session p.means number start loaded))
 

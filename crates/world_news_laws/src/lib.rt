@@ -10,5 +10,8 @@ mod texts;
 
 pub use multiplexer;
 pub use news::{histories_go_on, machines_answer, news_go_on};
-pub use sources::{limits_are_tested, live_subscriptions_have_their_cursors, subscriptions_are_sources, told_news_feed, };
+pub use sources::{
+    limits_are_tested, live_subscriptions_have_their_cursors, subscriptions_are_sources,
+    told_news_feed,
+};
 pub use texts::{documents_of_one_are_seen_as_shown, known_texts_are_told};

@@ -1,8 +1,16 @@
 pub mod Repeats
+pub mod RepeatsLaws
 pub mod Visits
+pub mod VisitsLaws
 pub mod Loops
+pub mod LoopsLaws
 pub mod Steps
+pub mod StepsLaws
 pub mod Phases
+pub mod PhasesLaws
 pub mod Covering
+pub mod CoveringLaws
 pub mod Listing
+pub mod ListingLaws
 pub mod Linked
+pub mod LinkedLaws

@@ -1,6 +1,5 @@
 -- Each act, and each thing that is asked of it, keeps a client polite.
-use Rattle.std.specs.Prelude.{◌≡◌, ℕ, zero, suc, ◌<◌, List, [], ◌∷◌, ◌++◌, length, true, false, not, ◌&&◌, nat_lt, Option, Some, None, is_none,
-    decimal, if◌then◌else◌, refl}
+use Rattle.std.specs.Prelude.{◌≡◌, ℕ, zero, suc, ◌<◌, List, [], ◌∷◌, ◌++◌, length, true, false, not, ◌&&◌, nat_lt, Option, Some, None, is_none, decimal, if◌then◌else◌, refl}
 use Rattle.std.proofs.Common.{ap, sym, subst, ◌∙◌, arith, length-append, inl}
 use Rattle.std.proofs.lemmas.List.{append_assoc}
 use Rattle.std.proofs.lemmas.Bool.{and_parts, ltb-true}
@@ -23,7 +22,8 @@ use Rattle.headline.specs.world_model.Asks as ask
 use Rattle.headline.specs.world_invariant_laws.Lift.{IsAsk}
 use Rattle.headline.specs.world_invariant_laws.Links.{IsLinked}
 use Rattle.world_settles_laws.specs.Calls.{has_outcome, has_update}
-use Rattle.world_settles_laws.specs.Texts.{connect_opens, IsAsking, first_asked, sub_other, unsub_other, other_asked, call_asked}
+use Rattle.world_settles_laws.specs.Texts.{IsAsking}
+use Rattle.world_settles_laws.specs.TextsLaws.{connect_opens, first_asked, sub_other, unsub_other, other_asked, call_asked}
 use Rattle.world_settles_laws.specs.Polite.{texts_of, IsPolite, is_none_is, text_goes, call_counted}
 
 none_there : (n : ℕ) → has_outcome (call_at [] n) ≡ 0

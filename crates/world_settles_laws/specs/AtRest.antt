@@ -1,6 +1,5 @@
 -- A settled world's sessions are at rest: quiescent, or for one of the named reasons not.
-use Rattle.std.specs.Prelude.{◌≡◌, ◌≤◌, ℕ, suc, List, [], ◌∷◌, ◌++◌, length, decimal, map, Bool, true, false, not, ◌&&◌, Option, Some, None, is_none,
-    is_some, IsSome, IfSome, refl}
+use Rattle.std.specs.Prelude.{◌≡◌, ◌≤◌, ℕ, suc, List, [], ◌∷◌, ◌++◌, length, decimal, map, Bool, true, false, not, ◌&&◌, Option, Some, None, is_none, is_some, IsSome, IfSome, refl}
 use Rattle.std.specs.List.{list_any}
 use Rattle.std.proofs.Common.{ap, sym, subst, ◌∙◌, arith, append-nil, inl, inr}
 use Rattle.std.proofs.lemmas.Bool.{leb-true, or_parts}
@@ -17,8 +16,8 @@ use Rattle.world_settles_laws.specs.session_model.Out.{out, out_texts}
 use Rattle.world_settles_laws.specs.session_model.Kept.{AreKept}
 use Rattle.world_settles_laws.specs.session_model.Taking.{is_connected_by, queued_from}
 use Rattle.world_settles_laws.specs.session_model.Counting.{one_if, updateds}
-use Rattle.world_settles_laws.specs.session_journal_laws_for_proofs.Readable.{out_reads}
-use Rattle.world_settles_laws.specs.session_journal_laws.Counts.{methods_are_answered}
+use Rattle.world_settles_laws.specs.session_journal_laws_for_proofs.ReadableLaws.{out_reads}
+use Rattle.world_settles_laws.specs.session_journal_laws.CountsLaws.{methods_are_answered}
 use Rattle.world_settles_laws.specs.world_values_laws.Values.{HasValues}
 use Rattle.world_settles_laws.specs.world_values_laws_for_proofs.MomentValues.{moments_are_kept}
 use Rattle.world_settles_laws.specs.world_model.declared.events.Event.{Event}
@@ -39,10 +38,12 @@ use Rattle.world_settles_laws.specs.Resting.{RestsUnless}
 use Rattle.world_settles_laws.specs.Settling.{settled_sessions_rest}
 use Rattle.world_settles_laws.specs.Known.{IsKnown, methods_in}
 use Rattle.world_settles_laws.specs.Fitting.{session_after}
-use Rattle.world_settles_laws.specs.Texts.{is_fail, asks_for, queued_exactly, first_connects}
+use Rattle.world_settles_laws.specs.Texts.{is_fail, asks_for}
+use Rattle.world_settles_laws.specs.TextsLaws.{queued_exactly, first_connects}
 use Rattle.world_settles_laws.specs.Polite.{texts_of, IsAlone, IsPolite, none_refused, none_fails}
-use Rattle.world_settles_laws.specs.Worlds.{IsKnownPolite, polite_kept, StandsPolite, worlds_are_polite, client_polite}
-use Rattle.world_settles_laws.specs.Counts.{handled_exactly, none_waits, none_runs, number_there, all_updated}
+use Rattle.world_settles_laws.specs.Worlds.{IsKnownPolite}
+use Rattle.world_settles_laws.specs.WorldsLaws.{polite_kept, StandsPolite, worlds_are_polite, client_polite}
+use Rattle.world_settles_laws.specs.CountsLaws.{handled_exactly, none_waits, none_runs, number_there, all_updated}
 use Rattle.world_settles_laws.specs.Sessions.{connected_says}
 
 -- ---- no version was refused
@@ -78,7 +79,7 @@ module _ (app : App) (h : List Entry) (c : Conn) (l : IsLinked app h c) (kept : 
   received_all : texts_of c ≡ c.received
   received_all =
       ap (λ (ts : List (List ℕ)). c.received ++ (ts ++ c.client.waiting)) r.upward
-          ∙ (ap (λ (ts : List (List ℕ)). c.received ++ ts) r.waiting ∙ append-nil c.received)
+      ∙ (ap (λ (ts : List (List ℕ)). c.received ++ ts) r.waiting ∙ append-nil c.received)
 
   pub has_session : IsSome c.client.session
   has_session =
@@ -167,10 +168,10 @@ at_rest first w good l settles name = by (conn_of w name) refl (settles name)
     by (Some c) e s = λ there.
         let values : HasValues (programs w.app) = subst (λ (a : App). HasValues (programs a)) (sym l.history.same) good in
         rests w.app w.history c (l.all name c e).0 (moments_are_kept w.app c.number w.history values l.history.values) there (s there)
-            (client_polite first w good l name c e)
+        (client_polite first w good l name c e)
 
 pub settled_worlds_rest : (app : App) (events : List Event) → HasValues (programs app) → AreEvents events → AreAtRest (settled (run (start app) events))
 settled_worlds_rest app events good all =
     let w = run (start app) events in
     at_rest app (settled w) good (step_holds (IsSound app) IsKnownPolite (polite_kept app) w event.Settle tt (worlds_are_polite app events all))
-        (settled_sessions_rest app events good all)
+    (settled_sessions_rest app events good all)

@@ -14,7 +14,8 @@ use Rattle.world_settles_laws.specs.world_model.Events.{run, AreEvents}
 use Rattle.world_settles_laws.specs.world_model.Headline.{IsQuiescent, IsLongAlone, HaveLongAlone, IsAtRest, AreAtRest, IsModest, AreModestQuiescent}
 use Rattle.world_settles_laws.specs.world_invariant_laws.Lift.{step_holds}
 use Rattle.world_settles_laws.specs.headline_for_proofs.Worlds.{IsSound}
-use Rattle.world_settles_laws.specs.Worlds.{IsKnownPolite, polite_kept, worlds_are_polite, have_long_alone}
+use Rattle.world_settles_laws.specs.Worlds.{IsKnownPolite}
+use Rattle.world_settles_laws.specs.WorldsLaws.{polite_kept, worlds_are_polite, have_long_alone}
 use Rattle.world_settles_laws.specs.AtRest.{settled_worlds_rest}
 
 not_both : {b : Bool} → b ≡ true → b ≡ false → ⊥

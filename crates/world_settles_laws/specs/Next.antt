@@ -1,6 +1,5 @@
 -- The next text on the link to a client is none that it refuses, but for its length; where there is no more than one `method` for each of its calls.
-use Rattle.std.specs.Prelude.{◌≡◌, ℕ, zero, suc, ◌+◌, ◌<◌, ◌≤◌, List, [], ◌∷◌, ◌++◌, length, decimal, slice_get, Bool, true, false, cond, not, ◌&&◌,
-    nat_lt, Option, Some, None, is_some, option_and_then, refl}
+use Rattle.std.specs.Prelude.{◌≡◌, ℕ, zero, suc, ◌+◌, ◌<◌, ◌≤◌, List, [], ◌∷◌, ◌++◌, length, decimal, slice_get, Bool, true, false, cond, not, ◌&&◌, nat_lt, Option, Some, None, is_some, option_and_then, refl}
 use Rattle.std.proofs.Common.{ap, sym, subst, ◌∙◌, arith, append-nil}
 use Rattle.std.proofs.lemmas.List.{append_assoc, map-append}
 use Rattle.map_model.specs.Differences.{all_taken}
@@ -17,22 +16,24 @@ use Rattle.ddp_messages.specs.ServerMessage as server
 use Rattle.app_model.specs.App.{App}
 use Rattle.world_invariant_laws.specs.history_model.declared.entry.Entry.{Entry}
 use Rattle.client_model.specs.Client.{Call}
-use Rattle.client_model.specs.Taking.{max_server_text, number_of, call_at, call_of, result_refusal, awaits_update, updated_refusal, early_refusal,
-    late_refusal, message_refusal, session_in, documents_in, calls_in, breaks, told_message, told_unless, told_answer, told_text}
+use Rattle.client_model.specs.Taking.{max_server_text, number_of, call_at, call_of, result_refusal, awaits_update, updated_refusal, early_refusal, late_refusal, message_refusal, session_in, documents_in, calls_in, breaks, told_message, told_unless, told_answer, told_text}
 use Rattle.world_invariant_laws.specs.session_model.Texts.{message_in, messages_in}
 use Rattle.world_invariant_laws.specs.session_model.Data.{data_in, data_of}
 use Rattle.world_invariant_laws.specs.session_model.Out.{out, out_texts}
 use Rattle.world_invariant_laws.specs.session_model.Kept.{AreKept}
 use Rattle.world_invariant_laws.specs.session_model.Counting.{one_if, result_in, updated_in, results, updateds}
-use Rattle.world_invariant_laws.specs.session_journal_laws_for_proofs.Readable.{IsRead, AreRead, out_reads}
+use Rattle.world_invariant_laws.specs.session_journal_laws_for_proofs.Readable.{IsRead, AreRead}
+use Rattle.world_invariant_laws.specs.session_journal_laws_for_proofs.ReadableLaws.{out_reads}
 use Rattle.world_invariant_laws.specs.session_journal_laws.Taken.{data_of-append, all_taken-append}
-use Rattle.world_invariant_laws.specs.session_journal_laws.Counts.{total-append, methods_are_answered}
+use Rattle.world_invariant_laws.specs.session_journal_laws.CountsLaws.{total-append, methods_are_answered}
 use Rattle.world_invariant_laws.specs.world_model.Store.{moments}
 use Rattle.world_invariant_laws.specs.world_model.Conn.{Conn}
 use Rattle.world_invariant_laws.specs.Links.{IsLinked}
-use Rattle.world_settles_laws.specs.Fitting.{late_by, refusal_by, IsPlain, session_after, accepts_next, rows_told, Accepts, out_accepted}
+use Rattle.world_settles_laws.specs.Fitting.{late_by, refusal_by, IsPlain, session_after, Accepts}
+use Rattle.world_settles_laws.specs.FittingLaws.{accepts_next, rows_told, out_accepted}
 use Rattle.world_settles_laws.specs.Known.{IsKnown, AreAsked}
-use Rattle.world_settles_laws.specs.Calls.{number_is, has_outcome, has_update, AreCounted, name_self, late_counted, early_counted}
+use Rattle.world_settles_laws.specs.Calls.{has_outcome, has_update, AreCounted}
+use Rattle.world_settles_laws.specs.CallsLaws.{number_is, name_self, late_counted, early_counted}
 
 read_at : (xs : List (List ℕ)) (t : List ℕ) (ys : List (List ℕ)) → AreRead (xs ++ t ∷ ys) → IsRead t
 read_at [] t ys r = r.0
@@ -203,7 +204,7 @@ module _ (app : App) (h : List Entry) (c : Conn) (p : IsLinked app h c) (k : IsK
           ∙ (ap (λ (rows : Rows). all_taken text_cmp key_cmp rows (data_in (message_in t))) k.server
           ∙ (sym (all_taken-append [] (data_of told) (data_in (message_in t)))
           ∙ ap (all_taken text_cmp key_cmp [])
-              (sym (ap data_of more ∙ (data_of-append told (message_in t ∷ []) ∙ ap (λ ds. data_of told ++ ds) (append-nil (data_in (message_in t))))))));
+          (sym (ap data_of more ∙ (data_of-append told (message_in t ∷ []) ∙ ap (λ ds. data_of told ++ ds) (append-nil (data_in (message_in t))))))));
       counted = subst (AreCounted (calls_in c.client.calls (message_in t))) (sym more) (by c.client.session next_message_fits);
     }
       where

@@ -1,6 +1,5 @@
 -- What a client keeps to that sends no text as it stands.
-use Rattle.std.specs.Prelude.{◌≡◌, ◌⊎◌, ℕ, zero, suc, ◌<◌, List, [], ◌∷◌, ◌++◌, length, filter, map, slice_get, Bool, true, false, cond, ◌||◌, Option,
-    Some, None, is_none, refl}
+use Rattle.std.specs.Prelude.{◌≡◌, ◌⊎◌, ℕ, zero, suc, ◌<◌, List, [], ◌∷◌, ◌++◌, length, filter, map, slice_get, Bool, true, false, cond, ◌||◌, Option, Some, None, is_none, refl}
 use Rattle.std.specs.List.{list_any}
 use Rattle.std.proofs.Common.{ap, sym, subst, ◌∙◌, arith, append-nil, inl, inr, length-append}
 use Rattle.std.proofs.lemmas.List.{append_assoc, map-append}
@@ -15,8 +14,7 @@ use Rattle.program_steps.specs.Runs.{Outcome, done, failed, End}
 use Rattle.app_model.specs.App.{App}
 use Rattle.headline.specs.history_model.declared.entry.Entry.{Entry}
 use Rattle.client_model.specs.Client.{Call, Client}
-use Rattle.client_model.specs.Taking.{numbers_of, outcome_by, with_outcome, with_update, call_at, call_changed, number_changed, all_changed,
-    failed_in, answers_in, calls_in, breaks, told_message, told_answer, told_text}
+use Rattle.client_model.specs.Taking.{numbers_of, outcome_by, with_outcome, with_update, call_at, call_changed, number_changed, all_changed, failed_in, answers_in, calls_in, breaks, told_message, told_answer, told_text}
 use Rattle.headline.specs.session_model.Texts.{message_in, messages_in}
 use Rattle.headline.specs.session_model.Items.{Item, id_of}
 use Rattle.headline.specs.session_model.Items as item
@@ -25,12 +23,11 @@ use Rattle.headline.specs.session_model.Methods.{id_at}
 use Rattle.headline.specs.session_model.State.{State, started, after}
 use Rattle.headline.specs.session_model.Moments.{Moment, end_at}
 use Rattle.headline.specs.session_model.Shown.{Calls, call_of, merge_of, difference}
-use Rattle.headline.specs.session_model.Out.{about, ready, updated, result_by, results_by, history_full, refused_with, all_refused_with, own_messages,
-    told_after, words_of, messages_of, out_from, out, out_texts}
+use Rattle.headline.specs.session_model.Out.{about, ready, updated, result_by, results_by, history_full, refused_with, all_refused_with, own_messages, told_after, words_of, messages_of, out_from, out, out_texts}
 use Rattle.headline.specs.session_model.Kept.{AreKept}
 use Rattle.headline.specs.session_model.Taking.{answered_from}
 use Rattle.headline.specs.session_model.Answering.{is_at_once, at_once_in, Answers}
-use Rattle.headline.specs.session_journal_laws_for_proofs.Readable.{out_reads}
+use Rattle.headline.specs.session_journal_laws_for_proofs.ReadableLaws.{out_reads}
 use Rattle.headline.specs.world_model.Store.{moments}
 use Rattle.headline.specs.world_model.Conn.{Conn}
 use Rattle.headline.specs.world_model.Headline.{is_bad, is_long}
@@ -38,9 +35,10 @@ use Rattle.headline.specs.world_invariant_laws.Links.{IsLinked}
 use Rattle.world_settles_laws.specs.Fitting.{IsPlain}
 use Rattle.world_settles_laws.specs.Calls.{AreCounted, has_outcome, has_update, many}
 use Rattle.world_settles_laws.specs.Known.{IsKnown, AreAsked}
-use Rattle.world_settles_laws.specs.Asked.{all_asked}
+use Rattle.world_settles_laws.specs.AskedLaws.{all_asked}
 use Rattle.world_settles_laws.specs.Next.{next_plain, next_text_fits, known_next}
-use Rattle.world_settles_laws.specs.Texts.{is_fail, mild_answered, mild_first, calls_asks, IsAsking}
+use Rattle.world_settles_laws.specs.Texts.{is_fail, IsAsking}
+use Rattle.world_settles_laws.specs.TextsLaws.{mild_answered, mild_first, calls_asks}
 
 -- ---- what it keeps to
 
@@ -209,10 +207,10 @@ module _ (app : App) (h : List Entry) (c : Conn) (l : IsLinked app h c) (kept : 
   next_unfailed =
       let texts : k.taken ++ (t ∷ (ts ++ c.outbox)) ≡ out_texts (moments app c.number h) c.number c.items =
       sym (append_assoc k.taken (t ∷ ts) c.outbox)
-          ∙ (ap (λ (xs : List (List ℕ)). (k.taken ++ xs) ++ c.outbox) (sym next) ∙ (ap (λ (xs : List (List ℕ)). xs ++ c.outbox) k.is ∙ l.served.session.texts)) in
+      ∙ (ap (λ (xs : List (List ℕ)). (k.taken ++ xs) ++ c.outbox) (sym next) ∙ (ap (λ (xs : List (List ℕ)). xs ++ c.outbox) k.is ∙ l.served.session.texts)) in
       let all : messages_in k.taken ++ (message_in t ∷ messages_in (ts ++ c.outbox)) ≡ out (moments app c.number h) c.number c.items =
       sym (map-append message_in k.taken (t ∷ (ts ++ c.outbox)))
-          ∙ (ap messages_in texts ∙ (out_reads app c.number (moments app c.number h) c.items kept l.served.session.fits).1) in
+      ∙ (ap messages_in texts ∙ (out_reads app c.number (moments app c.number h) c.items kept l.served.session.fits).1) in
       unfailed_at (messages_in k.taken) (message_in t) (messages_in (ts ++ c.outbox)) (subst AreUnfailed (sym all) said)
 
   taken_more : (p.taking.taken ++ t ∷ []) ++ ts ≡ c.sent
@@ -221,7 +219,7 @@ module _ (app : App) (h : List Entry) (c : Conn) (l : IsLinked app h c) (kept : 
   asked : AreAsked c.items (length c.client.calls)
   asked =
       all_asked app c.number (moments app c.number h) c.received (c.upward ++ c.client.waiting) c.items _
-          (length c.client.calls) l.served.session.fits l.served.session.answers
+      (length c.client.calls) l.served.session.fits l.served.session.answers
       (calls_asks (texts_of c) (length c.client.calls) p.asking.each)
 
   long_goes : is_long t ≡ true → Goes (breaks 1 c.client)

@@ -1,6 +1,5 @@
 -- A client and its session for whom no act of a round is made: nothing waits anywhere, each call has ended, and each live subscription is at the end of the history.
-use Rattle.std.specs.Prelude.{◌≡◌, ◌⊎◌, ℕ, zero, suc, ◌+◌, ◌-◌, ◌≤◌, ◌<◌, ◌==◌, nat_lt, nat_le, List, [], ◌∷◌, ◌++◌, length, map, codes, replicate,
-    take, Bool, true, false, cond, not, ◌&&◌, ◌||◌, Option, Some, None, is_some, is_none, option_map, IfSome, refl, if◌then◌else◌}
+use Rattle.std.specs.Prelude.{◌≡◌, ◌⊎◌, ℕ, zero, suc, ◌+◌, ◌-◌, ◌≤◌, ◌<◌, ◌==◌, nat_lt, nat_le, List, [], ◌∷◌, ◌++◌, length, map, codes, replicate, take, Bool, true, false, cond, not, ◌&&◌, ◌||◌, Option, Some, None, is_some, is_none, option_map, IfSome, refl, if◌then◌else◌}
 use Rattle.std.specs.List.{list_all}
 use Rattle.std.specs.Ordering.{is_eq}
 use Rattle.std.specs.declared.cmp.Ordering.{Ordering}
@@ -28,9 +27,10 @@ use Rattle.world_model.specs.session_model.State.{started}
 use Rattle.world_model.specs.session_model.Moments.{run_of}
 use Rattle.world_model.specs.session_model.Fits.{HasUnblocked, Fits}
 use Rattle.world_model.specs.session_model.Taking.{max_text, Taken, at_once, to_queue, taken_text, taken_tree}
-use Rattle.session_journal_laws.specs.Blocking.{last_from}
-use Rattle.session_journal_laws.specs.Counts.{none_blocks}
-use Rattle.session_journal_laws.specs.Tracking.{AreDistinct, tracks}
+use Rattle.session_journal_laws.specs.BlockingLaws.{last_from}
+use Rattle.session_journal_laws.specs.CountsLaws.{none_blocks}
+use Rattle.session_journal_laws.specs.Tracking.{AreDistinct}
+use Rattle.session_journal_laws.specs.TrackingLaws.{tracks}
 use Rattle.serde_json.specs.Read as json
 use Rattle.world_model.specs.declared.events.Act.{Act}
 use Rattle.world_model.specs.declared.events.Act.TheVariants as act
@@ -38,13 +38,13 @@ use Rattle.world_model.specs.declared.events.Answer.TheVariants as answer
 use Rattle.world_model.specs.Store.{programs, held_in, moments}
 use Rattle.world_model.specs.StoreLaws.{moments_many, moments_at, moments_past}
 use Rattle.world_model.specs.Conn.{Waiting, Refusal, Conn, state_in, link_limit, outbox_limit, waiting_bytes, is_full, is_crowded, is_at_work, has_some}
-use Rattle.world_model.specs.Acts.{is_crowded_out, is_crowded_by, is_kept, without_run, unbegun, is_running, news_of, news_by, learnt, may_advance,
-    enabled, is_of_session, is_queue_full, is_done, can}
-use Rattle.world_model.specs.Settle.{Phase, ups, recvs, handles, begins, steps, learns, loadings, advancings, sendings, takings, steps_of,
-    running_from, load_at, loads, advance_to, advances, acts_of}
+use Rattle.world_model.specs.Acts.{is_crowded_out, is_crowded_by, is_kept, without_run, unbegun, is_running, news_of, news_by, learnt, may_advance, enabled, is_of_session, is_queue_full, is_done, can}
+use Rattle.world_model.specs.Settle.{Phase, ups, recvs, handles, begins, steps, learns, loadings, advancings, sendings, takings, steps_of, running_from, load_at, loads, advance_to, advances, acts_of}
 use Rattle.world_model.specs.Headline.{AreAtEnd, have_ended}
-use Rattle.world_settles_laws.specs.Runs.{has_run, run_then}
-use Rattle.world_settles_laws.specs.Journal.{runs_block_or_unblocked, AreWithin, HasPlaces, places_within}
+use Rattle.world_settles_laws.specs.Runs.{has_run}
+use Rattle.world_settles_laws.specs.RunsLaws.{run_then}
+use Rattle.world_settles_laws.specs.Journal.{AreWithin, HasPlaces}
+use Rattle.world_settles_laws.specs.JournalLaws.{runs_block_or_unblocked, places_within}
 
 -- ---- truths
 
@@ -87,7 +87,7 @@ step_among : (f : Act → Bool) (n k : ℕ) (rs : Runs) (b : Begun) → at run_c
 step_among f n k [] b is going e = cc is
 step_among f n k (r ∷ rs) b is going e =
     elim (run_cmp (n, k) r.0) as
-        (λ (o : Ordering). run_cmp (n, k) r.0 ≡ o → cond (is_eq o) (Some r.1) (at run_cmp rs (n, k)) ≡ Some b → f (act.Step k) ≡ true) [
+    (λ (o : Ordering). run_cmp (n, k) r.0 ≡ o → cond (is_eq o) (Some r.1) (at run_cmp rs (n, k)) ≡ Some b → f (act.Step k) ≡ true) [
       | Less ↦ λ o there. step_among f n k rs b there going (later (n == r.0.0) e)
       | Greater ↦ λ o there. step_among f n k rs b there going (later (n == r.0.0) e)
       | Equal ↦ λ o there.
@@ -143,7 +143,7 @@ none_running : (ms : List Method) → ((k : ℕ) → phase_at k ms ≡ Some runn
 none_running [] h = refl
 none_running (m ∷ ms) h =
     two (not (runs_on m.phase)) (have_ended ms) (known (runs_on m.phase) (λ e. absurd (h 0 (ap Some (runs_by m.phase e)))) (λ e. ap not e))
-        (none_running ms (λ k is. h (suc k) is))
+    (none_running ms (λ k is. h (suc k) is))
 
 -- ---- subscriptions
 
@@ -246,7 +246,7 @@ module _ (app : App) (history : List Entry) (c : Conn)
   pub no_outbox : c.outbox ≡ []
   no_outbox =
       nothing c.outbox act.Send
-          (λ some. three (not c.is_dropped) (has_some c.outbox) (nat_lt (length c.downward) link_limit) present some (ap (λ (ts : List (List ℕ)). nat_lt (length ts) link_limit) no_downward)) (λ some. refl) (none sendings)
+      (λ some. three (not c.is_dropped) (has_some c.outbox) (nat_lt (length c.downward) link_limit) present some (ap (λ (ts : List (List ℕ)). nat_lt (length ts) link_limit) no_downward)) (λ some. refl) (none sendings)
 
   works : is_at_work c ≡ true
   works = three (not c.is_dropped) (not (state_in c).failed) (nat_lt (length c.outbox) outbox_limit) present (ap not going)
@@ -370,12 +370,12 @@ module _ (app : App) (history : List Entry) (c : Conn)
       fits_in [] = refl
       fits_in (t ∷ ts) =
           ap (λ (q : List Waiting). is_crowded_out q (length t) (taken_text (state_in c).connected t)) no_queue
-              ∙ not_crowded t (state_in c).connected (taken_text (state_in c).connected t) refl
+          ∙ not_crowded t (state_in c).connected (taken_text (state_in c).connected t) refl
 
   pub no_waiting : c.client.waiting ≡ []
   no_waiting =
       nothing c.client.waiting act.Up
-          (λ some. three (not c.is_dropped) (has_some c.client.waiting) (nat_lt (length c.upward) link_limit) present some (ap (λ (ts : List (List ℕ)). nat_lt (length ts) link_limit) no_upward)) (λ some. refl) (none ups)
+      (λ some. three (not c.is_dropped) (has_some c.client.waiting) (nat_lt (length c.upward) link_limit) present some (ap (λ (ts : List (List ℕ)). nat_lt (length ts) link_limit) no_upward)) (λ some. refl) (none ups)
 
   -- ---- subscriptions
 
@@ -397,7 +397,7 @@ module _ (app : App) (history : List Entry) (c : Conn)
           let may : may_advance (length history) (length history - cursor) (cursor_of l.sub (state_in c).subs) ≡ true =
           ap (may_advance (length history) (length history - cursor)) (found.cursor ∙ is)
           ∙ two (nat_lt 0 (length history - cursor)) (nat_le (cursor + (length history - cursor)) (length history))
-              (lt-ltb 0 (length history - cursor) (omega (arith, less)))
+          (lt-ltb 0 (length history - cursor) (omega (arith, less)))
           (le-leb (cursor + (length history - cursor)) (length history) (omega (arith, less))) in
           differ (sym (two (is_at_work c) (may_advance (length history) (length history - cursor) (cursor_of l.sub (state_in c).subs)) works may) ∙ off)
 
@@ -425,7 +425,7 @@ module _ (app : App) (history : List Entry) (c : Conn)
       let many = moments_many app c.number history in
       let places = subst (λ n. HasPlaces n (state_in c)) many (places_within app c.number C c.items fits (omega (arith, many))) in
       lives_end (state_in c).reach (state_in c).subs (omega (arith, places.reach))
-          (all_found (state_in c).subs (tracks app c.number C c.items fits).distinct) places.lives (none loadings) (none advancings)
+      (all_found (state_in c).subs (tracks app c.number C c.items fits).distinct) places.lives (none loadings) (none advancings)
 
   pub is_resting : IsResting history c
   is_resting = record {

@@ -12,10 +12,12 @@ use Rattle.world_settles_laws.specs.world_model.Events.{run, AreEvents}
 use Rattle.world_settles_laws.specs.world_values_laws.Values.{HasValues}
 use Rattle.world_settles_laws.specs.world_invariant_laws.Lift.{done_holds}
 use Rattle.world_settles_laws.specs.world_invariant_laws.Links.{IsLinked}
-use Rattle.world_settles_laws.specs.headline_for_proofs.Worlds.{IsSound, sound_kept, worlds_hold}
-use Rattle.world_settles_laws.specs.Lowering.{acts_lower}
+use Rattle.world_settles_laws.specs.headline_for_proofs.Worlds.{IsSound}
+use Rattle.world_settles_laws.specs.headline_for_proofs.WorldsLaws.{sound_kept, worlds_hold}
+use Rattle.world_settles_laws.specs.LoweringLaws.{acts_lower}
 use Rattle.world_settles_laws.specs.Settled as settling
-use Rattle.world_settles_laws.specs.Tidy.{Stands, stands_tidy}
+use Rattle.world_settles_laws.specs.Tidy.{Stands}
+use Rattle.world_settles_laws.specs.TidyLaws.{stands_tidy}
 use Rattle.world_settles_laws.specs.Settling.{stuck, stands}
 
 module _ (first : App) (good : HasValues (programs first)) where

@@ -44,7 +44,7 @@ module _ (C : List Moment) (number : ℕ) where
       let ms = messages_of C number past st i in
       let past2 = call_of C st i ∷ past in
       ap (λ o. is_some o) (after_more s ms (out_from C number past2 (after st i) items))
-          ∙ says past2 (after st i) items (session_after s ms) (λ f. one_says past st i s had f) e
+      ∙ says past2 (after st i) items (session_after s ms) (λ f. one_says past st i s had f) e
 
 -- a client that took all messages of a session that is connected has its name
 pub connected_says : (C : List Moment) (number : ℕ) (items : List Item) → (state_of items).connected ≡ true →

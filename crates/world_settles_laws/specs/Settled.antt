@@ -8,7 +8,8 @@ use Rattle.rounds_model.specs.RoundLaws.{round_leads}
 use Rattle.world_model.specs.declared.events.Act.{Act}
 use Rattle.world_model.specs.World.{World, done, can_in}
 use Rattle.world_model.specs.Settle.{phases, round, is_stuck, measures, settled}
-use Rattle.world_settles_laws.specs.Lowering.{AreTidy, acts_lower}
+use Rattle.world_settles_laws.specs.Lowering.{AreTidy}
+use Rattle.world_settles_laws.specs.LoweringLaws.{acts_lower}
 
 -- whatever each act keeps, and by which clients and sessions are tidy
 module _ (P : World → Type 0) (tidy : (w : World) → P w → AreTidy w) (keeps : (e : List ℕ × Act) (w : World) → P w → P (done e w)) where

@@ -11,12 +11,14 @@ use Rattle.headline.specs.world_model.Events.{run, AreEvents}
 use Rattle.headline.specs.world_values_laws.Values.{HasValues}
 use Rattle.headline.specs.world_invariant_laws.Lift.{done_holds}
 use Rattle.headline.specs.world_invariant_laws.Links.{IsLinked}
-use Rattle.headline.specs.Worlds.{IsSound, sound_kept, worlds_hold}
+use Rattle.headline.specs.Worlds.{IsSound}
+use Rattle.headline.specs.WorldsLaws.{sound_kept, worlds_hold}
 use Rattle.world_settles_laws.specs.Settled as settling
-use Rattle.world_settles_laws.specs.Stuck.{none_of_phase}
+use Rattle.world_settles_laws.specs.StuckLaws.{none_of_phase}
 use Rattle.world_settles_laws.specs.Rest.{is_resting}
 use Rattle.world_settles_laws.specs.Resting.{RestsUnless}
-use Rattle.world_settles_laws.specs.Tidy.{Stands, stands_tidy}
+use Rattle.world_settles_laws.specs.Tidy.{Stands}
+use Rattle.world_settles_laws.specs.TidyLaws.{stands_tidy}
 
 module _ (first : App) (good : HasValues (programs first)) where
   pub stuck : (w : World) → Stands first w → is_stuck (settled w) ≡ true

@@ -1,10 +1,4 @@
 -- What crates above name of `history_model`.
-pub use Rattle.world_settles_laws.specs.history_model.Bounds
-pub use Rattle.world_settles_laws.specs.history_model.History
-pub use Rattle.world_settles_laws.specs.history_model.HistoryLaws
-pub use Rattle.world_settles_laws.specs.history_model.Operations
-pub use Rattle.world_settles_laws.specs.history_model.RunsLaws
-pub use Rattle.world_settles_laws.specs.history_model.declared
 pub use Rattle.headline.specs.history_model.Bounds
 pub use Rattle.headline.specs.history_model.History
 pub use Rattle.headline.specs.history_model.HistoryLaws

@@ -1,5 +1,3 @@
 -- What crates above name of `program_model`.
-pub use Rattle.world_settles_laws.specs.program_model.Run
-pub use Rattle.world_settles_laws.specs.program_model.Steps
 pub use Rattle.headline.specs.program_model.Run
 pub use Rattle.headline.specs.program_model.Steps

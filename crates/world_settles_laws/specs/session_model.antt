@@ -1,8 +1,4 @@
 -- What crates above name of `session_model`.
-pub use Rattle.world_settles_laws.specs.session_model.Items
-pub use Rattle.world_settles_laws.specs.session_model.Methods
-pub use Rattle.world_settles_laws.specs.session_model.Subscriptions
-pub use Rattle.world_settles_laws.specs.session_model.Taking
 pub use Rattle.headline.specs.session_model.Counting
 pub use Rattle.headline.specs.session_model.Fits
 pub use Rattle.headline.specs.session_model.Items

@@ -1,13 +1,22 @@
 pub mod StepsRead
+pub mod StepsReadLaws
 pub mod AppsRead
+pub mod AppsReadLaws
 pub mod Values
 pub mod ModifierValues
+pub mod ModifierValuesLaws
 pub mod TemplateValues
+pub mod TemplateValuesLaws
 pub mod OperationValues
+pub mod OperationValuesLaws
 pub mod StepValues
+pub mod StepValuesLaws
 pub mod HistoryValues
+pub mod HistoryValuesLaws
 pub mod MomentValues
 pub mod ReadValues
+pub mod ReadValuesLaws
 pub mod TakenValues
+pub mod TakenValuesLaws
 -- what lies below, for the crates above
 pub mod world_model

@@ -29,7 +29,7 @@ use Rattle.world_model.specs.session_model.Kept as kept
 use Rattle.world_model.specs.Store.{programs, moments}
 use Rattle.world_model.specs.StoreLaws.{moments_at, moments_past}
 use Rattle.world_values_laws.specs.Values.{HasValues, AreEntries, AreDocuments, IsBegun}
-use Rattle.world_values_laws.specs.HistoryValues.{held_is, entries_take}
+use Rattle.world_values_laws.specs.HistoryValuesLaws.{held_is, entries_take}
 
 -- ---- documents
 

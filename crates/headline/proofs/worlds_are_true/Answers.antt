@@ -1,4 +1,4 @@
-use Rattle.headline.specs.Worlds as laws
+use Rattle.headline.specs.WorldsLaws as laws
 use Rattle.headline.proofs.worlds_are_true.Goals as goal
 
 pub returns : goal.returns

@@ -1,4 +1,4 @@
-use Rattle.session_journal_laws.specs.Tracking.{cursor_looks_back}
+use Rattle.session_journal_laws.specs.TrackingLaws.{cursor_looks_back}
 use Rattle.session_journal_laws.proofs.cursor_looks_back.Goals as goal
 
 pub returns : goal.returns

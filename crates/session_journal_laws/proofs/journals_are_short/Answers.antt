@@ -1,4 +1,4 @@
-use Rattle.session_journal_laws.specs.Lengths.{journals_are_short}
+use Rattle.session_journal_laws.specs.LengthsLaws.{journals_are_short}
 use Rattle.session_journal_laws.proofs.journals_are_short.Goals as goal
 
 pub returns : goal.returns

@@ -1,4 +1,4 @@
-use Rattle.session_journal_laws.specs.Readable.{out_reads}
+use Rattle.session_journal_laws.specs.ReadableLaws.{out_reads}
 use Rattle.session_journal_laws.proofs.texts_read_as_the_messages.Goals as goal
 
 pub returns : goal.returns

@@ -1,4 +1,4 @@
-use Rattle.session_journal_laws.specs.Told.{told_when_first_open}
+use Rattle.session_journal_laws.specs.ToldLaws.{told_when_first_open}
 use Rattle.session_journal_laws.proofs.told_when_first_open.Goals as goal
 
 pub returns : goal.returns

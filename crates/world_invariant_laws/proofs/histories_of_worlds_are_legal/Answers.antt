@@ -1,4 +1,4 @@
-use Rattle.world_invariant_laws.specs.Worlds as laws
+use Rattle.world_invariant_laws.specs.WorldsLaws as laws
 use Rattle.world_invariant_laws.proofs.histories_of_worlds_are_legal.Goals as goal
 
 pub returns : goal.returns

@@ -1,4 +1,4 @@
-use Rattle.world_rounds_laws.specs.Loops.{loop_begins, loop_goes_on}
+use Rattle.world_rounds_laws.specs.LoopsLaws.{loop_begins, loop_goes_on}
 use Rattle.world_rounds_laws.proofs.acts_are_repeated.Goals as goal
 
 pub returns : goal.returns

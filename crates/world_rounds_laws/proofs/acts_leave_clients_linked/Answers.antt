@@ -1,4 +1,4 @@
-use Rattle.world_rounds_laws.specs.Linked.{act_linked}
+use Rattle.world_rounds_laws.specs.LinkedLaws.{act_linked}
 use Rattle.world_rounds_laws.proofs.acts_leave_clients_linked.Goals as goal
 
 pub returns : goal.returns

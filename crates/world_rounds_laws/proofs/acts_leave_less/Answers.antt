@@ -1,4 +1,4 @@
-use Rattle.world_rounds_laws.specs.Loops.{ups_lower, recvs_lower, handles_lower, sends_lower, takes_lower}
+use Rattle.world_rounds_laws.specs.LoopsLaws.{ups_lower, recvs_lower, handles_lower, sends_lower, takes_lower}
 use Rattle.world_rounds_laws.proofs.acts_leave_less.Goals as goal
 
 pub returns : goal.returns

@@ -1,4 +1,4 @@
-use Rattle.world_rounds_laws.specs.Loops.{ups_are, recvs_are, handles_are, sends_are, takes_are}
+use Rattle.world_rounds_laws.specs.LoopsLaws.{ups_are, recvs_are, handles_are, sends_are, takes_are}
 use Rattle.world_rounds_laws.proofs.repeated_acts_are_phases.Goals as goal
 
 pub returns : goal.returns

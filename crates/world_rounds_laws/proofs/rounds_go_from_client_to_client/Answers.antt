@@ -1,4 +1,4 @@
-use Rattle.world_rounds_laws.specs.Visits.{round_is, visits_sorted}
+use Rattle.world_rounds_laws.specs.VisitsLaws.{round_is, visits_sorted}
 use Rattle.world_rounds_laws.proofs.rounds_go_from_client_to_client.Goals as goal
 
 pub returns : goal.returns

@@ -1,4 +1,4 @@
-use Rattle.world_rounds_laws.specs.Steps.{step_lowers}
+use Rattle.world_rounds_laws.specs.StepsLaws.{step_lowers}
 use Rattle.world_rounds_laws.proofs.steps_leave_less.Goals as goal
 
 pub returns : goal.returns

@@ -1,4 +1,4 @@
-use Rattle.world_settles_laws.specs.Asked.{all_asked, call_asks, sub_asks, unsub_asks}
+use Rattle.world_settles_laws.specs.AskedLaws.{all_asked, call_asks, sub_asks, unsub_asks}
 use Rattle.world_settles_laws.proofs.clients_ask_for_each_call_once.Goals as goal
 
 pub returns-clause-handled : goal.returns-clause-handled

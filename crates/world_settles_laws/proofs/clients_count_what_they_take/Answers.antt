@@ -1,4 +1,4 @@
-use Rattle.world_settles_laws.specs.Calls.{late_counted}
+use Rattle.world_settles_laws.specs.CallsLaws.{late_counted}
 use Rattle.world_settles_laws.proofs.clients_count_what_they_take.Goals as goal
 
 pub returns : goal.returns

@@ -1,4 +1,4 @@
-use Rattle.world_settles_laws.specs.Lowering.{acts_lower}
+use Rattle.world_settles_laws.specs.LoweringLaws.{acts_lower}
 use Rattle.world_settles_laws.proofs.each_act_leaves_less.Goals as goal
 
 pub returns : goal.returns

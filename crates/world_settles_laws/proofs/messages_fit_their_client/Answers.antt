@@ -1,4 +1,4 @@
-use Rattle.world_settles_laws.specs.Fitting.{out_accepted}
+use Rattle.world_settles_laws.specs.FittingLaws.{out_accepted}
 use Rattle.world_settles_laws.proofs.messages_fit_their_client.Goals as goal
 
 pub returns : goal.returns

@@ -1,4 +1,4 @@
-use Rattle.world_values_laws.specs.ModifierValues.{modified_document}
+use Rattle.world_values_laws.specs.ModifierValuesLaws.{modified_document}
 use Rattle.world_values_laws.proofs.modified_documents_are_documents.Goals as goal
 
 pub returns : goal.returns

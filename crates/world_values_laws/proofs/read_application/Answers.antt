@@ -1,4 +1,4 @@
-use Rattle.world_values_laws.specs.AppsRead.{read_apps_have_values, given_values}
+use Rattle.world_values_laws.specs.AppsReadLaws.{read_apps_have_values, given_values}
 use Rattle.world_values_laws.proofs.read_application.Goals as goal
 
 pub returns-clause-values : goal.returns-clause-values

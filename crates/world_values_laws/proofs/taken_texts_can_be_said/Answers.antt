@@ -1,4 +1,4 @@
-use Rattle.world_values_laws.specs.TakenValues.{taken_is}
+use Rattle.world_values_laws.specs.TakenValuesLaws.{taken_is}
 use Rattle.world_values_laws.proofs.taken_texts_can_be_said.Goals as goal
 
 pub returns : goal.returns

@@ -1,4 +1,5 @@
-use Rattle.connection_laws.specs.Beginning.{begin_makes, begin_none, begin_begun, begin_refused, status_now}
+use Rattle.connection_laws.specs.BeginningLaws.{begin_makes, begin_begun, begin_refused}
+use Rattle.connection_laws.specs.BeginningLaws.{begin_none, status_now}
 use Rattle.connection_laws.proofs.acts.calls_begin.Goals as goal
 
 pub returns : goal.returns

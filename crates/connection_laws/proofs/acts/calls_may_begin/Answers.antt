@@ -1,4 +1,4 @@
-use Rattle.connection_laws.specs.Beginning.{may_begin}
+use Rattle.connection_laws.specs.BeginningLaws.{may_begin}
 use Rattle.connection_laws.proofs.acts.calls_may_begin.Goals as goal
 
 pub returns : goal.returns

@@ -1,4 +1,4 @@
-use Rattle.connection_laws.specs.Beginning.{step_makes}
+use Rattle.connection_laws.specs.BeginningLaws.{step_makes}
 use Rattle.connection_laws.proofs.acts.runs_step.Goals as goal
 
 pub returns : goal.returns

@@ -1,4 +1,4 @@
-use Rattle.connection_laws.specs.Asks.{call_makes}
+use Rattle.connection_laws.specs.AsksLaws.{call_makes}
 use Rattle.connection_laws.proofs.asks.calls_are_made.Goals as goal
 
 pub returns : goal.returns

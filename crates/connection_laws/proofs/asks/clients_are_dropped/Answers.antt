@@ -1,4 +1,4 @@
-use Rattle.connection_laws.specs.Asks.{drop_made}
+use Rattle.connection_laws.specs.AsksLaws.{drop_made}
 use Rattle.connection_laws.proofs.asks.clients_are_dropped.Goals as goal
 
 pub returns : goal.returns

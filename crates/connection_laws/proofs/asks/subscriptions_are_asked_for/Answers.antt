@@ -1,4 +1,4 @@
-use Rattle.connection_laws.specs.Asks.{subscribe_makes}
+use Rattle.connection_laws.specs.AsksLaws.{subscribe_makes}
 use Rattle.connection_laws.proofs.asks.subscriptions_are_asked_for.Goals as goal
 
 pub returns : goal.returns

@@ -1,4 +1,4 @@
-use Rattle.connection_laws.specs.Asks.{unsubscribe_makes}
+use Rattle.connection_laws.specs.AsksLaws.{unsubscribe_makes}
 use Rattle.connection_laws.proofs.asks.subscriptions_are_ended.Goals as goal
 
 pub returns : goal.returns

@@ -1,4 +1,4 @@
-use Rattle.connection_laws.specs.Asks.{raw_makes}
+use Rattle.connection_laws.specs.AsksLaws.{raw_makes}
 use Rattle.connection_laws.proofs.asks.texts_are_queued.Goals as goal
 
 pub returns : goal.returns

@@ -1,4 +1,4 @@
-use Rattle.connection_laws.specs.Printing.{show_is}
+use Rattle.connection_laws.specs.PrintingLaws.{show_is}
 use Rattle.connection_laws.proofs.laws.clients_are_printed.Goals as goal
 
 pub returns : goal.returns

@@ -1,4 +1,4 @@
-use Rattle.multiplexer.specs.Lending.{lent_longer, lent_shorter}
+use Rattle.multiplexer.specs.LendingLaws.{lent_longer, lent_shorter}
 use Rattle.multiplexer.proofs.laws.longer_histories_keep_what_is_lent.Goals as goal
 
 pub returns-clause-longer : goal.returns-clause-longer

@@ -1,4 +1,4 @@
-use Rattle.multiplexer.specs.Longer.{told_longer, nothing_told_yet}
+use Rattle.multiplexer.specs.LongerLaws.{told_longer, nothing_told_yet}
 use Rattle.multiplexer.proofs.laws.longer_histories_keep_what_is_told.Goals as goal
 
 pub returns-clause-first : goal.returns-clause-first

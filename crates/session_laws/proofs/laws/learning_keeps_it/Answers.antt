@@ -1,4 +1,4 @@
-use Rattle.session_laws.specs.Learning.{learnt_keeps}
+use Rattle.session_laws.specs.LearningLaws.{learnt_keeps}
 use Rattle.session_laws.proofs.laws.learning_keeps_it.Goals as goal
 
 pub returns : goal.returns

@@ -1,4 +1,4 @@
-use Rattle.session_laws.specs.Learning.{refused_keeps}
+use Rattle.session_laws.specs.LearningLaws.{refused_keeps}
 use Rattle.session_laws.proofs.laws.refusing_keeps_it.Goals as goal
 
 pub returns : goal.returns

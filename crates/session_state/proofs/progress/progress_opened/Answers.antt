@@ -1,7 +1,8 @@
 use Rattle.std.proofs.Common.{map, ap, sym, ◌∙◌}
 use Rattle.session_state.specs.declared.progress.Progress.{Progress}
 use Rattle.session_state.specs.Subs.{as_live}
-use Rattle.session_state.specs.Progress.{nowhere, with_cursor, progress_append}
+use Rattle.session_state.specs.Progress.{nowhere, with_cursor}
+use Rattle.session_state.specs.ProgressLaws.{progress_append}
 use Rattle.session_state.proofs.progress.progress_opened.Goals as goal
 
 pub returns : goal.returns

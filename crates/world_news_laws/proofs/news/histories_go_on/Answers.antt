@@ -1,4 +1,4 @@
-use Rattle.world_news_laws.specs.News.{stays_on, longer_on, then_on}
+use Rattle.world_news_laws.specs.NewsLaws.{stays_on, longer_on, then_on}
 use Rattle.world_news_laws.proofs.news.histories_go_on.Goals as goal
 
 pub returns : goal.returns

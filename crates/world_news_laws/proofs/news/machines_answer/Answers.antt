@@ -1,4 +1,4 @@
-use Rattle.world_news_laws.specs.News.{begin_on, step_on, admin_on}
+use Rattle.world_news_laws.specs.NewsLaws.{begin_on, step_on, admin_on}
 use Rattle.world_news_laws.proofs.news.machines_answer.Goals as goal
 
 pub returns : goal.returns

@@ -1,5 +1,5 @@
 use Rattle.std.proofs.Common.{◌+◌}
-use Rattle.multiplexer.specs.Lending.{asked_leads}
+use Rattle.multiplexer.specs.LendingLaws.{asked_leads}
 use Rattle.multiplexer.proofs.news.Multiplexer.span.Goals as goal
 
 pub returns-in_ok-lent-in-Some-clause-told : goal.returns-in_ok-lent-in-Some-clause-told

@@ -1,4 +1,4 @@
-use Rattle.publication.specs.Distinct.{cursors_distinct}
+use Rattle.publication.specs.DistinctLaws.{cursors_distinct}
 use Rattle.publication.proofs.cursor.Cursors.make.Goals as goal
 
 pub invariant_of-result : goal.invariant_of-result

@@ -5,7 +5,8 @@ use Rattle.session_state.specs.declared.subs.Sub.{Sub}
 use Rattle.session_state.specs.declared.own.Step.{Step}
 use Rattle.session_state.specs.declared.own.Step.TheVariants as step
 use Rattle.session_state.specs.Subs.{as_live}
-use Rattle.session_state.specs.Progress.{progress_of, progress_is}
+use Rattle.session_state.specs.Progress.{progress_of}
+use Rattle.session_state.specs.ProgressLaws.{progress_is}
 use Rattle.session_state.specs.Own.{as_state, stepped}
 use Rattle.session_state.proofs.kept.Own.progress_after.Goals as goal
 

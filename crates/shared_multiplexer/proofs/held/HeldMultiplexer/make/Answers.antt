@@ -1,5 +1,5 @@
 use Rattle.std.proofs.Common.{sym, subst}
-use Rattle.world_news_laws.specs.multiplexer.Longer.{nothing_told_yet}
+use Rattle.world_news_laws.specs.multiplexer.LongerLaws.{nothing_told_yet}
 use Rattle.world_news_laws.specs.multiplexer.Telling.{ANews}
 use Rattle.world_news_laws.specs.Sources.{cursors_at_of}
 use Rattle.shared_store.specs.Store.{over}

@@ -35,7 +35,7 @@ changes_more : (app : Programs) (h : Held) (es fs : List Entry) →
 changes_more app h [] fs = refl
 changes_more app h (e ∷ es) fs =
     ap (λ (cs : List Change). changes_by app h e ++ cs) (changes_more app (carried app h e) es fs)
-        ∙ sym (append_assoc (changes_by app h e) (changes_from app (carried app h e) es) (changes_from app (held_from app (carried app h e) es) fs))
+    ∙ sym (append_assoc (changes_by app h e) (changes_from app (carried app h e) es) (changes_from app (held_from app (carried app h e) es) fs))
 
 -- those of some entries, and then of others behind them
 pub between_more : (app : Programs) (history : List Entry) (place a b : ℕ) →
@@ -45,7 +45,7 @@ between_more app history place a b =
     let rest = take b (drop (place + a) history) in
     let there : held_at app history (place + a) ≡ held_from app (held_at app history place) some = ap (held app) (take_more place a history) ∙ held_from-append app nothing (take place history) some in
     ap (changes_from app (held_at app history place))
-        (take_more a b (drop place history) ∙ ap (λ (es : List Entry). some ++ take b es) (drop_further place a history))
+    (take_more a b (drop place history) ∙ ap (λ (es : List Entry). some ++ take b es) (drop_further place a history))
     ∙ (changes_more app (held_at app history place) some rest ∙ ap (λ (h : Held). changes_between app history place a ++ changes_from app h rest) (sym there))
 
 -- no entry changes anything

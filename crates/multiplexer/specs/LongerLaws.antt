@@ -15,8 +15,7 @@ use Rattle.live_observer.specs.Observing.{IsDifference}
 use Rattle.store_machine.specs.State.{MachineState, programs}
 use Rattle.multiplexer.specs.Leading.{News, AreDifferences, IsLead}
 use Rattle.multiplexer.specs.Known.{AreKnown}
-use Rattle.multiplexer.specs.Telling.{CursorsAt, AnEntry, ASpan, ASource, ANews, nothing_told, documents_of, news_in, AreKnownFrom, IsSpan, IsTold,
-    IsKept, AreTold}
+use Rattle.multiplexer.specs.Telling.{CursorsAt, AnEntry, ASpan, ASource, ANews, nothing_told, documents_of, news_in, AreKnownFrom, IsSpan, IsTold, IsKept, AreTold}
 
 taken_within : {A : Type 0} (count place : ℕ) (xs more : List A) → place + count ≤ length xs → take count (drop place (xs ++ more)) ≡ take count (drop place xs)
 taken_within count place xs more fits =
@@ -33,7 +32,7 @@ pub between_longer : (app : Programs) (history more : List Entry) (place count :
     changes_between app (history ++ more) place count ≡ changes_between app history place count
 between_longer app history more place count fits =
     ap₂ (λ (h : Held) (es : List Entry). changes_from app h es) (held_at-longer app history more place (omega (arith, fits)))
-        (taken_within count place history more fits)
+    (taken_within count place history more fits)
 
 batch_longer : (m : MachineState) (es : List Entry) (o : Option Batch) → IfSome o (IsKept m) → IfSome o (IsKept (record m { history = m.history ++ es }))
 batch_longer m es None kept = tt
@@ -82,13 +81,13 @@ pub one_longer : (cursors : ACursors) (app : Programs) (history more : List Entr
     IsSpan cursors app (history ++ more) span
 one_longer cursors app history more span told =
     span_alike cursors app history (history ++ more) span (omega (arith, told.within, length-append history more))
-        (same_documents app history more span.from (omega (arith, told.order, told.within))) (same_documents app history more span.until told.within) told
+    (same_documents app history more span.from (omega (arith, told.order, told.within))) (same_documents app history more span.until told.within) told
 
 pub one_shorter : (cursors : ACursors) (app : Programs) (history more : List Entry) (span : ASpan) → span.until ≤ length history →
     IsSpan cursors app (history ++ more) span → IsSpan cursors app history span
 one_shorter cursors app history more span le told =
     span_alike cursors app (history ++ more) history span le (sym (same_documents app history more span.from (omega (arith, told.order, le))))
-        (sym (same_documents app history more span.until le)) told
+    (sym (same_documents app history more span.until le)) told
 
 span_longer : (cursors : ACursors) (app : Programs) (history more : List Entry) (o : Option ASpan) → IfSome o (IsSpan cursors app history) →
     IfSome o (IsSpan cursors app (history ++ more))
