@@ -10,7 +10,7 @@ ghost use Rattle.session_core.specs.Handling.{IsNextBy, IsNext, gone_by, passed}
 use crate::inner::{Inner, add, is_at_work, test};
 use crate::session_laws::EventFault;
 use crate::session_state::Step;
-use crate::{Addition, Asked, News};
+use crate::{Addition, Asked, News, Session};
 use ddp_messages::FromClient;
 use ejson_value::Mem;
 use method_queue::MethodQueue;
@@ -116,13 +116,13 @@ fn handle_next(inner: &mut Inner) -> Result<(), Mem>
     }
 }
 
-/// Handles the message that came first.
-pub(crate) fn handle(inner: &mut Inner) -> Result<(), EventFault>
-    requires { IsKept inner.old }
-    ensures handles { Handles (seen inner.old) (seen inner.new) result }
-    ensures kept { IsKept inner.new }
-{
-    test(inner, can_handle(inner))?;
-    handle_next(inner)?;
-    Ok(())
+impl Session {
+    /// Handles the message that came first, unless a call blocks.
+    pub fn handle(&mut self) -> Result<(), EventFault>
+        ensures { Handles self.old self.new result }
+    {
+        test(&self.inner, can_handle(&self.inner))?;
+        handle_next(&mut self.inner)?;
+        Ok(())
+    }
 }

@@ -11,7 +11,7 @@ use crate::session_journal_laws::Stored;
 use crate::session_laws::EventFault;
 use crate::session_state::{Phase, Step, id_at, phase_at};
 use crate::session_texts::{Texts, refused_texts, result_text};
-use crate::{Addition, News};
+use crate::{Addition, News, Session};
 use ejson_value::Mem;
 use method_queue::MethodQueue;
 use program_steps::{End, Status};
@@ -119,17 +119,6 @@ fn told_of(inner: &mut Inner, k: u64, status: &Status) -> Result<(), Mem>
     }
 }
 
-/// The run of the call of this number has this status.
-pub(crate) fn learn(inner: &mut Inner, k: u64, status: &Status) -> Result<(), EventFault>
-    requires { IsKept inner.old }
-    ensures learns { Learns k status.now (seen inner.old) (seen inner.new) result }
-    ensures kept { IsKept inner.new }
-{
-    test(inner, can_learn(inner, k, status))?;
-    told_of(inner, k, status)?;
-    Ok(())
-}
-
 // The call isn't run.
 fn turn_down(inner: &mut Inner, k: u64, at: u64) -> Result<(), Mem>
     requires kept { IsKept inner.old }
@@ -160,13 +149,22 @@ fn can_refuse(inner: &Inner, k: u64) -> bool
     is_at_work(inner) && is_blocked_by(inner, k)
 }
 
-/// The history had no room for the call.
-pub(crate) fn refuse(inner: &mut Inner, k: u64, at: u64) -> Result<(), EventFault>
-    requires { IsKept inner.old }
-    ensures refuses { Refuses k at (seen inner.old) (seen inner.new) result }
-    ensures kept { IsKept inner.new }
-{
-    test(inner, can_refuse(inner, k))?;
-    turn_down(inner, k, at)?;
-    Ok(())
+impl Session {
+    /// The run of the call of this number has this status at some moment of the store.
+    pub fn learn(&mut self, k: u64, status: &Status) -> Result<(), EventFault>
+        ensures { Learns k status.now self.old self.new result }
+    {
+        test(&self.inner, can_learn(&self.inner, k, status))?;
+        told_of(&mut self.inner, k, status)?;
+        Ok(())
+    }
+
+    /// The history, when it had `at` entries, had no room for the call of this number.
+    pub fn refuse(&mut self, k: u64, at: u64) -> Result<(), EventFault>
+        ensures { Refuses k at self.old self.new result }
+    {
+        test(&self.inner, can_refuse(&self.inner, k))?;
+        turn_down(&mut self.inner, k, at)?;
+        Ok(())
+    }
 }

@@ -1,44 +1,32 @@
 //! Sessions.
-ghost use Rattle.std.specs.Prelude.{◌≡◌, ◌≤◌, ◌+◌, ◌*◌, length, map, slice_get, option_map, option_copied, IfOk};
+ghost use Rattle.std.specs.Prelude.{◌≡◌, length, map, slice_get, option_map, option_copied, IfOk};
 ghost use Rattle.session_core.specs.session_model.Subscriptions.{sub_named};
 ghost use Rattle.session_core.specs.session_laws.Session.{new_session};
-ghost use Rattle.session_core.specs.session_laws.Events.{Takes, Handles, Loads, Advances, Feeds, Learns, Refuses, Sends, Closes, observer_of};
+ghost use Rattle.session_core.specs.session_laws.Events.{Sends, Closes};
 ghost use Rattle.session_core.specs.session_state.Own.{as_blocking};
 ghost use Rattle.session_core.specs.session_state.Subs.{as_live, observers_of};
 ghost use Rattle.session_state.specs.Work.{as_work, work_of, running_from};
 ghost use Rattle.session_state.specs.Journal.{runs};
-ghost use Rattle.ejson_value.specs.Changes.{news_of};
-ghost use Rattle.session_core.specs.Known.{AreRight, AreLearnt};
-ghost use Rattle.session_core.specs.Limits.{is_limited, watched_count};
+ghost use Rattle.session_core.specs.Limits.{is_limited};
 ghost use Rattle.session_core.specs.Lines.{lines_of};
 
-use crate::handling::handle;
-use crate::inner::{Inner, new_inner};
-use crate::learning::{learn, refuse};
-use crate::outside::{is_limited, record, records, send};
-use crate::session_laws::EventFault;
+use crate::inner::{Inner, MAX_ITEMS, new_inner};
+use crate::outside::send;
 use crate::session_state::{Call, Sub, sub_named};
 use crate::session_texts::Texts;
-use crate::showing::{advance, feed, load};
-use crate::taking::take;
 use app_model::App;
-use ejson_value::{Contents, Mem, Publishes, Text};
-use history_log::Batch;
+use ejson_value::{Mem, Text};
 use json::Scratch;
-use known_texts::KnownTexts;
-use program_steps::Status;
-use selector_match::Steps;
 use session_state::{Line, Work, running, tasks_of};
 use std::alloc::Global;
 use std::marker::Model;
-use std::sync::ledger::Ledger;
 
 /// A session of the server. It takes texts and makes texts, and keeps a journal of what it did. It
 /// keeps neither the texts that it took, nor the moments of its store, nor the texts that were sent:
 /// it stands for them by a relation that each event keeps. A call of `learn` or `refuse` hands in
 /// what is so at some moment of the store.
 pub struct Session {
-    inner: Inner,
+    pub(crate) inner: Inner,
 }
 
 // A `derive` would have each crate that lets one go prove anew how all that it holds is let go.
@@ -76,74 +64,6 @@ impl Session {
         Ok(Session {
             inner: new_inner(alloc, app, number, scratch),
         })
-    }
-
-    /// Takes a text of the client: most are answered at once; a `sub`, an `unsub` or a `method` waits
-    /// in the queue.
-    pub fn take(&mut self, text: &Text) -> Result<(), EventFault>
-        ensures { Takes text.now self.old self.new result }
-    {
-        take(&mut self.inner, text)
-    }
-
-    /// Handles the message that came first, unless a call blocks.
-    pub fn handle(&mut self) -> Result<(), EventFault>
-        ensures { Handles self.old self.new result }
-    {
-        handle(&mut self.inner)
-    }
-
-    /// The subscription shows what it publishes of the contents, which the store has after `at`
-    /// entries. It is `ready`.
-    pub fn load(&mut self, sub: u64, at: u64, contents: &Contents) -> Result<(), EventFault>
-        ensures { Loads sub at contents.now self.old self.new result }
-    {
-        load(&mut self.inner, sub, at, contents)
-    }
-
-    /// The subscription goes on over a batch of entries, by its own observer. A tick of `steps` is one
-    /// question of it.
-    pub fn advance<L: Ledger>(
-        &mut self,
-        sub: u64,
-        batch: &Batch,
-        steps: &mut Steps<L>,
-    ) -> Result<(), EventFault>
-        ensures advances { Advances sub batch.now.from batch.now.count batch.now.changes self.old self.new result }
-        ensures grows { steps.old ≤ steps.new }
-        ensures ticks { steps.new ≤ steps.old + watched_count (observer_of sub self.old) * (2 * length batch.now.changes) }
-    {
-        advance(&mut self.inner, sub, batch, steps)
-    }
-
-    /// The subscription goes `count` entries on, by news that were made elsewhere. Of a document that no
-    /// other subscription publishes it says the text that is known, and makes one known that was not.
-    pub fn feed(
-        &mut self,
-        sub: u64,
-        count: u64,
-        news: &Publishes,
-        known: &mut KnownTexts,
-    ) -> Result<(), EventFault>
-        requires right { AreRight sub self.old.carried.box (news_of news.now) known.old }
-        ensures feeds { Feeds sub count news.now self.old self.new result }
-        ensures learnt { AreLearnt sub self.old.carried.box (news_of news.now) known.old known.new }
-    {
-        feed(&mut self.inner, sub, count, news, known)
-    }
-
-    /// The run of the call of this number has this status at some moment of the store.
-    pub fn learn(&mut self, k: u64, status: &Status) -> Result<(), EventFault>
-        ensures { Learns k status.now self.old self.new result }
-    {
-        learn(&mut self.inner, k, status)
-    }
-
-    /// The history, when it had `at` entries, had no room for the call of this number.
-    pub fn refuse(&mut self, k: u64, at: u64) -> Result<(), EventFault>
-        ensures { Refuses k at self.old self.new result }
-    {
-        refuse(&mut self.inner, k, at)
     }
 
     /// Takes the text out that is sent next. None where there is none, or the session was closed.
@@ -214,14 +134,14 @@ impl Session {
     pub fn limited(&self) -> bool
         ensures { result ≡ is_limited self.now }
     {
-        is_limited(&self.inner)
+        self.inner.parts.journal.len() >= MAX_ITEMS || self.inner.parts.own.has_refused()
     }
 
     /// How many records the journal has: runs of equal neighbouring advances, and other items.
     pub fn records(&self) -> u64
         ensures { result ≡ length (runs (lines_of self.now)) }
     {
-        records(&self.inner)
+        self.inner.parts.journal.records()
     }
 
     /// The record at this place: an item with the id that a print of it shows, and how many such
@@ -229,7 +149,7 @@ impl Session {
     pub fn record(&self, place: usize) -> Option<(&Line, u64)>
         ensures { option_map (λ r. (r.0.now, r.1)) result ≡ slice_get (runs (lines_of self.now)) place }
     {
-        record(&self.inner, place)
+        self.inner.parts.journal.record(place)
     }
 
     /// How many texts each item has.

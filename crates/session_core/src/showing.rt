@@ -22,7 +22,7 @@ use crate::session_journal_laws::Stored;
 use crate::session_laws::EventFault;
 use crate::session_state::{Own, Step, Sub, cursor_of, may_load, sub_of};
 use crate::session_texts::{Texts, ready_text};
-use crate::{Addition, News};
+use crate::{Addition, News, Session};
 use ejson_value::{Contents, Mem, Publishes};
 use history_log::Batch;
 use known_texts::KnownTexts;
@@ -77,22 +77,6 @@ fn can_load(inner: &Inner, sub: u64, at: u64) -> bool
     ensures { result ≡ can_load sub at (seen inner.now) }
 {
     is_at_work(inner) && may_load(inner.parts.own.subs.as_slice(), sub, at)
-}
-
-/// The subscription shows what it publishes of the contents.
-pub(crate) fn load(
-    inner: &mut Inner,
-    sub: u64,
-    at: u64,
-    contents: &Contents,
-) -> Result<(), EventFault>
-    requires { IsKept inner.old }
-    ensures loads { Loads sub at contents.now (seen inner.old) (seen inner.new) result }
-    ensures kept { IsKept inner.new }
-{
-    test(inner, can_load(inner, sub, at))?;
-    load_at(inner, sub, at, contents)?;
-    Ok(())
 }
 
 // The place so many entries on, where such a history can be.
@@ -210,27 +194,6 @@ fn advance_to<L: Ledger>(
     Ok(())
 }
 
-/// The subscription goes on over a batch.
-pub(crate) fn advance<L: Ledger>(
-    inner: &mut Inner,
-    sub: u64,
-    batch: &Batch,
-    steps: &mut Steps<L>,
-) -> Result<(), EventFault>
-    requires { IsKept inner.old }
-    ensures advances { Advances sub batch.now.from batch.now.count batch.now.changes (seen inner.old) (seen inner.new) result }
-    ensures kept { IsKept inner.new }
-    ensures grows { steps.old ≤ steps.new }
-    ensures ticks { steps.new ≤ steps.old + watched_count (observer_of sub (seen inner.old)) * (2 * length batch.now.changes) }
-{
-    let place = place_after(inner, sub, batch.count);
-    test(inner, place.is_some())?;
-    match place {
-        Some(at) => Ok(advance_to(inner, sub, at, batch, steps)?),
-        None => Err(EventFault::Idle),
-    }
-}
-
 // Tells a proof that an observer without limits stands at any documents.
 fn know_observer(inner: &Inner, sub: u64)
     ensures { IfSome (observer_of sub (seen inner.now)) StandsAnywhere }
@@ -240,25 +203,56 @@ fn know_observer(inner: &Inner, sub: u64)
     }
 }
 
-/// The subscription goes so many entries on, by news that were made elsewhere.
-pub(crate) fn feed(
-    inner: &mut Inner,
-    sub: u64,
-    count: u64,
-    news: &Publishes,
-    known: &mut KnownTexts,
-) -> Result<(), EventFault>
-    requires kept { IsKept inner.old }
-    requires right { AreRight sub (seen inner.old).carried.box (news_of news.now) known.old }
-    ensures feeds { Feeds sub count news.now (seen inner.old) (seen inner.new) result }
-    ensures learnt { AreLearnt sub (seen inner.old).carried.box (news_of news.now) known.old known.new }
-    ensures kept { IsKept inner.new }
-{
-    know_observer(inner, sub);
-    let place = place_after(inner, sub, count);
-    test(inner, place.is_some())?;
-    match place {
-        Some(at) => Ok(go_on_known(inner, sub, count, at, news, known)?),
-        None => Err(EventFault::Idle),
+impl Session {
+    /// The subscription shows what it publishes of the contents, which the store has after `at`
+    /// entries. It is `ready`.
+    pub fn load(&mut self, sub: u64, at: u64, contents: &Contents) -> Result<(), EventFault>
+        ensures { Loads sub at contents.now self.old self.new result }
+    {
+        test(&self.inner, can_load(&self.inner, sub, at))?;
+        load_at(&mut self.inner, sub, at, contents)?;
+        Ok(())
+    }
+
+    /// The subscription goes on over a batch of entries, by its own observer. A tick of `steps` is one
+    /// question of it.
+    pub fn advance<L: Ledger>(
+        &mut self,
+        sub: u64,
+        batch: &Batch,
+        steps: &mut Steps<L>,
+    ) -> Result<(), EventFault>
+        ensures advances { Advances sub batch.now.from batch.now.count batch.now.changes self.old self.new result }
+        ensures grows { steps.old ≤ steps.new }
+        ensures ticks { steps.new ≤ steps.old + watched_count (observer_of sub self.old) * (2 * length batch.now.changes) }
+    {
+        let place = place_after(&self.inner, sub, batch.count);
+        test(&self.inner, place.is_some())?;
+        match place {
+            Some(at) => Ok(advance_to(&mut self.inner, sub, at, batch, steps)?),
+            None => Err(EventFault::Idle),
+        }
+    }
+
+    /// The subscription goes `count` entries on, by news that were made elsewhere. Of a document that no
+    /// other subscription publishes it says the text that is known, and makes one known that was not.
+    pub fn feed(
+        &mut self,
+        sub: u64,
+        count: u64,
+        news: &Publishes,
+        known: &mut KnownTexts,
+    ) -> Result<(), EventFault>
+        requires right { AreRight sub self.old.carried.box (news_of news.now) known.old }
+        ensures feeds { Feeds sub count news.now self.old self.new result }
+        ensures learnt { AreLearnt sub self.old.carried.box (news_of news.now) known.old known.new }
+    {
+        know_observer(&self.inner, sub);
+        let place = place_after(&self.inner, sub, count);
+        test(&self.inner, place.is_some())?;
+        match place {
+            Some(at) => Ok(go_on_known(&mut self.inner, sub, count, at, news, known)?),
+            None => Err(EventFault::Idle),
+        }
     }
 }

@@ -16,7 +16,7 @@ use crate::session_journal_laws::Stored;
 use crate::session_laws::EventFault;
 use crate::session_state::Step;
 use crate::session_texts::{Answer, Taken, answer_texts, taken_from};
-use crate::{Addition, News};
+use crate::{Addition, News, Session};
 use ddp_messages::FromClient;
 use ejson_value::{Mem, Text};
 use method_queue::{MethodQueue, PushFault};
@@ -133,12 +133,13 @@ fn taken(inner: &mut Inner, text: &Text) -> Result<(), EventFault>
     }
 }
 
-/// Takes a text.
-pub(crate) fn take(inner: &mut Inner, text: &Text) -> Result<(), EventFault>
-    requires { IsKept inner.old }
-    ensures takes { Takes text.now (seen inner.old) (seen inner.new) result }
-    ensures kept { IsKept inner.new }
-{
-    test(inner, is_at_work(inner))?;
-    taken(inner, text)
+impl Session {
+    /// Takes a text of the client: most are answered at once; a `sub`, an `unsub` or a `method` waits
+    /// in the queue.
+    pub fn take(&mut self, text: &Text) -> Result<(), EventFault>
+        ensures { Takes text.now self.old self.new result }
+    {
+        test(&self.inner, is_at_work(&self.inner))?;
+        taken(&mut self.inner, text)
+    }
 }

@@ -1,9 +1,0 @@
-use Rattle.std.specs.Prelude.{slice_get}
-use Rattle.std.proofs.Common.{List, ap, sym, ◌∙◌}
-use Rattle.session_state.specs.declared.journal.Line.{Line}
-use Rattle.session_state.specs.Journal.{runs}
-use Rattle.session_core.proofs.Lined.{lines_are}
-use Rattle.session_core.proofs.outside.record.Goals as goal
-
-pub returns : goal.returns
-returns c = c.record.ensures ∙ ap (λ (ls : List Line). slice_get (runs ls) c.args.place) (sym (lines_are c.args.inner.now.parts.journal.lines))
