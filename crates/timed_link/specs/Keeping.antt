@@ -9,5 +9,5 @@ use Rattle.timed_link.specs.Times.{GivesUp}
 
 -- what is so of a heart that has this history
 pub record Knows (times : Times) (past : History) (w : Watch) : Type 0 where
-  heart : w.heart ≡ pulse_of times past
-  ends : GivesUp times past w.given_up
+  pub heart : w.heart ≡ pulse_of times past
+  pub ends : GivesUp times past w.given_up
