@@ -1,0 +1,9 @@
+pub mod Sent
+pub mod Given
+pub mod ReadLaws
+pub mod WrittenLaws
+pub mod Kept
+pub mod KeptLaws
+pub mod GivenLaws
+pub mod Once
+pub mod OnceLaws
