@@ -72,21 +72,6 @@ pub(crate) fn accept_waking<R: RandomSource + Drop>(
     link
 }
 
-// A link of a connection that can't be used.
-pub(crate) fn broken<S: Read + Write + Drop, R: RandomSource + Drop>(
-    alloc: Global,
-) -> SocketLink<S, R>
-    ensures failed { result.state ≡ At.Failed }
-    ensures faults { result.faults ≡ 0 }
-{
-    SocketLink {
-        alloc,
-        state: State::Failed,
-        faults: 0,
-        bell: SocketBell::silent(),
-    }
-}
-
 /// A client's link, once its handshake is done. `rt` gives the masks of its frames.
 pub fn connect<S: Read + Write + Drop, R: RandomSource + Drop>(
     rt: R,
@@ -313,7 +298,7 @@ impl<S: Read + Write + Drop, R: RandomSource + Drop> Drop for SocketLink<S, R> {
 
 // Tells a peer whose request nobody will take. What it has sent is read first: a connection that ends with bytes unread
 // may take back what was written.
-fn turn_away<S: Read + Write + Drop>(stream: S) {
+pub(crate) fn turn_away<S: Read + Write + Drop>(stream: S) {
     let mut stream = stream;
     let mut request = [0; REQUEST];
     let _ = stream.read(&mut request);

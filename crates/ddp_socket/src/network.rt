@@ -2,8 +2,8 @@ ghost use Rattle.std.specs.Prelude.{◌≡◌};
 ghost use Rattle.duct.specs.Told.{CountsFaults};
 ghost use Rattle.duct.specs.Networks.{network_failed};
 
-use crate::link::{SocketLink, accept_waking, broken, connect};
-use crate::waking::WakingStream;
+use crate::link::{SocketLink, accept_waking, connect, turn_away};
+use crate::waking::{WakingStream, Watch};
 use duct::{NetFault, Network};
 use std::alloc::Global;
 use std::net::{Ipv4Addr, Net, TcpListener, TcpStream};
@@ -37,7 +37,7 @@ pub struct SocketNetwork<R> {
 fn is_short(error: &io::Error) -> bool {
     match error.raw_os_error() {
         Some(number) => SHORT.contains(&number),
-        None => false,
+        None => error.kind() == io::ErrorKind::OutOfMemory,
     }
 }
 
@@ -49,27 +49,40 @@ fn is_passed_over(error: &io::Error) -> bool {
     )
 }
 
+// The next connection. What waits for it is made before it is taken, so that a connection is left to the system as long as
+// descriptors are short; one for which the system is short of something else all the same is told that there is no place.
+fn accept_one<R: Net>(rt: &R, alloc: Global, listener: &TcpListener) -> io::Result<WakingStream> {
+    let watch = Watch::new(rt, alloc)?;
+    let (tcp, _from) = listener.accept()?;
+    match WakingStream::new(watch, tcp) {
+        Ok(stream) => Ok(stream),
+        Err(stream) => {
+            turn_away(stream);
+            Err(io::Error::from(io::ErrorKind::ConnectionAborted))
+        }
+    }
+}
+
 // The next connection that hasn't broken off.
-fn next_whole(listener: &TcpListener) -> io::Result<TcpStream> {
+fn next_whole<R: Net>(rt: &R, alloc: Global, listener: &TcpListener) -> io::Result<WakingStream> {
     for _ in 0..PASSED_OVER {
-        match listener.accept() {
-            Ok((stream, _from)) => return Ok(stream),
+        match accept_one(rt, alloc, listener) {
             Err(error) if is_passed_over(&error) => {}
-            Err(error) => return Err(error),
+            done => return done,
         }
     }
     Err(io::Error::from(io::ErrorKind::ConnectionAborted))
 }
 
 // The next connection, also where the system is short of something for a while.
-fn next<R: Clock>(rt: &R, listener: &TcpListener) -> io::Result<TcpStream> {
+fn next<R: Net + Clock>(rt: &R, alloc: Global, listener: &TcpListener) -> io::Result<WakingStream> {
     for _ in 0..PAUSES {
-        match next_whole(listener) {
+        match next_whole(rt, alloc, listener) {
             Err(error) if is_short(&error) => thread::sleep(rt, Duration::from_millis(PAUSE)),
             done => return done,
         }
     }
-    next_whole(listener)
+    next_whole(rt, alloc, listener)
 }
 
 impl<
@@ -104,8 +117,12 @@ impl<
     }
 
     fn reach(&self, port: u16) -> io::Result<WakingStream> {
-        let stream = TcpStream::connect(&self.rt, (Ipv4Addr::LOCALHOST, port))?;
-        WakingStream::new(&self.rt, self.alloc, stream)
+        let watch = Watch::new(&self.rt, self.alloc)?;
+        let tcp = TcpStream::connect(&self.rt, (Ipv4Addr::LOCALHOST, port))?;
+        match WakingStream::new(watch, tcp) {
+            Ok(stream) => Ok(stream),
+            Err(_) => Err(io::Error::from(io::ErrorKind::ConnectionAborted)),
+        }
     }
 }
 
@@ -133,16 +150,13 @@ impl<
             return Err(self.fail());
         };
         let accepted = match &self.listener {
-            Some(listener) => next(&self.rt, listener),
+            Some(listener) => next(&self.rt, self.alloc, listener),
             None => Err(io::Error::from(io::ErrorKind::NotConnected)),
         };
         match accepted {
             Ok(stream) => {
                 self.given = given;
-                Ok(match WakingStream::new(&self.rt, self.alloc, stream) {
-                    Ok(stream) => accept_waking(self.alloc, stream),
-                    Err(_) => broken(self.alloc),
-                })
+                Ok(accept_waking(self.alloc, stream))
             }
             Err(_) => Err(self.fail()),
         }

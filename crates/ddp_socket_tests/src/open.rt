@@ -5,7 +5,7 @@ use ddp_socket::{SocketLink, SocketNetwork, WakingStream};
 use duct::{Link, Polled, SendFault};
 use ejson_value::{Mem, Text};
 use std::alloc::Global;
-use std::io::Read;
+use std::io::{Read, Write};
 use std::net::{Net, TcpListener, TcpStream};
 use std::random::RandomSource;
 use std::test::Fail;
@@ -18,6 +18,9 @@ const LINKS: usize = 64;
 const LONG: usize = 1000000;
 
 const TEXTS: usize = 100;
+
+// How often a link is polled that hears nothing: often enough that it waits longer than at first.
+const SILENCE: usize = 60;
 
 // The letter that they are made of, which no head has.
 const LETTER: u8 = b'~';
@@ -86,6 +89,23 @@ fn stand_at_once<
     Ok(true)
 }
 
+// Whether a link that heard nothing for a while gives a text that comes then, and the next one.
+fn hears_after_silence<
+    R: Net<Listener = TcpListener, Stream = TcpStream> + RandomSource + Clock + Copy + Send,
+>(rt: R, network: &mut SocketNetwork<R>, port: u16) -> Result<bool, Fail> {
+    let (mut peer, mut link) = peer(rt, network, port, REQUEST)?;
+    for _ in 0..SILENCE {
+        if !matches!(link.poll(), Polled::Quiet) {
+            return Ok(false);
+        }
+    }
+    peer.write_all(b"\x81\x82\0\0\0\0hi")?;
+    let heard_it = matches!(next(&mut link), Polled::Message(text) if text.as_str() == "hi");
+    peer.write_all(b"\x81\x82\0\0\0\0yo")?;
+    let heard_more = matches!(next(&mut link), Polled::Message(text) if text.as_str() == "yo");
+    Ok(heard_it && heard_more)
+}
+
 // A text that is long.
 fn long(alloc: Global) -> Result<Text, Mem> {
     let mut text = Text::new(alloc);
@@ -152,7 +172,8 @@ fn all_stand<
         answers_the_last_text(rt, alloc, &mut network, port)?
             && says_goodbye(rt, alloc, &mut network, port)?
             && stand_at_once(rt, alloc, &mut network, port)?
-            && holds_up_no_other(rt, alloc, &mut network, port)?,
+            && holds_up_no_other(rt, alloc, &mut network, port)?
+            && hears_after_silence(rt, &mut network, port)?,
     )
 }
 
