@@ -5,7 +5,7 @@ ghost use Rattle.map_model.specs.Maps.{union};
 ghost use Rattle.value_model.specs.Order.{text_cmp};
 ghost use Rattle.world_core.specs.history_model.Lines.{store_lines};
 ghost use Rattle.world_core.specs.store_machine.State.{held_by};
-ghost use Rattle.world_core.specs.News.{AreNews};
+ghost use Rattle.world_news_laws.specs.News.{AreNews};
 ghost use Rattle.lanes.specs.Lanes.{AreTold};
 ghost use Rattle.lanes.specs.Unions.{AreLanes};
 ghost use Rattle.world_core.specs.Visits.{AreReady, Tells, Leads};

@@ -1,7 +1,7 @@
 //! Rounds of a world that settles.
 ghost use Rattle.std.specs.Prelude.{◌≡◌, ◌++◌, ◌∷◌, [], ◌||◌, true, IfSome, IfOk, OnOk};
 ghost use Rattle.std.specs.Option.{option_copied};
-ghost use Rattle.world_core.specs.News.{AreNews};
+ghost use Rattle.world_news_laws.specs.News.{AreNews};
 ghost use Rattle.world_laws.specs.World.{as_world, IsWorld};
 ghost use Rattle.world_core.specs.Kept.{seen};
 ghost use Rattle.world_core.specs.Names.{lesser};

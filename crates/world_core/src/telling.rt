@@ -1,6 +1,6 @@
 //! Clients are told one after another.
 ghost use Rattle.std.specs.Prelude.{◌≡◌};
-ghost use Rattle.world_core.specs.News.{AreNews};
+ghost use Rattle.world_news_laws.specs.News.{AreNews};
 ghost use Rattle.lanes.specs.Lanes.{AreTold, either};
 ghost use Rattle.world_core.specs.Visits.{AreReady, Tells, Leads};
 

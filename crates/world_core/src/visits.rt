@@ -2,7 +2,7 @@
 ghost use Rattle.std.specs.Prelude.{◌≡◌, IfSome};
 ghost use Rattle.map_model.specs.Maps.{at};
 ghost use Rattle.value_model.specs.Order.{text_cmp};
-ghost use Rattle.world_core.specs.News.{AreNews};
+ghost use Rattle.world_news_laws.specs.News.{AreNews};
 ghost use Rattle.world_core.specs.Clients.{IsReady, ActsIn, AsksIn};
 ghost use Rattle.world_core.specs.Visits.{CanVisit, VisitsIn, AreReady, TellsIn};
 
