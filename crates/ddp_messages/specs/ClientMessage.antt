@@ -27,7 +27,7 @@ client_view (shape.Sub id name params) = sub id name params
 client_view (shape.Unsub id) = unsub id
 client_view (shape.Method id name params seed) = method id name params (option_map view seed)
 
--- Which message a JSON object is, by its fields. Other fields are ignored, `session_core` of `connect` among them.
+-- Which message a JSON object is, by its fields. Other fields are ignored, `session` of `connect` among them.
 abbrev pub ClientReads : Data → ClientMessage → Type 0
 ClientReads d (connect version support) = IsNamed (codes "connect") d × Has (codes "version") as_str d version × MayHave (codes "support") texts_of d support
 ClientReads d (ping id) = IsNamed (codes "ping") d × MayHave (codes "id") as_str d id

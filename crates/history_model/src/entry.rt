@@ -6,7 +6,7 @@ use ejson_value::{Copied, Items, Mem, Text, Value, copy};
 /// What was done to a store.
 #[derive(Drop)]
 pub enum Entry {
-    /// A run of the method of this name was begun: session `session_core`, which counts its calls by `k`,
+    /// A run of the method of this name was begun: session `session`, which counts its calls by `k`,
     /// called it with these parameters and this seed.
     Begin {
         session: u32,

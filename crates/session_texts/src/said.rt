@@ -30,7 +30,7 @@ fn text_of(alloc: Global, message: FromServer) -> Result<Text, Mem>
     text
 }
 
-/// The name of the session with this number (the `session_core` of a `connected`).
+/// The name of the session with this number (the `session` of a `connected`).
 pub fn session_name(alloc: Global, number: u32) -> Result<Text, Mem>
     ensures { IfOk result (λ name. name ≡ session_name number) }
 {
