@@ -1,3 +1,5 @@
+pub mod Parts
+pub mod Operators
 pub mod Answering
 pub mod Steps
 pub mod Short

@@ -1,3 +1,5 @@
+pub mod Acts
+pub mod Parts
 pub mod Progress
 pub mod Planned
 pub mod Writes

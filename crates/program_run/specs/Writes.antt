@@ -12,7 +12,7 @@ use Rattle.program_model.specs.declared.verdict.Verdict.TheVariants as verdict
 use Rattle.program_model.specs.Guarded.{Write, removes}
 use Rattle.program_model.specs.Run.{Run, is_id, ended}
 use Rattle.program_model.specs.Steps.{Setting, unchanged, update_of, writing_in, by_verdict, Writing as AWriting}
-use Rattle.write_rules.specs.Acts.{write_of}
+use Rattle.program_run.specs.Acts.{write_of}
 use Rattle.program_run.specs.declared.guarded.Writing.{Writing}
 use Rattle.program_run.specs.declared.plan.Plan.{Plan}
 use Rattle.program_run.specs.Progress.{Progress, with_left}

@@ -14,7 +14,7 @@ ghost use Rattle.program_model.specs.Faults.{denied_by, not_allowed};
 ghost use Rattle.program_model.specs.Guarded.{inserts, updates, removes, id_of, judged, or_none, no_rules};
 ghost use Rattle.program_model.specs.Run.{is_id};
 ghost use Rattle.program_model.specs.Steps.{with_id, operation_of, update_of};
-ghost use Rattle.write_rules.specs.Acts.{write_of, is_write, is_operators, modification_in};
+ghost use Rattle.program_run.specs.Acts.{write_of, is_write, is_operators, modification_in};
 ghost use Rattle.program_run.specs.declared.plan.Plan.TheVariants.{Answers};
 ghost use Rattle.program_run.specs.Planned.{ids_with, rules_of, IsPlan};
 ghost use Rattle.program_run.specs.Writes.{only, second, update_in, remove_in, IsWriting, IsEnd, IsRefusal, IsVerdictPlan};
@@ -25,13 +25,13 @@ use crate::filling::read_modifier;
 use crate::plan::{Ids, Plan};
 use crate::planning::bad_plan;
 use crate::run::Run;
+use crate::{Act, Verdict, judge};
 use app_model::App;
 use collection_store::{Op, Store};
 use ejson_value::{Doc, Items, Key, Mem, Text, Value, Whole, copy};
 use program_steps::{Action, Outcome};
 use selector_match::Selector;
 use std::alloc::Global;
-use write_rules::{Act, Verdict, judge};
 
 /// A write, and the ids that the run has once it is made.
 #[derive(Drop)]

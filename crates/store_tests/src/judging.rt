@@ -3,9 +3,9 @@ use crate::applications::app;
 use crate::values::{document, first, value};
 use app_model::App;
 use ejson_value::{Doc, Text};
+use program_run::{Act, Verdict, judge};
 use std::alloc::Global;
 use std::test::Fail;
-use write_rules::{Act, Verdict, judge};
 
 // Each table: an application, and below it rows of an act, its id, its document or modifier, and
 // the document that is there or `none`, with what is answered for the collection `tasks`.
