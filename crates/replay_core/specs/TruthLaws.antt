@@ -17,7 +17,7 @@ use Rattle.client_model.specs.Showing.{IsShown}
 use Rattle.world_core.specs.world_invariant_laws.Links.{IsLinked}
 use Rattle.world_core.specs.world_invariant_laws_for_proofs.WorldsLaws.{all_linked}
 use Rattle.world_core.specs.headline_for_proofs.WorldsLaws.{worlds_are_true}
-use Rattle.world_core.specs.world_settles_laws_for_proofs.WorldsLaws.{worlds_have_long_alone}
+use Rattle.world_core.specs.headline_for_proofs.PoliteWorldsLaws.{worlds_have_long_alone}
 use Rattle.world_core.specs.AtRest.{settled_worlds_rest}
 use Rattle.world_core.specs.RestingRounds.{rounds_stay}
 use Rattle.checking.specs.Input.{lines_in, rest_of, is_blank, value_in}

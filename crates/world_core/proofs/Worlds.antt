@@ -9,7 +9,7 @@ use Rattle.world_core.specs.world_model.Settle.{round, settled}
 use Rattle.world_core.specs.world_model.Events.{step}
 use Rattle.world_core.specs.world_model.Lines.{lines_of}
 use Rattle.world_core.specs.world_model.Headline.{AreAtRest}
-use Rattle.world_laws.specs.world_settles_laws_for_proofs.Rounds.{rounds_stay}
+use Rattle.world_laws.specs.headline_for_proofs.Rounds.{rounds_stay}
 use Rattle.world_laws.specs.World.{AWorld, as_world, IsWorld}
 use Rattle.world_laws.specs.Doing.{ActsLead, IsLeft as LeavesKept}
 use Rattle.world_laws.specs.Promises.{settled_rests}

@@ -39,5 +39,4 @@ pub mod world_invariant_laws_for_proofs
 pub mod world_model
 pub mod world_model_for_proofs
 pub mod world_rounds_laws
-pub mod world_settles_laws_for_proofs
 pub mod world_values_laws

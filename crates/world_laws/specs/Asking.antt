@@ -13,16 +13,16 @@ use Rattle.value_model.specs.Order.{text_cmp}
 use Rattle.ejson_value.specs.Key.{name_order}
 use Rattle.ddp_messages.specs.Limits.{AreShallow}
 use Rattle.app_model.specs.App.{App}
-use Rattle.world_settles_laws.specs.history_model.declared.entry.Entry.{Entry}
-use Rattle.world_settles_laws.specs.history_model.declared.entry.Entry.TheVariants as entry
-use Rattle.world_settles_laws.specs.world_model.declared.events.Event.{Event}
-use Rattle.world_settles_laws.specs.world_model.declared.events.Event.TheVariants as event
-use Rattle.world_settles_laws.specs.world_model.Conn.{Conn, client_limit}
-use Rattle.world_settles_laws.specs.world_model.Asks.{Ask, can_ask, asked}
-use Rattle.world_settles_laws.specs.world_model.Asks as ask
-use Rattle.world_settles_laws.specs.world_model.World.{World, conn_of, with_conn, present as present_in, can_open, opened_with, opens, asked_by, asked_in, can_ask_by}
-use Rattle.world_settles_laws.specs.world_model.Events.{refusal_of, entered_by, administers, step, IsEvent, Reachable}
-use Rattle.world_settles_laws.specs.world_invariant_laws.Lift.{IsAsk}
+use Rattle.headline.specs.history_model.declared.entry.Entry.{Entry}
+use Rattle.headline.specs.history_model.declared.entry.Entry.TheVariants as entry
+use Rattle.headline.specs.world_model.declared.events.Event.{Event}
+use Rattle.headline.specs.world_model.declared.events.Event.TheVariants as event
+use Rattle.headline.specs.world_model.Conn.{Conn, client_limit}
+use Rattle.headline.specs.world_model.Asks.{Ask, can_ask, asked}
+use Rattle.headline.specs.world_model.Asks as ask
+use Rattle.headline.specs.world_model.World.{World, conn_of, with_conn, present as present_in, can_open, opened_with, opens, asked_by, asked_in, can_ask_by}
+use Rattle.headline.specs.world_model.Events.{refusal_of, entered_by, administers, step, IsEvent, Reachable}
+use Rattle.headline.specs.world_invariant_laws.Lift.{IsAsk}
 use Rattle.connection_laws.specs.Connection.{AConnection, new_connection, as_conn, IsConnection}
 use Rattle.connection_laws.specs.Asks.{IsAsked}
 use Rattle.connection_laws.specs.StandingLaws.{new_stays}

@@ -10,10 +10,10 @@ use Rattle.map_model.specs.MapLaws.{at-put, sorted-put, same_maps, key_is, eq_by
 use Rattle.value_model.specs.Order.{text_cmp}
 use Rattle.ejson_value.specs.Key.{name_order}
 use Rattle.app_model.specs.App.{App}
-use Rattle.world_settles_laws.specs.history_model.declared.entry.Entry.{Entry}
-use Rattle.world_settles_laws.specs.world_model.World.{conn_of}
-use Rattle.world_settles_laws.specs.world_model.Events.{Reachable}
-use Rattle.world_settles_laws.specs.world_invariant_laws.Lift.{IsNumbered}
+use Rattle.headline.specs.history_model.declared.entry.Entry.{Entry}
+use Rattle.headline.specs.world_model.World.{conn_of}
+use Rattle.headline.specs.world_model.Events.{Reachable}
+use Rattle.headline.specs.world_invariant_laws.Lift.{IsNumbered}
 use Rattle.connection_laws.specs.Connection.{AConnection, as_conn, IsConnection}
 use Rattle.connection_laws.specs.StandingLaws.{longer_stays}
 use Rattle.world_laws.specs.World.{Names, AConnections, AWorld, as_conns, as_world, connection_of, is_among, IsIdle, is_there, IsClient, IsWorld}

@@ -5,17 +5,17 @@ use Rattle.std.specs.Ordering.{is_le}
 use Rattle.std.specs.BTreeMap.{is_at, insert_entry}
 use Rattle.value_model.specs.Val.{Val}
 use Rattle.value_model.specs.Order.{text_cmp}
-use Rattle.world_settles_laws.specs.history_model.declared.entry.Entry.{Entry}
-use Rattle.world_settles_laws.specs.history_model.declared.entry.Entry.TheVariants as entry
+use Rattle.headline.specs.history_model.declared.entry.Entry.{Entry}
+use Rattle.headline.specs.history_model.declared.entry.Entry.TheVariants as entry
 use Rattle.rounds_model.specs.Rounds.{made}
-use Rattle.world_settles_laws.specs.world_model.declared.events.Act.{Act}
-use Rattle.world_settles_laws.specs.world_model.declared.events.Act.TheVariants as act
-use Rattle.world_settles_laws.specs.world_model.declared.events.Event.{Event}
-use Rattle.world_settles_laws.specs.world_model.declared.events.Event.TheVariants as event
-use Rattle.world_settles_laws.specs.world_model.Asks.{Ask}
-use Rattle.world_settles_laws.specs.world_model.Asks as ask
-use Rattle.world_settles_laws.specs.world_model.World.{World, conn_of, done, opens, asked_in}
-use Rattle.world_settles_laws.specs.world_model.Events.{administers, step}
+use Rattle.headline.specs.world_model.declared.events.Act.{Act}
+use Rattle.headline.specs.world_model.declared.events.Act.TheVariants as act
+use Rattle.headline.specs.world_model.declared.events.Event.{Event}
+use Rattle.headline.specs.world_model.declared.events.Event.TheVariants as event
+use Rattle.headline.specs.world_model.Asks.{Ask}
+use Rattle.headline.specs.world_model.Asks as ask
+use Rattle.headline.specs.world_model.World.{World, conn_of, done, opens, asked_in}
+use Rattle.headline.specs.world_model.Events.{administers, step}
 use Rattle.world_rounds_laws.specs.Visits.{visits}
 use Rattle.connection_laws.specs.Connection.{AConnection, new_connection}
 use Rattle.world_laws.specs.World.{Names, AWorld, as_world, is_among, IsIdle, IsWorld}

@@ -2,10 +2,10 @@
 use Rattle.std.specs.Prelude.{◌≡◌, ℕ, ◌-◌, List, [], ◌∷◌, false}
 use Rattle.map_model.specs.Maps.{at}
 use Rattle.app_model.specs.App.{App}
-use Rattle.world_settles_laws.specs.history_model.declared.entry.Entry.{Entry}
-use Rattle.world_settles_laws.specs.history_model.History.{run_cmp, goes_on}
-use Rattle.world_settles_laws.specs.world_model.Store.{held_in}
-use Rattle.world_settles_laws.specs.world_invariant_laws.Lift.{is_by}
+use Rattle.headline.specs.history_model.declared.entry.Entry.{Entry}
+use Rattle.headline.specs.history_model.History.{run_cmp, goes_on}
+use Rattle.headline.specs.world_model.Store.{held_in}
+use Rattle.headline.specs.world_invariant_laws.Lift.{is_by}
 
 -- no entry is of this session
 abbrev pub AreNotBy : ℕ → List Entry → Type 0

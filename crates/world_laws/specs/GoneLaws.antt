@@ -10,25 +10,25 @@ use Rattle.value_model.specs.Val.{Val}
 use Rattle.ejson_value.specs.View.{view}
 use Rattle.program_steps.specs.declared.step.ProgramStep.{ProgramStep}
 use Rattle.app_model.specs.App.{App}
-use Rattle.world_settles_laws.specs.history_model.declared.entry.Entry.{Entry}
-use Rattle.world_settles_laws.specs.history_model.declared.entry.Entry.TheVariants as entry
-use Rattle.world_settles_laws.specs.history_model.History.{Programs, Held, RunKey, Runs, Begun, run_cmp, goes_on, no_steps, with_begin, with_step, later, with_stepped, setting_in, carried, nothing, held_from, steps_of as steps_in}
-use Rattle.world_settles_laws.specs.history_model.HistoryLaws.{run_order, held_from-append}
-use Rattle.world_settles_laws.specs.history_model.Operations.{operation_in}
-use Rattle.world_settles_laws.specs.history_model.RunsLaws as runs
-use Rattle.world_settles_laws.specs.history_model.Bounds.{IsHeld}
-use Rattle.world_settles_laws.specs.program_model.Run.{begun}
-use Rattle.world_settles_laws.specs.program_model.Steps.{stepped}
-use Rattle.world_settles_laws.specs.world_model.declared.events.Act.{Act}
-use Rattle.world_settles_laws.specs.world_model.declared.events.Act.TheVariants as act
-use Rattle.world_settles_laws.specs.world_model.Store.{programs, held_in}
+use Rattle.headline.specs.history_model.declared.entry.Entry.{Entry}
+use Rattle.headline.specs.history_model.declared.entry.Entry.TheVariants as entry
+use Rattle.headline.specs.history_model.History.{Programs, Held, RunKey, Runs, Begun, run_cmp, goes_on, no_steps, with_begin, with_step, later, with_stepped, setting_in, carried, nothing, held_from, steps_of as steps_in}
+use Rattle.headline.specs.history_model.HistoryLaws.{run_order, held_from-append}
+use Rattle.headline.specs.history_model.Operations.{operation_in}
+use Rattle.headline.specs.history_model.RunsLaws as runs
+use Rattle.headline.specs.history_model.Bounds.{IsHeld}
+use Rattle.headline.specs.program_model.Run.{begun}
+use Rattle.headline.specs.program_model.Steps.{stepped}
+use Rattle.headline.specs.world_model.declared.events.Act.{Act}
+use Rattle.headline.specs.world_model.declared.events.Act.TheVariants as act
+use Rattle.headline.specs.world_model.Store.{programs, held_in}
 use Rattle.client_model.specs.Asking.{can_take}
-use Rattle.world_settles_laws.specs.session_model.Subscriptions.{Live, cursor_of, may_load}
-use Rattle.world_settles_laws.specs.world_model.Conn.{Conn, state_in, link_limit, outbox_limit, is_full, is_at_work, has_some}
-use Rattle.world_settles_laws.specs.world_model.declared.events.Answer.TheVariants as answer
-use Rattle.world_settles_laws.specs.world_model.Acts.{enabled, unbegun, learnt, may_advance, is_done, is_of_session, is_queue_full, can}
-use Rattle.world_settles_laws.specs.world_model.Settle.{Phase, ups, recvs, handles, begins, steps, learns, loadings, advancings, sendings, takings, steps_of, running_from, loads, advance_to, advances}
-use Rattle.world_settles_laws.specs.world_invariant_laws.Lift.{is_by}
+use Rattle.headline.specs.session_model.Subscriptions.{Live, cursor_of, may_load}
+use Rattle.headline.specs.world_model.Conn.{Conn, state_in, link_limit, outbox_limit, is_full, is_at_work, has_some}
+use Rattle.headline.specs.world_model.declared.events.Answer.TheVariants as answer
+use Rattle.headline.specs.world_model.Acts.{enabled, unbegun, learnt, may_advance, is_done, is_of_session, is_queue_full, can}
+use Rattle.headline.specs.world_model.Settle.{Phase, ups, recvs, handles, begins, steps, learns, loadings, advancings, sendings, takings, steps_of, running_from, loads, advance_to, advances}
+use Rattle.headline.specs.world_invariant_laws.Lift.{is_by}
 use Rattle.connection_laws.specs.Links.{is_step}
 use Rattle.rounds_model.specs.Rounds.{none_of}
 use Rattle.world_rounds_laws.specs.Visits.{can_on, phase_on}

@@ -1,6 +1,6 @@
 -- A client's part of a round adds entries of its session alone, and leaves its number and that it is there.
 use Rattle.std.specs.Prelude.{◌≡◌, ℕ, ◌==◌, List, ◌++◌, false}
-use Rattle.world_settles_laws.specs.history_model.declared.entry.Entry.{Entry}
+use Rattle.headline.specs.history_model.declared.entry.Entry.{Entry}
 use Rattle.world_laws.specs.Gone.{AreNotBy}
 use Rattle.world_rounds_laws.specs.Visits.{Side}
 

@@ -3,11 +3,11 @@ use Rattle.std.specs.Prelude.{ℕ, ◌==◌, List, [], ◌∷◌, ◌++◌, map,
 use Rattle.std.proofs.Common.{ap, sym, ◌∙◌, append-nil}
 use Rattle.std.proofs.lemmas.List.{append_assoc}
 use Rattle.app_model.specs.App.{App}
-use Rattle.world_settles_laws.specs.history_model.declared.entry.Entry.{Entry}
+use Rattle.headline.specs.history_model.declared.entry.Entry.{Entry}
 use Rattle.rounds_model.specs.Rounds.{made, through}
-use Rattle.world_settles_laws.specs.world_model.declared.events.Act.{Act}
-use Rattle.world_settles_laws.specs.world_model.Acts.{can, does, entries}
-use Rattle.world_settles_laws.specs.world_model.Settle.{order}
+use Rattle.headline.specs.world_model.declared.events.Act.{Act}
+use Rattle.headline.specs.world_model.Acts.{can, does, entries}
+use Rattle.headline.specs.world_model.Settle.{order}
 use Rattle.world_laws.specs.Gone.{AreNotBy}
 use Rattle.world_laws.specs.Making.{same_number, does_there, entries_apart}
 use Rattle.world_rounds_laws.specs.Visits.{Side, act_on, phase_on, visited}

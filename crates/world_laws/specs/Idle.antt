@@ -4,7 +4,7 @@ use Rattle.std.proofs.Common.{ap, ◌∙◌}
 use Rattle.std.proofs.lemmas.Bool.{and_parts}
 use Rattle.app_model.specs.App.{App}
 use Rattle.rounds_model.specs.Rounds.{none_of, none_in}
-use Rattle.world_settles_laws.specs.world_model.Settle.{Phase, ups, recvs, handles, begins, steps, learns, loadings, advancings, sendings, takings, order}
+use Rattle.headline.specs.world_model.Settle.{Phase, ups, recvs, handles, begins, steps, learns, loadings, advancings, sendings, takings, order}
 use Rattle.world_rounds_laws.specs.Visits.{Side, can_on, phase_on, is_idle}
 
 module _ (app : App) (x : Side) where

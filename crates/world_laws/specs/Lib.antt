@@ -14,9 +14,8 @@ pub mod Settling
 pub mod Asking
 pub mod Promises
 pub mod Printing
-pub use Rattle.world_settles_laws.specs.AtRest
-pub use Rattle.world_settles_laws.specs.Rounds as RestingRounds
+pub use Rattle.headline.specs.AtRest
+pub use Rattle.headline.specs.Rounds as RestingRounds
 -- what lies below, for the crates above
 pub mod headline_for_proofs
-pub mod world_settles_laws_for_proofs
 pub mod world_values_laws

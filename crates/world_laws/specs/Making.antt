@@ -8,18 +8,18 @@ use Rattle.map_model.specs.MapLaws.{at-put, sorted-put, key_is, eq_by_cmp-self}
 use Rattle.value_model.specs.Order.{text_cmp}
 use Rattle.ejson_value.specs.Key.{name_order}
 use Rattle.app_model.specs.App.{App}
-use Rattle.world_settles_laws.specs.history_model.declared.entry.Entry.{Entry}
-use Rattle.world_settles_laws.specs.session_model.Items.{Item}
-use Rattle.world_settles_laws.specs.session_model.Methods.{Blocking}
-use Rattle.world_settles_laws.specs.session_model.Taking.{Taken, at_once, to_queue, taken_text}
-use Rattle.world_settles_laws.specs.world_model.declared.events.Act.{Act}
-use Rattle.world_settles_laws.specs.world_model.declared.events.Act.TheVariants as act
-use Rattle.world_settles_laws.specs.world_model.declared.events.Answer.TheVariants as answer
-use Rattle.world_settles_laws.specs.world_model.declared.events.Event.{Event}
-use Rattle.world_settles_laws.specs.world_model.Conn.{Waiting, Conn, state_in}
-use Rattle.world_settles_laws.specs.world_model.Acts.{goes_up, received_as, receives, handles, is_kept, unbegun, is_refused, begin_entry, begun, learnt, learns_item, sends, takes, outcome, is_done, can, does, entries}
-use Rattle.world_settles_laws.specs.world_model.World.{World, conn_of, acted, done_by, done, outcome_by}
-use Rattle.world_settles_laws.specs.world_model.Events.{act_in, act_by, done_if, acts, step, Reachable}
+use Rattle.headline.specs.history_model.declared.entry.Entry.{Entry}
+use Rattle.headline.specs.session_model.Items.{Item}
+use Rattle.headline.specs.session_model.Methods.{Blocking}
+use Rattle.headline.specs.session_model.Taking.{Taken, at_once, to_queue, taken_text}
+use Rattle.headline.specs.world_model.declared.events.Act.{Act}
+use Rattle.headline.specs.world_model.declared.events.Act.TheVariants as act
+use Rattle.headline.specs.world_model.declared.events.Answer.TheVariants as answer
+use Rattle.headline.specs.world_model.declared.events.Event.{Event}
+use Rattle.headline.specs.world_model.Conn.{Waiting, Conn, state_in}
+use Rattle.headline.specs.world_model.Acts.{goes_up, received_as, receives, handles, is_kept, unbegun, is_refused, begin_entry, begun, learnt, learns_item, sends, takes, outcome, is_done, can, does, entries}
+use Rattle.headline.specs.world_model.World.{World, conn_of, acted, done_by, done, outcome_by}
+use Rattle.headline.specs.world_model.Events.{act_in, act_by, done_if, acts, step, Reachable}
 use Rattle.connection_laws.specs.Connection.{AConnection, as_conn}
 use Rattle.connection_laws.specs.Acting.{IsDone}
 use Rattle.connection_laws.specs.StandingLaws.{longer_stays}

@@ -3,18 +3,18 @@ use Rattle.std.specs.Prelude.{◌≡◌, ℕ, List, [], ◌∷◌, map, false, O
 use Rattle.std.proofs.Common.{ap, sym, ◌∙◌}
 use Rattle.connection_laws.specs.client_core.Lines as parts
 use Rattle.connection_laws.specs.client_core.State.{show_lines}
-use Rattle.world_settles_laws.specs.world_model.declared.events.Act.{Act}
-use Rattle.world_settles_laws.specs.world_model.declared.events.Act.TheVariants as act
-use Rattle.world_settles_laws.specs.world_model.declared.events.Answer.{Answer}
-use Rattle.world_settles_laws.specs.world_model.declared.events.Answer.TheVariants as answer
-use Rattle.world_settles_laws.specs.world_model.declared.events.Event.{Event}
-use Rattle.world_settles_laws.specs.world_model.declared.events.Event.TheVariants as event
-use Rattle.world_settles_laws.specs.world_model.Acts.{outcome}
-use Rattle.world_settles_laws.specs.world_model.Asks.{Ask, can_ask}
-use Rattle.world_settles_laws.specs.world_model.Conn.{Conn}
-use Rattle.world_settles_laws.specs.world_model.Lines.{line_text, idle, idle_unless, answer_values, broken_values, broken_in, told_values, act_values, ask_values, shown_values, journal_of, texts_of, lines_of}
-use Rattle.world_settles_laws.specs.world_model.World.{World, conn_of, outcome_by, can_ask_by}
-use Rattle.world_settles_laws.specs.world_model.Events.{act_in, act_by}
+use Rattle.headline.specs.world_model.declared.events.Act.{Act}
+use Rattle.headline.specs.world_model.declared.events.Act.TheVariants as act
+use Rattle.headline.specs.world_model.declared.events.Answer.{Answer}
+use Rattle.headline.specs.world_model.declared.events.Answer.TheVariants as answer
+use Rattle.headline.specs.world_model.declared.events.Event.{Event}
+use Rattle.headline.specs.world_model.declared.events.Event.TheVariants as event
+use Rattle.headline.specs.world_model.Acts.{outcome}
+use Rattle.headline.specs.world_model.Asks.{Ask, can_ask}
+use Rattle.headline.specs.world_model.Conn.{Conn}
+use Rattle.headline.specs.world_model.Lines.{line_text, idle, idle_unless, answer_values, broken_values, broken_in, told_values, act_values, ask_values, shown_values, journal_of, texts_of, lines_of}
+use Rattle.headline.specs.world_model.World.{World, conn_of, outcome_by, can_ask_by}
+use Rattle.headline.specs.world_model.Events.{act_in, act_by}
 use Rattle.connection_laws.specs.Connection.{AConnection, as_conn}
 use Rattle.connection_laws.specs.Printing.{kept_journal}
 use Rattle.connection_laws.specs.PrintingLaws.{journal_is, show_is}

@@ -4,15 +4,15 @@ use Rattle.std.proofs.Common.{subst, arith}
 use Rattle.map_model.specs.MapLaws.{sorted-nil}
 use Rattle.value_model.specs.Order.{text_cmp}
 use Rattle.app_model.specs.App.{App}
-use Rattle.world_settles_laws.specs.world_values_laws.Values.{HasValues}
-use Rattle.world_settles_laws.specs.world_model.Store.{programs}
-use Rattle.world_settles_laws.specs.world_model.World.{World}
-use Rattle.world_settles_laws.specs.world_model.Settle.{settled}
-use Rattle.world_settles_laws.specs.world_model.Headline.{IsTrueWorld, HaveLongAlone, AreAtRest}
-use Rattle.world_settles_laws.specs.headline_for_proofs.WorldsLaws.{worlds_are_true}
-use Rattle.world_settles_laws.specs.world_settles_laws_for_proofs.WorldsLaws.{worlds_have_long_alone}
-use Rattle.world_settles_laws.specs.AtRest.{settled_worlds_rest}
-use Rattle.world_settles_laws.specs.world_invariant_laws.Links.{IsLinked}
+use Rattle.headline.specs.world_values_laws.Values.{HasValues}
+use Rattle.headline.specs.world_model.Store.{programs}
+use Rattle.headline.specs.world_model.World.{World}
+use Rattle.headline.specs.world_model.Settle.{settled}
+use Rattle.headline.specs.world_model.Headline.{IsTrueWorld, HaveLongAlone, AreAtRest}
+use Rattle.headline.specs.WorldsLaws.{worlds_are_true}
+use Rattle.headline.specs.PoliteWorldsLaws.{worlds_have_long_alone}
+use Rattle.headline.specs.AtRest.{settled_worlds_rest}
+use Rattle.headline.specs.world_invariant_laws.Links.{IsLinked}
 use Rattle.connection_laws.specs.Connection.{AConnection, as_conn}
 use Rattle.world_laws.specs.World.{AWorld, new_world, as_world, connection_of, IsWorld}
 use Rattle.world_laws.specs.ReachingLaws.{start_reaches, reached_stands}

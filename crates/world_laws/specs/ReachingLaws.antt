@@ -9,16 +9,16 @@ use Rattle.value_model.specs.Order.{text_cmp}
 use Rattle.ejson_value.specs.Key.{name_order}
 use Rattle.app_model.specs.App.{App}
 use Rattle.rounds_model.specs.Rounds.{made, through}
-use Rattle.world_settles_laws.specs.world_model.declared.events.Act.{Act}
-use Rattle.world_settles_laws.specs.world_model.declared.events.Event.{Event}
-use Rattle.world_settles_laws.specs.world_model.declared.events.Event.TheVariants as event
-use Rattle.world_settles_laws.specs.world_model.Conn.{Conn}
-use Rattle.world_settles_laws.specs.world_model.Acts.{does, entries}
-use Rattle.world_settles_laws.specs.world_model.World.{World, start, conn_of, acted, done_by, done}
-use Rattle.world_settles_laws.specs.world_model.Settle.{order}
-use Rattle.world_settles_laws.specs.world_model.Events.{done_if, step, run, IsEvent, AreEvents, Reachable}
-use Rattle.world_settles_laws.specs.headline_for_proofs.WorldsLaws.{worlds_hold}
-use Rattle.world_settles_laws.specs.Tidy.{Stands}
+use Rattle.headline.specs.world_model.declared.events.Act.{Act}
+use Rattle.headline.specs.world_model.declared.events.Event.{Event}
+use Rattle.headline.specs.world_model.declared.events.Event.TheVariants as event
+use Rattle.headline.specs.world_model.Conn.{Conn}
+use Rattle.headline.specs.world_model.Acts.{does, entries}
+use Rattle.headline.specs.world_model.World.{World, start, conn_of, acted, done_by, done}
+use Rattle.headline.specs.world_model.Settle.{order}
+use Rattle.headline.specs.world_model.Events.{done_if, step, run, IsEvent, AreEvents, Reachable}
+use Rattle.headline.specs.WorldsLaws.{worlds_hold}
+use Rattle.headline.specs.Tidy.{Stands}
 use Rattle.world_rounds_laws.specs.Visits.{Side, can_on, act_on, phase_on, with_side, visited_by, visits}
 use Rattle.world_laws.specs.Reaching.{Comes}
 

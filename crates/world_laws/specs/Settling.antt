@@ -13,27 +13,27 @@ use Rattle.map_model.specs.Maps.{at, IsSorted}
 use Rattle.map_model.specs.MapLaws.{at-put, sorted-nil, sorted-put, key_is, is_some-at}
 use Rattle.value_model.specs.Order.{text_cmp}
 use Rattle.ejson_value.specs.Key.{name_order}
-use Rattle.world_settles_laws.specs.history_model.declared.entry.Entry.{Entry}
+use Rattle.headline.specs.history_model.declared.entry.Entry.{Entry}
 use Rattle.rounds_model.specs.Tower.{often}
 use Rattle.rounds_model.specs.TowerLaws.{tower_makes}
 use Rattle.rounds_model.specs.Rounds.{made, through, none_of, none_in}
-use Rattle.world_settles_laws.specs.world_values_laws.Values.{HasValues}
+use Rattle.headline.specs.world_values_laws.Values.{HasValues}
 use Rattle.world_rounds_laws.specs.RepeatsLaws.{made-append}
-use Rattle.world_settles_laws.specs.world_model.declared.events.Act.{Act}
-use Rattle.world_settles_laws.specs.world_model.declared.events.Event.TheVariants as event
-use Rattle.world_settles_laws.specs.world_model.Store.{programs}
-use Rattle.world_settles_laws.specs.world_model.Conn.{Conn}
-use Rattle.world_settles_laws.specs.world_model.Acts.{can}
-use Rattle.world_settles_laws.specs.world_model.World.{World, conn_of, done, can_by, can_in}
-use Rattle.world_settles_laws.specs.world_model.Settle.{Phase, acts_by, phase, order, phases_of, round, is_stuck, measures, settled}
-use Rattle.world_settles_laws.specs.world_model.Events.{Reachable}
-use Rattle.world_settles_laws.specs.world_invariant_laws.Lift.{round_holds}
-use Rattle.world_settles_laws.specs.world_invariant_laws.Links.{IsLinked}
-use Rattle.world_settles_laws.specs.headline_for_proofs.Worlds.{IsSound}
-use Rattle.world_settles_laws.specs.headline_for_proofs.WorldsLaws.{sound_kept}
-use Rattle.world_settles_laws.specs.StuckLaws.{none_of_phase}
-use Rattle.world_settles_laws.specs.Tidy.{Stands}
-use Rattle.world_settles_laws.specs.Settling as settling
+use Rattle.headline.specs.world_model.declared.events.Act.{Act}
+use Rattle.headline.specs.world_model.declared.events.Event.TheVariants as event
+use Rattle.headline.specs.world_model.Store.{programs}
+use Rattle.headline.specs.world_model.Conn.{Conn}
+use Rattle.headline.specs.world_model.Acts.{can}
+use Rattle.headline.specs.world_model.World.{World, conn_of, done, can_by, can_in}
+use Rattle.headline.specs.world_model.Settle.{Phase, acts_by, phase, order, phases_of, round, is_stuck, measures, settled}
+use Rattle.headline.specs.world_model.Events.{Reachable}
+use Rattle.headline.specs.world_invariant_laws.Lift.{round_holds}
+use Rattle.headline.specs.world_invariant_laws.Links.{IsLinked}
+use Rattle.headline.specs.Worlds.{IsSound}
+use Rattle.headline.specs.WorldsLaws.{sound_kept}
+use Rattle.headline.specs.StuckLaws.{none_of_phase}
+use Rattle.headline.specs.Tidy.{Stands}
+use Rattle.headline.specs.Settling as settling
 use Rattle.connection_laws.specs.Connection.{AConnection, as_conn, IsConnection}
 use Rattle.world_laws.specs.World.{AWorld, as_world, connection_of, is_among, IsIdle, is_there, IsClient, IsWorld}
 use Rattle.world_rounds_laws.specs.Visits.{Side, can_on, act_on, phase_on, with_side, visited as client_visited, visited_by, visits, all_visited}

@@ -3,12 +3,12 @@ use Rattle.std.specs.Prelude.{◌≡◌, ◌⊎◌, ℕ, ◌≤◌, List, [], le
 use Rattle.map_model.specs.Maps.{at, IsSorted}
 use Rattle.value_model.specs.Order.{text_cmp}
 use Rattle.app_model.specs.App.{App}
-use Rattle.world_settles_laws.specs.history_model.declared.entry.Entry.{Entry}
-use Rattle.world_settles_laws.specs.world_values_laws.Values.{HasValues}
-use Rattle.world_settles_laws.specs.world_model.Store.{programs}
-use Rattle.world_settles_laws.specs.world_model.Conn.{Conn}
-use Rattle.world_settles_laws.specs.world_model.World.{World, Conns}
-use Rattle.world_settles_laws.specs.world_model.Events.{Reachable}
+use Rattle.headline.specs.history_model.declared.entry.Entry.{Entry}
+use Rattle.headline.specs.world_values_laws.Values.{HasValues}
+use Rattle.headline.specs.world_model.Store.{programs}
+use Rattle.headline.specs.world_model.Conn.{Conn}
+use Rattle.headline.specs.world_model.World.{World, Conns}
+use Rattle.headline.specs.world_model.Events.{Reachable}
 use Rattle.world_rounds_laws.specs.Visits.{is_idle}
 use Rattle.connection_laws.specs.Connection.{AConnection, as_conn, IsConnection}
 

@@ -1,3 +1,6 @@
 -- What proofs of crates above name of `headline`.
-pub use Rattle.world_settles_laws.specs.headline_for_proofs.Worlds
-pub use Rattle.world_settles_laws.specs.headline_for_proofs.WorldsLaws
+pub use Rattle.headline.specs.Worlds
+pub use Rattle.headline.specs.WorldsLaws
+pub use Rattle.headline.specs.Rounds
+pub use Rattle.headline.specs.PoliteWorlds
+pub use Rattle.headline.specs.PoliteWorldsLaws

@@ -1,2 +1,2 @@
 -- What crates above name of `world_values_laws`.
-pub use Rattle.world_settles_laws.specs.world_values_laws.Values
+pub use Rattle.headline.specs.world_values_laws.Values

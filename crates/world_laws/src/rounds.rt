@@ -2,12 +2,12 @@
 ghost use Rattle.std.specs.Prelude.{◌≡◌, ℕ, List, [], length, true, None, Some, IfSome};
 ghost use Rattle.std.specs.Ordering.{is_le, is_lt};
 ghost use Rattle.value_model.specs.Order.{text_cmp};
-ghost use Rattle.world_settles_laws.specs.history_model.declared.entry.Entry.{Entry};
+ghost use Rattle.headline.specs.history_model.declared.entry.Entry.{Entry};
 ghost use Rattle.rounds_model.specs.Rounds.{made};
-ghost use Rattle.world_settles_laws.specs.world_model.declared.events.Act.{Act as AnAct};
-ghost use Rattle.world_settles_laws.specs.world_model.declared.events.Event.TheVariants as event;
-ghost use Rattle.world_settles_laws.specs.world_model.World.{World as TheWorld, conn_of};
-ghost use Rattle.world_settles_laws.specs.world_model.Settle.{round, is_stuck, settled};
+ghost use Rattle.headline.specs.world_model.declared.events.Act.{Act as AnAct};
+ghost use Rattle.headline.specs.world_model.declared.events.Event.TheVariants as event;
+ghost use Rattle.headline.specs.world_model.World.{World as TheWorld, conn_of};
+ghost use Rattle.headline.specs.world_model.Settle.{round, is_stuck, settled};
 ghost use Rattle.connection_laws.specs.Connection.{AConnection, as_conn, IsConnection};
 ghost use Rattle.world_laws.specs.World.{AWorld, as_world, connection_of, IsIdle, IsWorld};
 ghost use Rattle.world_rounds_laws.specs.Visits.{act_on, visited, visits};

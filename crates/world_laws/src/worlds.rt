@@ -1,13 +1,13 @@
 //! What every world is.
 ghost use Rattle.std.specs.Prelude.{◌≡◌, ℕ, List, Some};
 ghost use Rattle.app_model.specs.App.{App};
-ghost use Rattle.world_settles_laws.specs.world_values_laws.Values.{HasValues};
-ghost use Rattle.world_settles_laws.specs.world_model.Headline.{IsTrueWorld, HaveLongAlone, AreAtRest};
-ghost use Rattle.world_settles_laws.specs.world_model.Store.{programs};
-ghost use Rattle.world_settles_laws.specs.world_model.Settle.{settled};
-ghost use Rattle.world_settles_laws.specs.world_model.World.{start};
-ghost use Rattle.world_settles_laws.specs.world_invariant_laws.Links.{IsLinked};
-ghost use Rattle.world_settles_laws.specs.world_invariant_laws.Session.{IsServed};
+ghost use Rattle.headline.specs.world_values_laws.Values.{HasValues};
+ghost use Rattle.headline.specs.world_model.Headline.{IsTrueWorld, HaveLongAlone, AreAtRest};
+ghost use Rattle.headline.specs.world_model.Store.{programs};
+ghost use Rattle.headline.specs.world_model.Settle.{settled};
+ghost use Rattle.headline.specs.world_model.World.{start};
+ghost use Rattle.headline.specs.world_invariant_laws.Links.{IsLinked};
+ghost use Rattle.headline.specs.world_invariant_laws.Session.{IsServed};
 ghost use Rattle.connection_laws.specs.Connection.{AConnection, as_conn};
 ghost use Rattle.world_laws.specs.World.{AWorld, new_world, as_world, connection_of, IsWorld};
 

@@ -1,5 +1,0 @@
-use Rattle.world_settles_laws.specs.WorldsLaws.{worlds_have_long_alone}
-use Rattle.world_settles_laws.proofs.clients_refuse_texts_for_their_length_alone.Goals as goal
-
-pub returns : goal.returns
-returns c = worlds_have_long_alone

@@ -1,5 +1,0 @@
-use Rattle.world_settles_laws.specs.AtRest.{settled_worlds_rest}
-use Rattle.world_settles_laws.proofs.settled_worlds_are_at_rest.Goals as goal
-
-pub returns : goal.returns
-returns c = settled_worlds_rest

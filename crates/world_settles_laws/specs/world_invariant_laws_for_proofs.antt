@@ -1,2 +1,0 @@
--- What proofs of crates above name of `world_invariant_laws`.
-pub use Rattle.headline.specs.world_invariant_laws_for_proofs.Sessions
