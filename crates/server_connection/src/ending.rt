@@ -6,7 +6,7 @@ ghost use mathlib.Core.List.{IsPrefix};
 ghost use Rattle.session_state.specs.Work.{running_from};
 ghost use Rattle.server_connection.specs.Ends.{HasEnded, IsOver, AreOver};
 
-use crate::wakes::Wakes;
+use crate::wakes::{Wakes, tell_end};
 use ejson_value::Mem;
 use program_steps::Status;
 use shared_session::HeldSession;
@@ -44,8 +44,8 @@ fn step<R: Wait, N: StoreName, W: Wakes>(
     ensures { IsPrefix pass.old pass.new }
 {
     match store.step(rt, pass, number, k) {
-        Ok(Some(_)) => {
-            wake.wake();
+        Ok(Some(placed)) => {
+            tell_end(wake, &placed.status);
             Ok(true)
         }
         Ok(None) => Ok(false),

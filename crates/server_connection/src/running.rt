@@ -5,7 +5,7 @@ ghost use Rattle.server_connection.specs.Looks.{IsServed, Sees, Works, StopsEven
 
 use crate::ended::Ended;
 use crate::taking::done;
-use crate::wakes::Wakes;
+use crate::wakes::{Wakes, tell_end};
 use program_steps::Status;
 use shared_session::HeldSession;
 use shared_store::{Caller, SharedBegin, SharedStore};
@@ -46,11 +46,11 @@ fn refuse<N: StoreName>(
     done(session.refuse(store.log(), k, at, note))
 }
 
-// Begins the call that blocks, or refuses it where the history has no room.
-fn begin<R: Wait, N: StoreName, W: Wakes>(
+// Begins the call that blocks, or refuses it where the history has no room. Nobody is told: that a run has begun shows to
+// nobody else.
+fn begin<R: Wait, N: StoreName>(
     rt: &R,
     store: &SharedStore<N>,
-    wake: &W,
     pass: &mut StorePass<N>,
     caller: &mut Caller<N>,
     session: &mut HeldSession<N>,
@@ -64,10 +64,7 @@ fn begin<R: Wait, N: StoreName, W: Wakes>(
     };
     let k = call.k;
     match store.begin(rt, pass, caller, k, &call.method, &call.params, &call.seed) {
-        Ok(placed) => {
-            wake.wake();
-            learn(store, pass, session, k, &placed.status)
-        }
+        Ok(placed) => learn(store, pass, session, k, &placed.status),
         Err(SharedBegin::Full { .. }) => refuse(store, pass, session, k),
         Err(SharedBegin::NotNext { last }) => Err(Ended::Foreign { last }),
         Err(SharedBegin::Memory) => Err(Ended::Memory),
@@ -113,7 +110,7 @@ fn step<R: Wait, N: StoreName, W: Wakes>(
 {
     match store.step(rt, pass, caller.number(), k) {
         Ok(Some(placed)) => {
-            wake.wake();
+            tell_end(wake, &placed.status);
             match learn(store, pass, session, k, &placed.status) {
                 Ok(()) => Ok(true),
                 Err(end) => Err(end),
@@ -145,7 +142,7 @@ fn go_on<R: Wait, N: StoreName, W: Wakes>(
     }
     match learn_now(rt, store, pass, caller, session, k) {
         Ok(true) => Ok(()),
-        Ok(false) => begin(rt, store, wake, pass, caller, session),
+        Ok(false) => begin(rt, store, pass, caller, session),
         Err(end) => Err(end),
     }
 }

@@ -179,8 +179,8 @@ fn meet<N: StoreName>(
 }
 
 /// Serves the link until its peer closes it or something else ends it, and makes the remaining steps of the runs that the
-/// session's calls then have. What was sent are the texts of the session, in order. `wake` is told of each call of the
-/// store that made entries.
+/// session's calls then have. What was sent are the texts of the session, in order. `wake` is told of each run that ended
+/// by a step made here.
 pub fn serve_connection<R: Wait, N: StoreName, L: Link, W: Wakes>(
     rt: &R,
     store: &SharedStore<N>,
