@@ -1,0 +1,4 @@
+pub mod Among
+pub mod RisingLaws
+pub mod Account
+pub mod AccountLaws
