@@ -9,7 +9,7 @@ ghost use Rattle.world_news_laws.specs.multiplexer.Telling.{nothing_told, IsSour
 ghost use Rattle.world_news_laws.specs.Sources.{cursors_at_of};
 ghost use Rattle.shared_store.specs.Store.{over};
 ghost use Rattle.shared_multiplexer.specs.Copied.{next_of, AreCopiedOf};
-ghost use Rattle.shared_multiplexer.specs.Told.{WasLent};
+ghost use Rattle.shared_multiplexer.specs.Told.{AreTheirs, WasLent};
 
 use crate::copied::CopiedEntries;
 use ejson_value::Mem;
@@ -53,11 +53,12 @@ impl<N: StoreName> HeldMultiplexer<N> {
         HeldMultiplexer { multiplexer, pass }
     }
 
-    /// How many answers are kept.
+    /// How many answers are kept. Each is that of the pass's list.
     pub fn kept(&self) -> u64
         ensures kept { result ≡ kept_in self.now.news.sources }
         ensures few { result ≤ 4096 }
         ensures light { bytes_kept self.now.news.sources ≤ 16777216 }
+        ensures theirs { AreTheirs N.app self.now }
     {
         self.multiplexer.kept()
     }

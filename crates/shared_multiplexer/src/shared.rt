@@ -1,12 +1,13 @@
 //! The lock.
 ghost use Rattle.std.specs.Prelude.{◌≡◌, ◌+◌, ◌≤◌, length, None, is_some, IfOk, IfSome};
 ghost use mathlib.Core.List.{IsPrefix};
+ghost use Rattle.world_news_laws.specs.multiplexer.Bounds.{kept_in, bytes_kept};
 ghost use Rattle.world_news_laws.specs.multiplexer.Spans.{IsLent};
 ghost use Rattle.world_news_laws.specs.multiplexer.Telling.{IsSource};
 ghost use Rattle.world_news_laws.specs.Sources.{cursors_at_of};
 ghost use Rattle.shared_store.specs.Store.{over};
 ghost use Rattle.shared_multiplexer.specs.Copied.{next_of, AreCopiedOf, AreBehind};
-ghost use Rattle.shared_multiplexer.specs.Told.{WasLent};
+ghost use Rattle.shared_multiplexer.specs.Told.{AreTheirs, WasLent};
 
 use crate::copied::CopiedEntries;
 use crate::held::HeldMultiplexer;
@@ -131,9 +132,15 @@ impl<N: StoreName> SharedMultiplexer<N> {
         held.kept()
     }
 
-    /// The multiplexer, when no thread has it any more.
-    pub fn finish(self) -> HeldMultiplexer<N> {
+    /// The multiplexer, when no thread has it any more: each answer that it keeps is that of its pass's list.
+    pub fn finish(self) -> HeldMultiplexer<N>
+        ensures theirs { AreTheirs N.app result }
+        ensures few { kept_in result.news.sources ≤ 4096 }
+        ensures light { bytes_kept result.news.sources ≤ 16777216 }
+    {
         let SharedMultiplexer { alloc: _, held } = self;
-        held.into_inner()
+        let held = held.into_inner();
+        held.kept();
+        held
     }
 }
