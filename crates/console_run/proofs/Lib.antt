@@ -1,3 +1,4 @@
 pub mod Keeping
 pub mod Consoling
 pub mod Asking
+pub mod Watched
