@@ -101,7 +101,11 @@ impl<N: StoreName + Send + Sync + 'static, L: Link + Send + Drop + 'static> Door
 
     /// Gives the connection a place, a session of the next number, and a thread. It is let go where no place is free, or no
     /// memory is left for it.
-    fn seat<R: Threads + Wait + Copy + Send + Sync + 'static>(&mut self, rt: &R, link: L) {
+    pub(crate) fn seat<R: Threads + Wait + Copy + Send + Sync + 'static>(
+        &mut self,
+        rt: &R,
+        link: L,
+    ) {
         let Ok(bell) = link.bell() else {
             return;
         };

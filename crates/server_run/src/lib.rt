@@ -5,6 +5,8 @@ mod accepting;
 mod attending;
 mod hall;
 mod serving;
+mod timing;
 
 pub use hall::PLACES;
 pub use serving::serve;
+pub use timing::serve_timed;

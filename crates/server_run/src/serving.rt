@@ -5,7 +5,8 @@ ghost use Rattle.duct.specs.Networks.{network_failed};
 
 use crate::accepting::{Door, accept_all};
 use app_model::App;
-use duct::{NetFault, Network};
+use duct::{Link, NetFault, Network};
+use ejson_value::Mem;
 use pass_log::Opened;
 use shared_store::{SharedStore, StoreName};
 use std::alloc::Global;
@@ -14,6 +15,23 @@ use std::sync::Wait;
 use std::sync::ledger::Blank;
 use std::thread::Threads;
 use store_machine::Entry;
+
+/// The door of a hall over a new store of this name, with an empty history.
+pub(crate) fn open_door<N: StoreName + Send + Sync + 'static, L: Link + Send + Drop + 'static>(
+    alloc: Global,
+    app: &App,
+    opened: Opened<Entry>,
+    blank: Blank,
+) -> Result<Door<N, L>, Mem>
+    requires log { opened ≡ N.log }
+    requires ledger { blank.name ≡ N.name }
+    requires parts { blank.parts ≡ N.parts }
+    requires many { N.parts ≡ 65537 }
+    requires app { app.now ≡ N.app }
+{
+    let (store, pass, callers) = SharedStore::<N>::make(alloc, app, opened, blank)?;
+    Door::<N, L>::open(alloc, app, store, pass, callers)
+}
 
 // Serves over the store of this name.
 fn serve_named<
@@ -41,10 +59,7 @@ where
     ensures sound { OnOk result (W.faults net.new ≡ W.faults net.old) }
     ensures faults { IfErr result (λ fault. CountsFaults (network_failed fault) (W.faults net.old) (W.faults net.new)) }
 {
-    let Ok((store, pass, callers)) = SharedStore::<N>::make(alloc, app, opened, blank) else {
-        return Err(NetFault::Memory);
-    };
-    let Ok(mut door) = Door::<N, W::Link>::open(alloc, app, store, pass, callers) else {
+    let Ok(mut door) = open_door::<N, W::Link>(alloc, app, opened, blank) else {
         return Err(NetFault::Memory);
     };
     net.listen(port)?;
