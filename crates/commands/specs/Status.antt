@@ -15,3 +15,4 @@ code_of status.NetFault = 8
 code_of status.ServerSent = 9
 code_of status.Version = 10
 code_of status.Closed = 11
+code_of status.Timeout = 12

@@ -32,8 +32,8 @@ fn command_of(word: &Text) -> Option<Command>
     }
 }
 
-// A number of milliseconds that a heart takes.
-fn time_in(word: &Text) -> Option<u32>
+/// A number of milliseconds that a heart takes, from 1 to `LONGEST`, in decimal digits without a leading zero or a sign.
+pub fn time_in(word: &Text) -> Option<u32>
     ensures time { result ≡ time_in word.now }
     ensures bounds { IfSome result IsTime }
 {

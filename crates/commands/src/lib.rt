@@ -6,6 +6,7 @@ mod reason;
 mod run;
 mod status;
 
+pub use command::time_in;
 pub use reason::{Wanted, reason_for};
 pub use replay_core::checking::{INPUT_LIMIT, LINE_LIMIT};
 pub use replay_core::{World, world_events};

@@ -27,6 +27,8 @@ pub enum Status {
     Version,
     /// The server closed the link before the script was done.
     Closed,
+    /// The server was silent for too long.
+    Timeout,
 }
 
 impl Status {
@@ -46,6 +48,7 @@ impl Status {
             Status::ServerSent => 9,
             Status::Version => 10,
             Status::Closed => 11,
+            Status::Timeout => 12,
         }
     }
 
@@ -72,6 +75,8 @@ impl Status {
                 "the server sent a text that the client refused: the last line of the output tells why",
             Status::Version => "the server does not speak version 1 of DDP",
             Status::Closed => "the server closed the link before the script was done",
+            Status::Timeout =>
+                "the server was silent for too long: see whether it still runs, or give it more time",
         }
     }
 }

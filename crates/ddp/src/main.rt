@@ -1,4 +1,5 @@
-//! The program `ddp`: a reactive data server and its client, with the commands `check`, `replay`, `beat`, `serve` and `console`.
+//! The program `ddp`: a reactive data server and its client, with the commands `check`, `replay`, `beat`, `serve` and `console`, and the
+//! last two with hearts: `serve-beat` and `console-beat`.
 #![tactic(auto)]
 
 mod announcing;
@@ -8,6 +9,7 @@ use commands::{Status, World};
 use ddp_socket::SocketNetwork;
 use duct::Network;
 use ejson_value::{Mem, Text};
+use heartbeat::{Clocks, SystemClocks};
 use io_edge::{Sink, Source, StdSink, StdSource};
 use std::marker::Sync;
 use std::process::ExitCode;
@@ -48,25 +50,29 @@ fn run<
     I: Source,
     O: Sink,
     N: Network,
+    K: Clocks,
 >(
     rt: &R,
     source: &mut I,
     sink: &mut O,
     net: &mut N,
+    clocks: &mut K,
     reason: &mut Text,
     left: &mut Option<World>,
 ) -> Status
 where
     N::Link: 'static,
+    K::Clock: 'static,
 {
     match words(rt) {
-        Ok(words) => network_commands::run(
+        Ok(words) => network_commands::run_timed(
             rt,
             rt.alloc(),
             words.as_slice(),
             source,
             sink,
             net,
+            clocks,
             reason,
             left,
         ),
@@ -122,6 +128,7 @@ fn main(rt: HostRuntime) -> ExitCode {
     let mut source = StdSource::new(rt.stdin());
     let mut sink = StdSink::new(rt.stdout());
     let mut net = Announcing::new(rt, SocketNetwork::new(rt, rt.alloc()));
+    let mut clocks = SystemClocks::new(rt);
     let mut reason = Text::new(rt.alloc());
     let mut left = None;
     let status = run(
@@ -129,6 +136,7 @@ fn main(rt: HostRuntime) -> ExitCode {
         &mut source,
         &mut sink,
         &mut net,
+        &mut clocks,
         &mut reason,
         &mut left,
     );

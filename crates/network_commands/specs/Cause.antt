@@ -124,16 +124,12 @@ HasNoLink before now _ = ⊥
 
 -- ---- a run
 
--- What a command does; `steps` is what the calls of a link are, and `faults` how many of them have failed.
-module _ {L : Type 0} (steps : L → Call → L → Type 0) (faults : L → ℕ) where
-  -- the script of a console
-  abbrev pub Talks : App → List Line → Outside → Outside → Status → Type 0
-  Talks app script before now s = RunsScript (Consoles steps) is_link_fault ComesTo faults app script before now s ⊎ HasNoLink before now s
-
+-- What a command does; `talks` is how the script of an application ends.
+module _ (talks : App → List Line → Outside → Outside → Status → Type 0) where
   -- with an input of which no line is bad
   abbrev pub Does : NetworkCommand → List ℕ → Outside → Outside → Status → Type 0
   Does (command.Serve port connections) input before now s = Serves connections before.net now.net s × IsSilent before now
-  Does (command.Console port) input before now s = (app : App) × (app_in input ≡ Some app) × Talks app (script_in input) before now s
+  Does (command.Console port) input before now s = (app : App) × (app_in input ≡ Some app) × talks app (script_in input) before now s
 
   -- what became of an input: there was no memory for it, or its first bad line was named, or there is none
   abbrev pub Ends : NetworkCommand → List ℕ → Outside → Outside → Status → Type 0
@@ -143,10 +139,16 @@ module _ {L : Type 0} (steps : L → Call → L → Type 0) (faults : L → ℕ)
   abbrev pub CauseOf : NetworkCommand → Option (List ℕ) → Option (List ℕ) → Outside → Outside → Status → Type 0
   CauseOf c left rest before now s = IsUnread left before now s ⊎ ((input : List ℕ) × IsRead left rest input × Ends c input before now s)
 
+-- Over links as they are: `steps` is what the calls of a link are, and `faults` how many of them have failed.
+module _ {L : Type 0} (steps : L → Call → L → Type 0) (faults : L → ℕ) where
+  -- the script of a console
+  abbrev pub Talks : App → List Line → Outside → Outside → Status → Type 0
+  Talks app script before now s = RunsScript (Consoles steps) is_link_fault ComesTo faults app script before now s ⊎ HasNoLink before now s
+
   -- The cause of a status of a run: that of the command which the words name. Where they name none for which a network is needed, it is that of any
   -- other command.
   abbrev pub RunCauseOf : Option NetworkCommand → List (List ℕ) → Option (List ℕ) → Option (List ℕ) → Outside → Outside → Status → Type 0
-  RunCauseOf (Some c) words left rest before now s = CauseOf c left rest before now s
+  RunCauseOf (Some c) words left rest before now s = CauseOf Talks c left rest before now s
   RunCauseOf None words left rest before now s = Cause (command_in words) left rest before.written now.written s
 
   abbrev pub RunCause : List (List ℕ) → Option (List ℕ) → Option (List ℕ) → Outside → Outside → Status → Type 0

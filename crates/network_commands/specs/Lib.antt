@@ -1,3 +1,4 @@
 pub mod Words
 pub mod Input
 pub mod Cause
+pub mod TimedCause

@@ -1,8 +1,9 @@
 //! The words that name commands of a network.
-ghost use Rattle.std.specs.Prelude.{◌≡◌};
-ghost use Rattle.network_commands.specs.Words.{port_in, connections_in, serve_of, console_of, network_command_in};
+ghost use Rattle.std.specs.Prelude.{◌≡◌, IfSome};
+ghost use Rattle.network_commands.specs.Words.{port_in, connections_in, serve_of, console_of, network_command_in, timed_of, console_beat_of, serve_beat_of, timed_command_in, HasTimes};
 
 use command_words::number_in;
+use commands::time_in;
 use ejson_value::Text;
 
 // The greatest port, and the most connections that a server may be asked to serve.
@@ -15,6 +16,14 @@ pub enum NetworkCommand {
     Serve { port: u16, connections: u32 },
     /// Connects to this port and runs a script.
     Console { port: u16 },
+}
+
+/// A command over links that hearts with these times, in milliseconds, watch.
+#[derive(Clone, Copy, Debug, PartialEq, Eq)]
+pub struct TimedCommand {
+    pub(crate) command: NetworkCommand,
+    pub(crate) interval: u32,
+    pub(crate) timeout: u32,
 }
 
 fn port_in(word: &Text) -> Option<u16>
@@ -54,6 +63,74 @@ pub(crate) fn network_command_in(words: &[Text]) -> Option<NetworkCommand>
     match words {
         [word, port, connections] if word.as_str() == "serve" => serve_of(port, connections),
         [word, port] if word.as_str() == "console" => console_of(port),
+        _ => None,
+    }
+}
+
+// The command, over links that hearts with the times of these words watch.
+fn timed_of(
+    command: Option<NetworkCommand>,
+    interval: &Text,
+    timeout: &Text,
+) -> Option<TimedCommand>
+    ensures command { result ≡ timed_of command interval.now timeout.now }
+    ensures times { IfSome result HasTimes }
+{
+    let command = command?;
+    let interval = time_in(interval)?;
+    let timeout = time_in(timeout)?;
+    Some(TimedCommand {
+        command,
+        interval,
+        timeout,
+    })
+}
+
+// The command `console-beat` with the port and the times that these words tell, if the first names it.
+fn console_beat_of(
+    word: &Text,
+    port: &Text,
+    interval: &Text,
+    timeout: &Text,
+) -> Option<TimedCommand>
+    ensures command { result ≡ console_beat_of word.now port.now interval.now timeout.now }
+    ensures times { IfSome result HasTimes }
+{
+    if word.as_str() == "console-beat" {
+        timed_of(console_of(port), interval, timeout)
+    } else {
+        None
+    }
+}
+
+// The command `serve-beat` with the port, the connections and the times that these words tell, if the first names it.
+fn serve_beat_of(
+    word: &Text,
+    port: &Text,
+    connections: &Text,
+    interval: &Text,
+    timeout: &Text,
+) -> Option<TimedCommand>
+    ensures command { result ≡ serve_beat_of word.now port.now connections.now interval.now timeout.now }
+    ensures times { IfSome result HasTimes }
+{
+    if word.as_str() == "serve-beat" {
+        timed_of(serve_of(port, connections), interval, timeout)
+    } else {
+        None
+    }
+}
+
+// The command that the words name, if they are those of one whose links hearts watch.
+pub(crate) fn timed_command_in(words: &[Text]) -> Option<TimedCommand>
+    ensures command { result ≡ timed_command_in words.now }
+    ensures times { IfSome result HasTimes }
+{
+    match words {
+        [word, port, interval, timeout] => console_beat_of(word, port, interval, timeout),
+        [word, port, connections, interval, timeout] => {
+            serve_beat_of(word, port, connections, interval, timeout)
+        }
         _ => None,
     }
 }

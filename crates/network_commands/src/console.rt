@@ -16,8 +16,8 @@ use io_edge::Sink;
 use std::alloc::Global;
 use std::sync::Wait;
 
-// The status for the end of a script.
-fn tell_end<O: Sink>(alloc: Global, end: ConsoleEnd, output: &mut O) -> Status
+/// The status for the end of a script.
+pub(crate) fn tell_end<O: Sink>(alloc: Global, end: ConsoleEnd, output: &mut O) -> Status
     requires { end ≢ ConsoleEnd.WriteFault }
     ensures told { ComesTo end (O.written output.old) (O.written output.new) result }
     ensures asked { ¬ (IsUnasked result) }
@@ -62,8 +62,8 @@ fn run_script<R: Wait, O: Sink, N: Network>(
     }
 }
 
-// What the line of this number has to be.
-fn wanted(number: u32) -> Wanted {
+/// What the line of this number of a console's input has to be.
+pub(crate) fn script_wanted(number: u32) -> Wanted {
     if number == 1 {
         Wanted::Application
     } else {
@@ -82,7 +82,7 @@ pub(crate) fn run_console<R: Wait, O: Sink, N: Network>(
     reason: &mut Text,
 ) -> Status
     requires { length input.now ≤ input_limit }
-    ensures ends { Ends N.Link.steps N.Link.faults (command.Console port) input.now
+    ensures ends { Ends (Talks N.Link.steps N.Link.faults) (command.Console port) input.now
         (outside (O.written output.old) (N.given net.old) (N.faults net.old))
         (outside (O.written output.new) (N.given net.new) (N.faults net.new)) result }
     ensures write_fault { (result ≡ Status.WriteFault) ↔ (O.faults output.old < O.faults output.new) }
@@ -91,7 +91,7 @@ pub(crate) fn run_console<R: Wait, O: Sink, N: Network>(
 {
     match read_scripted(alloc, input) {
         Ok(Ok((app, script))) => run_script(rt, alloc, &app, &script, output, net, port),
-        Ok(Err(number)) => name_bad(alloc, wanted(number), input, number, output, reason),
+        Ok(Err(number)) => name_bad(alloc, script_wanted(number), input, number, output, reason),
         Err(Mem) => Status::Memory,
     }
 }

@@ -1,4 +1,5 @@
-//! All commands of the program, over any source, sink and network: `serve` and `console`, and those that need no network.
+//! All commands of the program, over any source, sink, network and clocks: those that serve and those that run a script, with hearts and
+//! without, and those that need no network.
 #![tactic(auto)]
 
 mod command;
@@ -7,5 +8,6 @@ mod input;
 mod program;
 mod reporting;
 mod server;
+mod watched;
 
-pub use program::run;
+pub use program::{run, run_timed};

@@ -1,12 +1,14 @@
 //! All that the program does.
 ghost use Rattle.std.specs.Prelude.{◌≡◌, ◌≢◌, ◌↔◌, ◌<◌, ◌≤◌, length, None};
 ghost use Rattle.checking.specs.Input.{input_limit};
-ghost use Rattle.network_commands.specs.Words.{network_command_in};
-ghost use Rattle.network_commands.specs.Cause.{outside, Ends, CauseOf, RunCause, IsUnasked};
+ghost use Rattle.network_commands.specs.Words.{network_command_in, timed_command_in};
+ghost use Rattle.network_commands.specs.Cause.{outside, Talks, Ends, CauseOf, RunCause, IsUnasked};
+ghost use Rattle.network_commands.specs.TimedCause.{TimedCause};
 
-use crate::command::{NetworkCommand, network_command_in};
+use crate::command::{NetworkCommand, network_command_in, timed_command_in};
 use crate::console::run_console;
 use crate::server::serve_input;
+use crate::watched::run_watched;
 use commands::{Status, World, read_input, run_on};
 use duct::Network;
 use ejson_value::Text;
@@ -15,6 +17,7 @@ use std::alloc::Global;
 use std::marker::Sync;
 use std::sync::Wait;
 use std::thread::Threads;
+use timed_link::Clocks;
 
 // Runs an input of a command.
 fn run_input<R: Threads + Wait + Copy + Send + Sync + 'static, O: Sink, N: Network>(
@@ -29,7 +32,7 @@ fn run_input<R: Threads + Wait + Copy + Send + Sync + 'static, O: Sink, N: Netwo
 where
     N::Link: 'static,
     requires { length input.now ≤ input_limit }
-    ensures ends { Ends N.Link.steps N.Link.faults command input.now
+    ensures ends { Ends (Talks N.Link.steps N.Link.faults) command input.now
         (outside (O.written output.old) (N.given net.old) (N.faults net.old))
         (outside (O.written output.new) (N.given net.new) (N.faults net.new)) result }
     ensures write_fault { (result ≡ Status.WriteFault) ↔ (O.faults output.old < O.faults output.new) }
@@ -65,7 +68,7 @@ fn run_command<R: Threads + Wait + Copy + Send + Sync + 'static, I: Source, O: S
 ) -> Status
 where
     N::Link: 'static,
-    ensures cause { CauseOf N.Link.steps N.Link.faults command (I.left input.old) (I.left input.new)
+    ensures cause { CauseOf (Talks N.Link.steps N.Link.faults) command (I.left input.old) (I.left input.new)
         (outside (O.written output.old) (N.given net.old) (N.faults net.old))
         (outside (O.written output.new) (N.given net.new) (N.faults net.new)) result }
     ensures unasked { IsUnasked result → net.new ≡ net.old }
@@ -113,5 +116,46 @@ where
     match network_command_in(words) {
         Some(command) => run_command(rt, alloc, command, input, output, net, reason),
         None => run_on(rt, alloc, words, input, output, reason, left),
+    }
+}
+
+/// Does what the words say, as `run` does, with two commands more: `serve-beat PORT CONNECTIONS INTERVAL TIMEOUT` and
+/// `console-beat PORT INTERVAL TIMEOUT` are `serve` and `console` over links that hearts with these times, in milliseconds, watch, each
+/// with a clock of its own. The end of a connection that is given up is one of those that are waited for; a console ends with `Timeout`
+/// where it gives the server up.
+pub fn run_timed<
+    R: Threads + Wait + Copy + Send + Sync + 'static,
+    I: Source,
+    O: Sink,
+    N: Network,
+    K: Clocks,
+>(
+    rt: &R,
+    alloc: Global,
+    words: &[Text],
+    input: &mut I,
+    output: &mut O,
+    net: &mut N,
+    clocks: &mut K,
+    reason: &mut Text,
+    left: &mut Option<World>,
+) -> Status
+where
+    N::Link: 'static,
+    K::Clock: 'static,
+    ensures cause { TimedCause N.Link.steps K.Clock.told N.Link.faults words.now (I.left input.old) (I.left input.new)
+        (outside (O.written output.old) (N.given net.old) (N.faults net.old))
+        (outside (O.written output.new) (N.given net.new) (N.faults net.new)) result }
+    ensures untouched { result ≡ Status.Usage → (input.new ≡ input.old) × (output.new ≡ output.old) × (left.new ≡ left.old) }
+    ensures other { timed_command_in words.now ≡ None → network_command_in words.now ≡ None → net.new ≡ net.old }
+    ensures unwatched { timed_command_in words.now ≡ None → clocks.new ≡ clocks.old }
+    ensures unasked { IsUnasked result → net.new ≡ net.old }
+    ensures read_fault { (result ≡ Status.ReadFault) ↔ (I.faults input.old < I.faults input.new) }
+    ensures write_fault { (result ≡ Status.WriteFault) ↔ (O.faults output.old < O.faults output.new) }
+    ensures told { result ≢ Status.BadInput → reason.new ≡ reason.old }
+{
+    match timed_command_in(words) {
+        Some(timed) => run_watched(rt, alloc, timed, input, output, net, clocks, reason),
+        None => run(rt, alloc, words, input, output, net, reason, left),
     }
 }

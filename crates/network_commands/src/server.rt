@@ -2,7 +2,7 @@
 ghost use Rattle.std.specs.Prelude.{◌≡◌, ◌≢◌, ◌↔◌, ◌<◌, ◌≤◌, length};
 ghost use Rattle.checking.specs.Input.{input_limit};
 ghost use Rattle.network_commands.specs.declared.command.NetworkCommand.TheVariants as command;
-ghost use Rattle.network_commands.specs.Cause.{outside, Serves, Ends, IsUnasked};
+ghost use Rattle.network_commands.specs.Cause.{outside, Serves, Talks, Ends, IsUnasked};
 
 use crate::input::read_served;
 use crate::reporting::name_bad;
@@ -42,8 +42,8 @@ where
     }
 }
 
-// What the line of this number has to be.
-fn wanted(number: u32) -> Wanted {
+/// What the line of this number of a server's input has to be.
+pub(crate) fn app_wanted(number: u32) -> Wanted {
     if number == 1 {
         Wanted::Application
     } else {
@@ -65,7 +65,7 @@ pub(crate) fn serve_input<R: Threads + Wait + Copy + Send + Sync + 'static, O: S
 where
     N::Link: 'static,
     requires { length input.now ≤ input_limit }
-    ensures ends { Ends N.Link.steps N.Link.faults (command.Serve port connections) input.now
+    ensures ends { Ends (Talks N.Link.steps N.Link.faults) (command.Serve port connections) input.now
         (outside (O.written output.old) (N.given net.old) (N.faults net.old))
         (outside (O.written output.new) (N.given net.new) (N.faults net.new)) result }
     ensures write_fault { (result ≡ Status.WriteFault) ↔ (O.faults output.old < O.faults output.new) }
@@ -74,7 +74,7 @@ where
 {
     match read_served(alloc, input) {
         Ok(Ok(app)) => serve_app(rt, alloc, app, net, port, connections),
-        Ok(Err(number)) => name_bad(alloc, wanted(number), input, number, output, reason),
+        Ok(Err(number)) => name_bad(alloc, app_wanted(number), input, number, output, reason),
         Err(Mem) => Status::Memory,
     }
 }

@@ -33,6 +33,21 @@ console 4000 < @|5 < #. => 3; ["bad",2]|; line 2 is no line of a script: it is n
 console 4000 < 5|x < #. => 3; ["bad",1]|; line 1 is no application: a part of another form, at its top
 check < @ < #. => 0; ["ok"]|; 
 replay < @|["show","zz"] < #. => 0; ["idle"]|; 
+beat 100 50 < ["tick",0]|["tick",100] < #. => 0; ["none"]|["ping"]|; 
+serve-beat 4000 1 100 50 < @ < #{"msg":"connect","version":"1","support":["1"]} => 0; ; 
+serve-beat 4000 2 100 50 < @ < #{"msg":"connect","version":"1","support":["1"]}|.#. => 0; ; 
+serve-beat 4000 2 1 1 < @ < #. => 8; ; 
+serve-beat 4000 1 100 50 < @ < -#. => 8; ; 
+serve-beat 4000 1 100 50 < @||5 < #. => 3; ["bad",3]|; line 3 is one too many: the application stands on line 1 alone
+console-beat 4000 100 50 < @|["wait"] < #{"msg":"connected","session":"S1"} => 0; ; 
+console-beat 4000 100 50 < @|["sub","1","all",[]]|["show"]|["wait"] < #{"msg":"connected","session":"S1"} => 12; ["show","console"]|["sub","1","waiting"]|; 
+console-beat 4000 100 50 < @ < # => 12; ; 
+console-beat 4000 86400000 86400000 < @|["wait"] < #. => 11; ; 
+console-beat 4000 100 50 < @|["wait"] < #{"msg":"failed","version":"1"} => 10; ; 
+console-beat 4000 100 50 < @|["wait"] < #{"msg":"ready","subs":["1"]} => 9; ["server sent",3]|; 
+console-beat 4000 100 50 < @|["wait"] < #x => 8; ; 
+console-beat 4000 100 50 < @|["wait"] <  => 8; ; 
+console-beat 4000 100 50 < @|["wait"]||["jump"] < #. => 3; ["bad",4]|; line 4 is no line of a script: there is none named "jump" with these parts; nothing was run
 "#;
 
 /// The same, where the first write fails.
@@ -40,6 +55,8 @@ pub(crate) const CUT: &str = r#"serve 4000 1 < 5 < #. => 5; ;
 console 4000 < 5 < #. => 5; ; 
 console 4000 < @|["show"] < #{"msg":"connected","session":"S1"} => 5; ; 
 console 4000 < @ < #{"msg":"ready","subs":["1"]} => 5; ; 
+console-beat 4000 100 50 < @|["show"] < #{"msg":"connected","session":"S1"} => 5; ; 
+console-beat 4000 100 50 < @ < #{"msg":"ready","subs":["1"]} => 5; ; 
 check < @ < #. => 5; ; 
 "#;
 
@@ -64,5 +81,34 @@ console 4000 1
 -- serve 4000 1
 -- check
 --help
+serve-beat 4000 1 0 50
+serve-beat 4000 1 100 0
+serve-beat 4000 1 86400001 50
+serve-beat 4000 1 100 86400001
+serve-beat 4000 1 0100 50
+serve-beat 4000 1 +100 50
+serve-beat 4000 1 100 050
+serve-beat 4000 1 100.0 50
+serve-beat 4000 1 100
+serve-beat 4000 1
+serve-beat 4000 1 100 50 50
+serve-beat 0 1 100 50
+serve-beat 4000 0 100 50
+serve 4000 1 100 50
+console-beat 4000 0 50
+console-beat 4000 100 0
+console-beat 4000 86400001 50
+console-beat 4000 100 86400001
+console-beat 4000 +100 50
+console-beat 4000 100 -50
+console-beat 4000 100
+console-beat 4000
+console-beat 0 100 50
+console 4000 100 50
 
+"#;
+
+/// Words that name no command where there are no clocks.
+pub(crate) const TIMED_WORDS: &str = r#"serve-beat 4000 1 100 50
+console-beat 4000 100 50
 "#;

@@ -3,14 +3,18 @@ use crate::rows::APPLICATION;
 use commands::Status;
 use duct::{Links, MemoryLink, MemoryNetwork, Texts};
 use ejson_value::{Bytes, Mem, Text};
+use heartbeat::StepClocks;
 use io_edge::{Calls, MemorySink, MemorySource};
-use network_commands::run;
+use network_commands::{run, run_timed};
 use std::alloc::Global;
 use std::marker::Sync;
 use std::str;
 use std::sync::Wait;
 use std::test::Fail;
 use std::thread::Threads;
+
+// How many milliseconds the clocks go on at each question.
+const STEP: u64 = 10;
 
 // The call of this number, where it isn't 0.
 fn call(alloc: Global, number: u64) -> Result<Calls, Mem> {
@@ -105,6 +109,32 @@ fn ran<R: Threads + Wait + Copy + Send + Sync + 'static>(
     sink: &mut MemorySink,
     network: &mut MemoryNetwork,
 ) -> Result<String, Fail> {
+    let mut clocks = StepClocks::new(STEP);
+    let mut reason = Text::new(alloc);
+    let mut left = None;
+    let status = run_timed(
+        rt,
+        alloc,
+        words,
+        source,
+        sink,
+        network,
+        &mut clocks,
+        &mut reason,
+        &mut left,
+    );
+    shown(alloc, status, sink.written(), &reason)
+}
+
+// The same without clocks.
+fn ran_without<R: Threads + Wait + Copy + Send + Sync + 'static>(
+    rt: &R,
+    alloc: Global,
+    words: &[Text],
+    source: &mut MemorySource,
+    sink: &mut MemorySink,
+    network: &mut MemoryNetwork,
+) -> Result<String, Fail> {
     let mut reason = Text::new(alloc);
     let mut left = None;
     let status = run(
@@ -163,4 +193,25 @@ pub(crate) fn is_usage<R: Threads + Wait + Copy + Send + Sync + 'static>(
     words: &str,
 ) -> Result<bool, Fail> {
     Ok(outcome(rt, alloc, words, "@", "#.", 1)?.as_str() == "2; ; ")
+}
+
+/// Whether the words name no command where there are no clocks.
+pub(crate) fn wants_clocks<R: Threads + Wait + Copy + Send + Sync + 'static>(
+    rt: &R,
+    alloc: Global,
+    words: &str,
+) -> Result<bool, Fail> {
+    let words = words_of(alloc, words)?;
+    let mut source = source(alloc, "@")?;
+    let mut sink = MemorySink::new(alloc, 4096, call(alloc, 1)?)?;
+    let mut network = network(alloc, "#.")?;
+    let came = ran_without(
+        rt,
+        alloc,
+        words.as_slice(),
+        &mut source,
+        &mut sink,
+        &mut network,
+    )?;
+    Ok(came.as_str() == "2; ; ")
 }

@@ -5,7 +5,7 @@ use clap::Command;
 use std::alloc::{AllocError, Global};
 
 // Each command that is built: its words, and what it does.
-const COMMANDS: [(&str, &str); 5] = [
+const COMMANDS: [(&str, &str); 7] = [
     (
         "check",
         "Tells whether line 1 of standard input is an application, or what is wrong with it and where",
@@ -23,8 +23,16 @@ const COMMANDS: [(&str, &str); 5] = [
         "Serves the application on standard input at ws://127.0.0.1:PORT/websocket, until so many connections have ended",
     ),
     (
+        "serve-beat PORT CONNECTIONS INTERVAL TIMEOUT",
+        "Serves likewise, and ends a connection that is silent for INTERVAL, and for TIMEOUT behind a ping; both are milliseconds",
+    ),
+    (
         "console PORT",
         "Connects to a server at that port, runs the script that follows the application on standard input, and prints what it shows",
+    ),
+    (
+        "console-beat PORT INTERVAL TIMEOUT",
+        "Runs a script likewise, and ends where the server is silent for so long",
     ),
 ];
 
