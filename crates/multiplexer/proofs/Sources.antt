@@ -35,6 +35,16 @@ pub last_there : {A : Type 0} (xs : List A) (x : A) → slice_get (xs ++ x ∷ [
 last_there [] x = refl
 last_there (y ∷ xs) x = last_there xs x
 
+pub set_there : {A : Type 0} (xs : List A) (i : ℕ) (x y : A) → slice_get xs i ≡ Some x → slice_get (slice_set xs i y) i ≡ Some y
+set_there [] i x y at = absurd (none-some x at)
+set_there (z ∷ xs) zero x y at = refl
+set_there (z ∷ xs) (suc i) x y at = set_there xs i x y at
+
+pub set_length : {A : Type 0} (xs : List A) (i : ℕ) (x : A) → length (slice_set xs i x) ≡ length xs
+set_length [] i x = refl
+set_length (z ∷ xs) zero x = refl
+set_length (z ∷ xs) (suc i) x = ap suc (set_length xs i x)
+
 -- the last of some and one more is the subscription's, where that one is
 pub last_of : (sources : List ASource) (name : List ℕ) (params : List Val) (source : ASource) (place : ℕ) → place ≡ length sources → IsOf name params source → IsPlaceOf (sources ++ source ∷ []) name params place
 last_of sources name params source place at of =

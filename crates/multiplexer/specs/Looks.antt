@@ -1,5 +1,5 @@
 -- How often documents are looked at, and what need not be looked at any more.
-use Rattle.std.specs.Prelude.{ℕ, ◌-◌, ◌*◌, List, [], ◌∷◌, length, Bool, false, cond, nat_le, ◌==◌, ◌&&◌, Option, None, Some}
+use Rattle.std.specs.Prelude.{◌≡◌, ℕ, ◌-◌, ◌*◌, List, [], ◌∷◌, length, Bool, true, false, cond, nat_le, ◌==◌, ◌&&◌, Option, None, Some, is_some}
 use Rattle.std.specs.Ordering.{is_eq}
 use Rattle.value_model.specs.Val.{Val}
 use Rattle.value_model.specs.Size.{is_name}
@@ -42,6 +42,10 @@ source_for name params (s ∷ sources) = cond (is_for name params s) (Some s) (s
 abbrev pub known_by : Option ASource → ℕ → ℕ → ℕ
 known_by None from until = from
 known_by (Some s) from until = known_until s from until
+
+-- there is a source of the publication of this name with these parameters
+abbrev pub HasSource : List ASource → List ℕ → List Val → Type 0
+HasSource sources name params = is_some (source_for name params sources) ≡ true
 
 -- the place up to which the entries between the places need not be looked at
 abbrev pub known_in : List ASource → List ℕ → List Val → ℕ → ℕ → ℕ

@@ -1,5 +1,5 @@
 //! What is made once for all sessions.
-ghost use Rattle.std.specs.Prelude.{◌≡◌, ℕ, ◌+◌, ◌*◌, ◌≤◌, ◌<◌, ◌==◌, ◌&&◌, length, slice_get, option_and_then, None, Some, is_some, IfOk, IfSome, OnErr};
+ghost use Rattle.std.specs.Prelude.{◌≡◌, ℕ, ◌+◌, ◌*◌, ◌≤◌, ◌<◌, ◌==◌, ◌&&◌, List, length, take, slice_get, option_and_then, None, Some, is_some, IfOk, IfSome, OnErr};
 ghost use Rattle.std.specs.Arc.{arc_value};
 ghost use Rattle.std.specs.List.{AllByRecursion};
 ghost use Rattle.ejson_value.specs.Changes.{news_of};
@@ -7,12 +7,13 @@ ghost use Rattle.publication.specs.Published.{published};
 ghost use Rattle.live_observer.specs.Observing.{AnObserver};
 ghost use Rattle.session_state.specs.declared.subs.Sub.{Sub as ASub};
 ghost use Rattle.store_machine.specs.State.{MachineState, programs, held_after};
+ghost use Rattle.value_model.specs.Val.{Val as AVal};
 ghost use Rattle.multiplexer.specs.Bounds.{max_sources, IsSmall, AreBounded, kept_in, bytes_kept};
 ghost use Rattle.multiplexer.specs.Leading.{IsLead};
 ghost use Rattle.multiplexer.specs.Looks.{looks, source_for, known_by, known_in};
 ghost use Rattle.multiplexer.specs.Telling.{CursorsAt, nothing_told, batch_of, IsTold, AreTold, IsSource};
 ghost use Rattle.multiplexer.specs.Sources.{IsPlaceOf};
-ghost use Rattle.multiplexer.specs.Spans.{IsAsked, IsLent};
+ghost use Rattle.multiplexer.specs.Spans.{HasItsSource, IsAsked, IsKnownWhole, IsLent};
 
 use crate::entries::Entries;
 use crate::source::{Source, Span};
@@ -87,6 +88,7 @@ fn place_of(sources: &[Source], name: &Text, params: &Items) -> Option<usize>
     ensures within { IfSome result (λ place. place < length sources.now) }
     ensures place { IfSome result (IsPlaceOf sources.now name.now params.now) }
     ensures first { option_and_then (slice_get sources.now) result ≡ source_for name.now params.now sources.now }
+    ensures none { IfSome result (λ place. source_for name.now params.now (take place sources.now) ≡ None) }
 {
     for place in 0..sources.len() {
         if sources[place].is_for(name, params) {
@@ -126,6 +128,8 @@ fn span_at<E: Entries, L: Ledger>(
     requires first { E.first entries.now ≤ from }
     requires next { until ≤ E.next entries.now }
     ensures bounded { AreBounded sources.old.items → AreBounded sources.new.items }
+    ensures there { place < length sources.new.items }
+    ensures place { IsPlaceOf sources.new.items sub.now.name sub.now.params place }
     ensures told { (cursors_at : CursorsAt) (m : MachineState) → E.are_of entries.now m → AllByRecursion (IsTold cursors_at (programs m.app) m.history) sources.old.items → IsSource cursors_at sub.now →
         IfOk result (IsAsked sub.now.cursors m from until) }
     ensures keeps { (cursors_at : CursorsAt) (m : MachineState) → E.are_of entries.now m → AllByRecursion (IsTold cursors_at (programs m.app) m.history) sources.old.items → IsSource cursors_at sub.now →
@@ -141,6 +145,8 @@ fn learn_at(sources: &mut Vec<Source>, place: usize, span: Span)
     ensures bounded { AreBounded sources.old.items → AreBounded sources.new.items }
     ensures told { (cursors_at : CursorsAt) (m : MachineState) (sub : ASub) (from until : ℕ) → AllByRecursion (IsTold cursors_at (programs m.app) m.history) sources.old.items → IsSource cursors_at sub →
         IsPlaceOf sources.old.items sub.name sub.params place → IsAsked sub.cursors m from until span → AllByRecursion (IsTold cursors_at (programs m.app) m.history) sources.new.items }
+    ensures known { (name : List ℕ) (params : List AVal) → place < length sources.old.items → source_for name params (take place sources.old.items) ≡ None →
+        slice_get sources.old.items place ≡ source_for name params sources.old.items → known_in sources.new.items name params span.from span.until ≡ span.until }
 {
     if let Some(source) = sources.get_mut(place) {
         source.learn(span);
@@ -266,6 +272,7 @@ impl Multiplexer {
         requires next { until ≤ E.next entries.now }
         ensures told { (cursors_at : CursorsAt) (m : MachineState) → E.are_of entries.now m → AreTold cursors_at m self.old → IsSource cursors_at sub.now → IfOk result (IsLent m sub.now from until) }
         ensures keeps { (cursors_at : CursorsAt) (m : MachineState) → E.are_of entries.now m → AreTold cursors_at m self.old → IsSource cursors_at sub.now → AreTold cursors_at m self.new }
+        ensures source { IfOk result (HasItsSource self.new.sources) }
         ensures grows { steps.old ≤ steps.new }
         ensures ticks { (m : MachineState) → E.are_of entries.now m → steps.new ≤ steps.old + looks (length observer.now) m (known_in self.old.sources sub.now.name sub.now.params from until) until }
     {
@@ -289,8 +296,9 @@ impl Multiplexer {
     /// What the publication of the subscription, which has no limited cursor, tells of so many entries,
     /// behind the first `from` of their history: by key, each key of which they say something, with the
     /// document that is published then or none; and the texts of these that are known. None where no one
-    /// observes. The span is lent: `learn` puts it back. Each change of an entry that is not known yet is
-    /// looked at twice at most for each cursor, and no document of one that is.
+    /// observes. The span is lent: `learn` puts it back, for which its publication has a source. Each change of
+    /// an entry that is not known yet is looked at twice at most for each cursor, and no document of one that
+    /// is.
     pub fn span<E: Entries, L: Ledger>(
         &mut self,
         entries: &E,
@@ -307,6 +315,7 @@ impl Multiplexer {
             IsLead (published sub.now.cursors (held_after m from).rows) (published sub.now.cursors (held_after m (from + count)).rows) (news_of (arc_value lent.span.told)))) }
         ensures lent { (cursors_at : CursorsAt) (m : MachineState) → E.are_of entries.now m → AreTold cursors_at m self.old → IsSource cursors_at sub.now → IfOk result (λ answer. IfSome answer (IsLent m sub.now from (from + count))) }
         ensures keeps { (cursors_at : CursorsAt) (m : MachineState) → E.are_of entries.now m → AreTold cursors_at m self.old → IsSource cursors_at sub.now → AreTold cursors_at m self.new }
+        ensures source { IfOk result (λ answer. IfSome answer (HasItsSource self.new.sources)) }
         ensures grows { steps.old ≤ steps.new }
         ensures ticks { (cursors_at : CursorsAt) (m : MachineState) → E.are_of entries.now m → IsSource cursors_at sub.now →
             steps.new ≤ steps.old + looks (length sub.now.cursors) m (known_in self.old.sources sub.now.name sub.now.params from (from + count)) (from + count) }
@@ -324,9 +333,11 @@ impl Multiplexer {
 
     /// The span, with the texts that are known now, is put back: a text is known of a publish where each
     /// client is told it that sees the document as it was published before the span. Others may have
-    /// asked meanwhile, and the history may have got longer.
+    /// asked meanwhile, and the history may have got longer. Where its publication still has a source, all
+    /// of the span is known then.
     pub fn learn(&mut self, lent: Lent)
-        ensures { (cursors_at : CursorsAt) (m : MachineState) (sub : ASub) (from until : ℕ) → AreTold cursors_at m self.old → IsSource cursors_at sub → IsLent m sub from until lent → AreTold cursors_at m self.new }
+        ensures known { HasItsSource self.old.sources lent → IsKnownWhole self.new.sources lent }
+        ensures told { (cursors_at : CursorsAt) (m : MachineState) (sub : ASub) (from until : ℕ) → AreTold cursors_at m self.old → IsSource cursors_at sub → IsLent m sub from until lent → AreTold cursors_at m self.new }
     {
         let Lent { name, params, span } = lent;
         if let Some(place) = place_of(self.sources.as_slice(), &name, &params) {

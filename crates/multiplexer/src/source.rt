@@ -477,6 +477,7 @@ impl Source {
     /// The span, with the texts that are known now, is kept, and its entries learn them.
     pub(crate) fn learn(&mut self, span: Span)
         ensures same { IsAlike self.old self.new }
+        ensures kept { self.new.last ≡ Some (seen_span span) }
         ensures small { IsSmall self.old → IsSmall self.new }
         ensures told { (cursors : ACursors) (m : MachineState) → IsToldBy cursors m self.old → IsSpan cursors (programs m.app) m.history (seen_span span) → IsToldBy cursors m self.new }
     {

@@ -4,7 +4,7 @@ ghost use mathlib.Core.List.{IsPrefix};
 ghost use Rattle.pass_log.specs.History.{longer};
 ghost use Rattle.world_news_laws.specs.multiplexer.Bounds.{kept_in, bytes_kept};
 ghost use Rattle.world_news_laws.specs.multiplexer.Looks.{looks, known_in};
-ghost use Rattle.world_news_laws.specs.multiplexer.Spans.{IsLent};
+ghost use Rattle.world_news_laws.specs.multiplexer.Spans.{HasItsSource, IsKnownWhole, IsLent};
 ghost use Rattle.world_news_laws.specs.multiplexer.Telling.{nothing_told, IsSource};
 ghost use Rattle.world_news_laws.specs.Sources.{cursors_at_of};
 ghost use Rattle.shared_store.specs.Store.{over};
@@ -88,6 +88,7 @@ impl<N: StoreName> HeldMultiplexer<N> {
         requires source { IsSource (cursors_at_of N.app) sub.now }
         ensures answers { IfOk result (λ answer. is_some answer ≡ is_some sub.now.observer) }
         ensures lent { IfOk result (λ answer. IfSome answer (IsLent (over N.app self.old.list) sub.now from (from + count))) }
+        ensures source { IfOk result (λ answer. IfSome answer (HasItsSource self.new.news.sources)) }
         ensures list { self.new.list ≡ self.old.list }
         ensures grows { steps.old ≤ steps.new }
         ensures ticks { steps.new ≤ steps.old + looks (length sub.now.cursors) (over N.app self.old.list) (known_in self.old.news.sources sub.now.name sub.now.params from (from + count)) (from + count) }
@@ -98,7 +99,8 @@ impl<N: StoreName> HeldMultiplexer<N> {
 
     /// What the publication of the subscription, which has no limited cursor, tells of so many entries of the note's
     /// list, behind the first `from`. None where no one observes. Each change of an entry that is not known yet is looked
-    /// at twice at most for each cursor, and no document of one that is. The span is lent: `learn` takes it back.
+    /// at twice at most for each cursor, and no document of one that is. The span is lent: `learn` takes it back, for which
+    /// its publication has a source.
     pub fn span<L: Ledger>(
         &mut self,
         log: &Log<Entry, N>,
@@ -115,6 +117,7 @@ impl<N: StoreName> HeldMultiplexer<N> {
         requires source { IsSource (cursors_at_of N.app) sub.now }
         ensures answers { IfOk result (λ answer. is_some answer ≡ is_some sub.now.observer) }
         ensures lent { IfOk result (λ answer. IfSome answer (IsLent (over N.app note) sub.now from (from + count))) }
+        ensures source { IfOk result (λ answer. IfSome answer (HasItsSource self.new.news.sources)) }
         ensures list { self.new.list ≡ longer self.old.list note }
         ensures grows { steps.old ≤ steps.new }
         ensures ticks { steps.new ≤ steps.old + looks (length sub.now.cursors) (over N.app note) (known_in self.old.news.sources sub.now.name sub.now.params from (from + count)) (from + count) }
@@ -125,10 +128,11 @@ impl<N: StoreName> HeldMultiplexer<N> {
     }
 
     /// The span, which was lent of the note's list, is put back with the texts that are known now. Others may have asked
-    /// meanwhile.
+    /// meanwhile. Where its publication still has a source, all of the span is known then.
     pub fn learn(&mut self, log: &Log<Entry, N>, lent: Lent, note: Note<Entry, N>)
         requires { WasLent N.app note lent }
-        ensures { self.new.list ≡ longer self.old.list note }
+        ensures known { HasItsSource self.old.news.sources lent → IsKnownWhole self.new.news.sources lent }
+        ensures list { self.new.list ≡ longer self.old.list note }
     {
         self.pass.meet(log, note);
         self.multiplexer.learn(lent);

@@ -3,6 +3,7 @@ use Rattle.std.proofs.Common.{refl, arith}
 use Rattle.std.proofs.lemmas.Option.{slice_get_read}
 use Rattle.multiplexer.specs.Bounds.{IsSmall}
 use Rattle.multiplexer.specs.Inside.{seen_span}
+use Rattle.multiplexer.proofs.Finds.{learnt_known}
 use Rattle.multiplexer.proofs.Sources.{all_at, all_learnt}
 use Rattle.multiplexer.proofs.Weights.{bounded_with}
 use Rattle.multiplexer.proofs.news.learn_at.Goals as goal
@@ -18,3 +19,9 @@ returns-in-Some-clause-told c = λ cursors_at m sub from until all source placed
     let sources = c.args.sources.now.items in
     let at = slice_get_read sources (vec_len c.args.sources.now) c.args.place c.in-Some.source.now (omega (arith, c.args.sources.now.ok.0)) (c.in-Some.ensures.variant.0 refl) c.in-Some.ensures.value in
     all_learnt cursors_at m sub sources c.args.place c.in-Some.source.now c.learn.new.self (seen_span c.args.span) at placed source asked.is c.learn.ensures.same (c.learn.ensures.told sub.cursors m) all
+
+pub returns-in-Some-clause-known : goal.returns-in-Some-clause-known
+returns-in-Some-clause-known c = λ name params within none first.
+    let sources = c.args.sources.now.items in
+    let at = slice_get_read sources (vec_len c.args.sources.now) c.args.place c.in-Some.source.now (omega (arith, c.args.sources.now.ok.0)) (c.in-Some.ensures.variant.0 refl) c.in-Some.ensures.value in
+    learnt_known name params sources c.args.place c.in-Some.source.now c.learn.new.self (seen_span c.args.span) none at first c.learn.ensures.same c.learn.ensures.kept

@@ -24,7 +24,7 @@ returns-in_ok-answer-in-Some-clause-keeps c =
     let until = c.args.from + c.args.count in
     let is = subst (λ (o : Option Lent). IfSome o (IsLentTo m x c.args.sub c.args.from until)) c.in-Some.is c.in_ok-lent.ensures.lent in
     let lent = learns m x c.requires.connection c.args.sub c.args.from until c.in-Some.lent is c.deref.result.now c.feed.new.known c.deref.ensures c.feed.ensures.learnt in
-    c.learn.ensures (cursors_at_of m.app) m is.sub c.args.from until c.told.ensures.keeps (lent_source m x c.requires.connection c.args.sub c.args.from until c.in-Some.lent is) lent
+    c.learn.ensures.told (cursors_at_of m.app) m is.sub c.args.from until c.told.ensures.keeps (lent_source m x c.requires.connection c.args.sub c.args.from until c.in-Some.lent is) lent
 
 pub returns-in_ok-answer-in-Some-clause-advances : goal.returns-in_ok-answer-in-Some-clause-advances
 returns-in_ok-answer-in-Some-clause-advances c = λ name p.

@@ -8,5 +8,5 @@ invariant_of-self g c =
     let app = g.N.StoreName.app in
     let list = c.meet.new.self in
     let was = c.requires in
-    c.learn.ensures (cursors_at_of app) (over app list) was.sub was.from was.until (theirs_longer app c.self.inside.pass list c.meet.ensures.own c.self.inside.multiplexer c.self.invariant) was.source
+    c.learn.ensures.told (cursors_at_of app) (over app list) was.sub was.from was.until (theirs_longer app c.self.inside.pass list c.meet.ensures.own c.self.inside.multiplexer c.self.invariant) was.source
     (lent_in app c.args.note list c.meet.ensures.note was.sub was.from was.until c.args.lent was.is)
