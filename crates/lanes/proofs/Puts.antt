@@ -8,7 +8,7 @@ use Rattle.map_model.specs.MapLaws.{sorted-put}
 use Rattle.value_model.specs.Order.{text_cmp}
 use Rattle.ejson_value.specs.Key.{name_order}
 use Rattle.lanes.specs.Lanes.{Named}
-use Rattle.lanes.specs.Unions.{some_left}
+use Rattle.lanes.specs.UnionsLaws.{some_left}
 
 -- the names rise after it
 pub put_sorted : {X : Type 0} (old new : Named X) (name : List ℕ) (x : X) (r : Result (Unit {0}) Mem) → OnOk r (new ≡ insert_entry text_cmp old name x) → OnErr r (new ≡ old) → IsSorted text_cmp old → IsSorted text_cmp new

@@ -1,5 +1,7 @@
--- A map from names that is kept in lanes: maps of which none has a name of another. Threads visit the values of each lane, and that is as if they were visited one after another.
+-- A map from names that is kept in lanes: maps of which none has a name of another. Threads visit the values of each lane, and that is as if they
+-- were visited one after another.
 --     AreApart a b      no name is in both
+--     AreLanes a b      two lanes of a map: the names of each rise, and none is in both
 --     IsVisit P a b name r      what a visit to the value of a name, if one is there, makes of a map
 --     IsWritten a name w b      what a value that is written in the place of one makes of a map
 --     EachTold Tells names a b flag      those of these names that are there are told, one after another; whether there was anything to tell
@@ -7,7 +9,7 @@
 --     AreTold Tells Leads names a b r      those of these names are told; where memory runs out, some of them were led on
 use Rattle.std.specs.Prelude.{◌≡◌, ◌⊎◌, ◌||◌, ℕ, List, [], ◌∷◌, Bool, false, Option, None, Some, Result, Ok, Err}
 use Rattle.std.specs.BTreeMap.{insert_entry}
-use Rattle.map_model.specs.Maps.{at}
+use Rattle.map_model.specs.Maps.{at, IsSorted}
 use Rattle.value_model.specs.Order.{text_cmp}
 
 -- values by name
@@ -17,6 +19,12 @@ Named X = List (List ℕ × X)
 -- no name is in both
 abbrev pub AreApart : {X : Type 0} → Named X → Named X → Type 0
 AreApart a b = (name : List ℕ) → (at text_cmp a name ≡ None) ⊎ (at text_cmp b name ≡ None)
+
+-- two lanes: the names of each rise, and none is in both
+pub record AreLanes {X : Type 0} (a b : Named X) : Type 0 where
+  pub one : IsSorted text_cmp a
+  pub other : IsSorted text_cmp b
+  pub apart : AreApart a b
 
 -- ---- the value of a name, if one is there
 

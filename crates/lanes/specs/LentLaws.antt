@@ -10,7 +10,7 @@ use Rattle.map_model.specs.MapLaws.{same_maps, sorted-put, at-put}
 use Rattle.value_model.specs.Order.{text_cmp}
 use Rattle.ejson_value.specs.Key.{name_order}
 use Rattle.lanes.specs.Lanes.{Named, VisitBy, IsVisit, IsWritten}
-use Rattle.lanes.specs.Unions.{visited_some, visited_none}
+use Rattle.lanes.specs.UnionsLaws.{visited_some, visited_none}
 
 module _ {X : Type 0} where
   none_set : (test : List ℕ → Bool) (es : Named X) (w : X) → lookup test es ≡ None → set_value test es w ≡ es
@@ -33,7 +33,8 @@ module _ {X : Type 0} where
       by (Some x) found =
           visited_some (λ x y r. y ≡ w) tt old new name x w tt found
           (same_maps name_order new (insert_entry text_cmp old name w) rising (sorted-put name_order old name w sorted)
-          (λ q. is (ap is_some found) q ∙ (ap (λ c. cond c (Some w) (at text_cmp old q)) ((eq_by_cmp_equiv nat_list_cmp_total).symm name q) ∙ sym (at-put name_order old name w q))))
+          (λ q. is (ap is_some found) q
+          ∙ (ap (λ c. cond c (Some w) (at text_cmp old q)) ((eq_by_cmp_equiv nat_list_cmp_total).symm name q) ∙ sym (at-put name_order old name w q))))
           refl
 
   pub written_sorted : (a b : Named X) (name : List ℕ) (w : X) → IsWritten a name w b → IsSorted text_cmp a → IsSorted text_cmp b
@@ -47,5 +48,6 @@ module _ {X : Type 0} where
   pub written_visit : {R : Type 0} (P : X → X → R → Type 0) (none : R) (a b : Named X) (name : List ℕ) (old w : X) (r : R) →
       Some old ≡ at text_cmp a name → IsWritten a name w b → P old w r → IsVisit P none a b name r
   written_visit P none a b name old w r found v p =
-      let is : VisitBy {R = Unit {0}} (Some old) (λ x y u. y ≡ w) tt a b name tt = subst (λ (o : Option X). VisitBy {R = Unit {0}} o (λ x y u. y ≡ w) tt a b name tt) (sym found) v in
+      let is : VisitBy {R = Unit {0}} (Some old) (λ x y u. y ≡ w) tt a b name tt =
+      subst (λ (o : Option X). VisitBy {R = Unit {0}} o (λ x y u. y ≡ w) tt a b name tt) (sym found) v in
       visited_some P none a b name old w r (sym found) (subst (λ (y : X). b ≡ insert_entry text_cmp a name y) is.2 is.1) p

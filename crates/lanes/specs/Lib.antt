@@ -2,5 +2,5 @@ pub mod Lanes
 pub mod Lent
 pub mod LentLaws
 pub mod Names
-pub mod Telling
-pub mod Unions
+pub mod TellingLaws
+pub mod UnionsLaws

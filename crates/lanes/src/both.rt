@@ -26,8 +26,7 @@ impl<X, B: Lanes<X>> Model for Both<X, B> {
     ghost use Rattle.std.specs.Coded.{coded_ℕ, coded_list, coded×};
     ghost use Rattle.map_model.specs.Maps.{union};
     ghost use Rattle.value_model.specs.Order.{text_cmp};
-    ghost use Rattle.lanes.specs.Lanes.{Named};
-    ghost use Rattle.lanes.specs.Unions.{AreLanes};
+    ghost use Rattle.lanes.specs.Lanes.{Named, AreLanes};
 
     ghost Value = { Named X };
 
@@ -54,10 +53,6 @@ impl<X: Drop, B: Lanes<X>> Lanes<X> for Both<X, B> {
 
     fn fewest(&self) -> usize {
         self.one.fewest().min(self.other.fewest())
-    }
-
-    fn has(&self, name: &Text) -> bool {
-        self.one.has(name) || self.other.has(name)
     }
 
     fn get(&self, name: &Text) -> Option<&X> {

@@ -1,6 +1,7 @@
 //! One lane.
-ghost use Rattle.std.specs.Prelude.{◌≡◌, [], OnOk, OnErr};
+ghost use Rattle.std.specs.Prelude.{◌≡◌, [], OnOk, OnErr, is_some};
 ghost use Rattle.std.specs.BTreeMap.{insert_entry};
+ghost use Rattle.map_model.specs.Maps.{at};
 ghost use Rattle.value_model.specs.Order.{text_cmp};
 
 use crate::named::Lanes;
@@ -47,6 +48,13 @@ impl<X> Lane<X> {
             values: BTreeMap::new(alloc),
         }
     }
+
+    /// Whether there is a value of this name.
+    pub fn has(&self, name: &Text) -> bool
+        ensures { result ≡ is_some (at text_cmp self.now name.now) }
+    {
+        self.values.contains_key(name)
+    }
 }
 
 // It takes the name, so that nothing else is owned while memory is asked for.
@@ -63,10 +71,6 @@ impl<X: Drop> Lanes<X> for Lane<X> {
 
     fn fewest(&self) -> usize {
         self.values.len()
-    }
-
-    fn has(&self, name: &Text) -> bool {
-        self.values.contains_key(name)
     }
 
     fn get(&self, name: &Text) -> Option<&X> {

@@ -1,5 +1,5 @@
 //! Values by name, in one lane or more.
-ghost use Rattle.std.specs.Prelude.{◌≡◌, None, OnOk, OnErr, is_some};
+ghost use Rattle.std.specs.Prelude.{◌≡◌, None, OnOk, OnErr};
 ghost use Rattle.std.specs.Borrow.{sem};
 ghost use Rattle.std.specs.Option.{option_copied, option_copied_mut};
 ghost use Rattle.std.specs.BTreeMap.{insert_entry};
@@ -17,10 +17,6 @@ pub trait Lanes<X> {
 
     /// How many values the lane has that has the fewest.
     fn fewest(&self) -> usize;
-
-    /// Whether there is a value of this name.
-    fn has(&self, name: &Text) -> bool
-        ensures { result ≡ is_some (at text_cmp (values self.now) name.now) };
 
     /// The value of this name.
     fn get(&self, name: &Text) -> Option<&X>

@@ -5,7 +5,7 @@ use Rattle.value_model.specs.Order.{text_cmp}
 use Rattle.world_core.specs.store_machine.State.{MachineState}
 use Rattle.world_core.specs.connection_laws.Connection.{AConnection}
 use Rattle.lanes.specs.Lanes.{Named, AreApart}
-use Rattle.lanes.specs.Unions.{some_left, of_right, not_left}
+use Rattle.lanes.specs.UnionsLaws.{some_left, of_right, not_left}
 use Rattle.world_core.specs.Visits.{AreReady}
 
 pub ready_left : (m : MachineState) (a b : Named AConnection) → AreReady m (union text_cmp a b) → AreReady m a

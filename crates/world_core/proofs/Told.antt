@@ -17,7 +17,7 @@ use Rattle.world_core.specs.News.{AreNews}
 use Rattle.world_core.specs.NewsLaws.{nothing_is_news}
 use Rattle.world_core.specs.Visit.{visit, IsReady, Passes}
 use Rattle.lanes.specs.Lanes.{Named, VisitBy, EachTold, IsAmong, AreLed, AreTold, Hears}
-use Rattle.lanes.specs.Telling.{next_take, told_more, visit_ok, told_left}
+use Rattle.lanes.specs.TellingLaws.{next_take, told_more, visit_ok, told_left}
 use Rattle.world_core.specs.Visits.{CanBeTold, AreReady, Tells, Leads, TellsIn}
 
 module _ (m : MachineState) where

@@ -17,10 +17,6 @@ impl Lanes<Connection> for NoLane {
         usize::MAX
     }
 
-    fn has(&self, _name: &Text) -> bool {
-        false
-    }
-
     fn get(&self, _name: &Text) -> Option<&Connection> {
         None
     }

@@ -6,8 +6,7 @@ ghost use Rattle.value_model.specs.Order.{text_cmp};
 ghost use Rattle.world_core.specs.history_model.Lines.{store_lines};
 ghost use Rattle.world_core.specs.store_machine.State.{held_by};
 ghost use Rattle.world_news_laws.specs.News.{AreNews};
-ghost use Rattle.lanes.specs.Lanes.{AreTold};
-ghost use Rattle.lanes.specs.Unions.{AreLanes};
+ghost use Rattle.lanes.specs.Lanes.{AreTold, AreLanes};
 ghost use Rattle.world_core.specs.Visits.{AreReady, Tells, Leads};
 
 use crate::clients::{Clients, NoLane};
@@ -89,7 +88,8 @@ fn both_told<R: Threads, B: ByThreads>(
     requires lanes { AreLanes one.old (B.values other.old) }
     requires one { AreReady machine.now one.old }
     requires other { AreReady machine.now (B.values other.old) }
-    ensures told { AreTold (Tells machine.now) (Leads machine.now) names.now (union text_cmp one.old (B.values other.old)) (union text_cmp one.new (B.values other.new)) result }
+    ensures told { AreTold (Tells machine.now) (Leads machine.now) names.now
+        (union text_cmp one.old (B.values other.old)) (union text_cmp one.new (B.values other.new)) result }
     ensures lanes { AreLanes one.new (B.values other.new) }
 {
     let (first, second) = join_mut(

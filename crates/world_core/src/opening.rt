@@ -1,5 +1,5 @@
 //! Clients that begin.
-ghost use Rattle.std.specs.Prelude.{◌≡◌, OnOk, OnErr, None};
+ghost use Rattle.std.specs.Prelude.{◌≡◌, OnOk, OnErr, None, is_some};
 ghost use Rattle.std.specs.BTreeMap.{insert_entry};
 ghost use Rattle.map_model.specs.Maps.{at};
 ghost use Rattle.value_model.specs.Order.{text_cmp};
@@ -20,12 +20,22 @@ use std::alloc::Global;
 /// How many clients may be there at once.
 const CLIENT_LIMIT: usize = 128;
 
+// Whether there is or was a client of this name.
+fn is_there(inside: &Inside, name: &Text) -> bool
+    ensures { result ≡ is_some (connection_of (seen inside.now) name.now) }
+{
+    match inside.conns.get(name) {
+        Some(_) => true,
+        None => false,
+    }
+}
+
 // Whether a client of this name may begin.
 fn can_open(inside: &Inside, name: &Text) -> bool
     requires { IsWorld (seen inside.now) }
     ensures { result ≡ can_open (as_world (seen inside.now)) name.now }
 {
-    !inside.conns.has(name) && inside.present.len() < CLIENT_LIMIT
+    !is_there(inside, name) && inside.present.len() < CLIENT_LIMIT
 }
 
 // A client at its beginning, with this number, stands among the others.

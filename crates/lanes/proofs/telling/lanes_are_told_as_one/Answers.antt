@@ -1,4 +1,4 @@
-use Rattle.lanes.specs.Telling.{lanes_told}
+use Rattle.lanes.specs.TellingLaws.{lanes_told}
 use Rattle.lanes.proofs.telling.lanes_are_told_as_one.Goals as goal
 
 pub returns : goal.returns

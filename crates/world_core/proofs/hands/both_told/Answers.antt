@@ -5,7 +5,7 @@ use Rattle.std.specs.Prelude.{Bool, Result}
 use Rattle.map_model.specs.Maps.{union}
 use Rattle.value_model.specs.Order.{text_cmp}
 use Rattle.lanes.specs.Lanes.{AreTold}
-use Rattle.lanes.specs.Telling.{lanes_told, told_lanes}
+use Rattle.lanes.specs.TellingLaws.{lanes_told, told_lanes}
 use Rattle.world_core.specs.Visits.{Tells, Leads}
 use Rattle.world_core.proofs.Told.{tells_lead}
 use Rattle.world_core.proofs.Sends.{captures_4, global_whole, lane_whole, machine_whole, text_whole}

@@ -2,7 +2,7 @@ use Rattle.std.proofs.Common.{ap, sym, ◌∙◌}
 use Rattle.map_model.specs.Maps.{at}
 use Rattle.value_model.specs.Order.{text_cmp}
 use Rattle.lanes.specs.Lanes.{Named}
-use Rattle.lanes.specs.Unions.{is_in_right}
+use Rattle.lanes.specs.UnionsLaws.{is_in_right}
 use Rattle.lanes.proofs.Puts.{same_left}
 use Rattle.lanes.proofs.both.BothLanes.get.Goals as goal
 

@@ -2,8 +2,8 @@ use Rattle.std.specs.Prelude.{◌≡◌, refl}
 use Rattle.std.proofs.Common.{ap, sym, subst, ◌∙◌}
 use Rattle.map_model.specs.Maps.{at, union}
 use Rattle.value_model.specs.Order.{text_cmp}
-use Rattle.lanes.specs.Lanes.{Named, IsWritten}
-use Rattle.lanes.specs.Unions.{AreLanes, is_in_right, visit_left, visit_right}
+use Rattle.lanes.specs.Lanes.{Named, IsWritten, AreLanes}
+use Rattle.lanes.specs.UnionsLaws.{is_in_right, visit_left, visit_right}
 use Rattle.lanes.proofs.Puts.{same_left}
 use Rattle.lanes.proofs.both.BothLanes.get_mut.Goals as goal
 

@@ -4,7 +4,7 @@ use Rattle.std.specs.BTreeMap.{insert_entry}
 use Rattle.map_model.specs.Maps.{at, union}
 use Rattle.value_model.specs.Order.{text_cmp}
 use Rattle.lanes.specs.Lanes.{Named}
-use Rattle.lanes.specs.Unions.{free_in_both, put_in_left, put_in_right}
+use Rattle.lanes.specs.UnionsLaws.{free_in_both, put_in_left, put_in_right}
 use Rattle.lanes.proofs.both.BothLanes.put.Goals as goal
 
 pub put-requires : goal.put-requires

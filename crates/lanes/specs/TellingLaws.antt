@@ -7,8 +7,8 @@ use Rattle.map_model.specs.Maps.{at, union, IsSorted}
 use Rattle.map_model.specs.MapLaws.{sorted-put}
 use Rattle.value_model.specs.Order.{text_cmp}
 use Rattle.ejson_value.specs.Key.{name_order}
-use Rattle.lanes.specs.Lanes.{Named, VisitBy, IsVisit, EachTold, IsAmong, AreLed, AreTold, Hears, either}
-use Rattle.lanes.specs.Unions.{AreLanes, put_left, put_right, apart_left, apart_right, some_left, of_right, not_right, not_left, visited_some, visited_none}
+use Rattle.lanes.specs.Lanes.{Named, VisitBy, IsVisit, EachTold, IsAmong, AreLed, AreTold, Hears, either, AreLanes}
+use Rattle.lanes.specs.UnionsLaws.{put_left, put_right, apart_left, apart_right, some_left, of_right, not_right, not_left, visited_some, visited_none}
 
 -- the list so far with what stands next
 pub next_take : {A : Type 0} (xs : List A) (i : ℕ) (x : A) → i < length xs → x ≡ get_or xs i x → take (i + 1) xs ≡ take i xs ++ x ∷ []
@@ -60,17 +60,35 @@ module _ {X : Type 0} (Leads : X → X → Type 0) where
     led_left [] a a' b l t = (ap (λ x. union text_cmp x b) l, subst (λ (x : Named X). AreLanes x b) (sym l) t)
     led_left (e ∷ s) a a' b l t =
         let none = not_right a b e.0 l.0 l.1 t.apart in
-        let next : AreLanes (insert_entry text_cmp a e.0 e.1) b = record { one = sorted-put name_order a e.0 e.1 t.one; other = t.other; apart = apart_left a b e.0 e.1 none t.apart } in
-        let rest = led_left s (insert_entry text_cmp a e.0 e.1) a' b l.3 next in
-        ((l.0, some_left a b e.0 l.0 l.1, l.2, subst (λ (x : Named X). AreLed Who Leads s x (union text_cmp a' b)) (put_left a b e.0 e.1 t.other) rest.0, l.4), rest.1)
+        let next : AreLanes (insert_entry text_cmp a e.0 e.1) b =
+        record { one = sorted-put name_order a e.0 e.1 t.one; other = t.other; apart = apart_left a b e.0 e.1 none t.apart } in
+        let rest = led_left s (insert_entry text_cmp a e.0 e.1) a' b l.3 next in (
+          (
+            l.0,
+            some_left a b e.0 l.0 l.1,
+            l.2,
+            subst (λ (x : Named X). AreLed Who Leads s x (union text_cmp a' b)) (put_left a b e.0 e.1 t.other) rest.0,
+            l.4,
+          ),
+          rest.1,
+        )
 
     led_right : (s a b b' : Named X) → AreLed Who Leads s b b' → AreLanes a b → AreLed Who Leads s (union text_cmp a b) (union text_cmp a b') × AreLanes a b'
     led_right [] a b b' l t = (ap (union text_cmp a) l, subst (λ (x : Named X). AreLanes a x) (sym l) t)
     led_right (e ∷ s) a b b' l t =
         let none = not_left a b e.0 l.0 l.1 t.apart in
-        let next : AreLanes a (insert_entry text_cmp b e.0 e.1) = record { one = t.one; other = sorted-put name_order b e.0 e.1 t.other; apart = apart_right a b e.0 e.1 none t.apart } in
-        let rest = led_right s a (insert_entry text_cmp b e.0 e.1) b' l.3 next in
-        ((l.0, of_right a b e.0 none ∙ l.1, l.2, subst (λ (x : Named X). AreLed Who Leads s x (union text_cmp a b')) (put_right a b e.0 e.1 none t.other) rest.0, l.4), rest.1)
+        let next : AreLanes a (insert_entry text_cmp b e.0 e.1) =
+        record { one = t.one; other = sorted-put name_order b e.0 e.1 t.other; apart = apart_right a b e.0 e.1 none t.apart } in
+        let rest = led_right s a (insert_entry text_cmp b e.0 e.1) b' l.3 next in (
+          (
+            l.0,
+            of_right a b e.0 none ∙ l.1,
+            l.2,
+            subst (λ (x : Named X). AreLed Who Leads s x (union text_cmp a b')) (put_right a b e.0 e.1 none t.other) rest.0,
+            l.4,
+          ),
+          rest.1,
+        )
 
     both_led : (s t a a' b b' : Named X) → AreLed Who Leads s a a' → AreLed Who Leads t b b' → AreLanes a b →
         AreLed Who Leads (s ++ t) (union text_cmp a b) (union text_cmp a' b') × AreLanes a' b'
@@ -109,13 +127,15 @@ module _ {X : Type 0} (Tells : X → X → Bool → Type 0) where
         visit = visited_some Tells false (union text_cmp a b) (union text_cmp a' b') name old v.0 (m || n) (some_left a b name old is)
             (ap₂ (union text_cmp) v.1 w.0 ∙ put_left a b name v.0 t.other) (subst (λ (f : Bool). Tells old v.0 f) (or_false m n w.1) v.2);
         lanes = subst (λ (x : Named X). AreLanes x b') (sym v.1)
-            (subst (λ (x : Named X). AreLanes (insert_entry text_cmp a name v.0) x) (sym w.0) (record { one = sorted-put name_order a name v.0 t.one; other = t.other; apart = apart_left a b name v.0 there t.apart }));
+            (subst (λ (x : Named X). AreLanes (insert_entry text_cmp a name v.0) x) (sym w.0)
+            (record { one = sorted-put name_order a name v.0 t.one; other = t.other; apart = apart_left a b name v.0 there t.apart }));
       }
       by None (Some old) is there v w = record {
         visit = visited_some Tells false (union text_cmp a b) (union text_cmp a' b') name old w.0 (m || n) (of_right a b name is ∙ there)
             (ap₂ (union text_cmp) v.0 w.1 ∙ put_right a b name w.0 is t.other) (subst (λ (f : Bool). Tells old w.0 f) (sym (ap (λ f. f || n) v.1)) w.2);
         lanes = subst (λ (x : Named X). AreLanes x b') (sym v.0)
-            (subst (λ (x : Named X). AreLanes a x) (sym w.1) (record { one = t.one; other = sorted-put name_order b name w.0 t.other; apart = apart_right a b name w.0 is t.apart }));
+            (subst (λ (x : Named X). AreLanes a x) (sym w.1)
+            (record { one = t.one; other = sorted-put name_order b name w.0 t.other; apart = apart_right a b name w.0 is t.apart }));
       }
       by (Some old) (Some new) is there v w = cc (sym (not_right a b name old is t.apart) ∙ there)
 
@@ -123,8 +143,14 @@ module _ {X : Type 0} (Tells : X → X → Bool → Type 0) where
       EachTold Tells names (union text_cmp a b) (union text_cmp a' b') (f || g)
   both_told [] a b a' b' f g t u lanes = (ap₂ (union text_cmp) t.0 u.0, ap₂ (λ f g. f || g) t.1 u.1)
   both_told (n ∷ ns) a b a' b' f g t u lanes =
-      let s = steps n a b t.0 u.0 t.1 u.1 t.3 u.3 lanes in
-      (union text_cmp t.0 u.0, t.1 || u.1, t.2 || u.2, s.visit, both_told ns t.0 u.0 a' b' t.2 u.2 t.4 u.4 s.lanes, ap₂ (λ f g. f || g) t.5 u.5 ∙ or_four t.1 u.1 t.2 u.2)
+      let s = steps n a b t.0 u.0 t.1 u.1 t.3 u.3 lanes in (
+        union text_cmp t.0 u.0,
+        t.1 || u.1,
+        t.2 || u.2,
+        s.visit,
+        both_told ns t.0 u.0 a' b' t.2 u.2 t.4 u.4 s.lanes,
+        ap₂ (λ f g. f || g) t.5 u.5 ∙ or_four t.1 u.1 t.2 u.2,
+      )
 
   -- ---- where memory may run out
 
@@ -159,8 +185,11 @@ module _ {X : Type 0} (Tells : X → X → Bool → Type 0) where
       each_led [] a b flag t = ([], t.0)
       each_led (n ∷ ns) a b flag t =
           let one = visit_led (IsAmong (n ∷ ns)) n a t.0 t.1 (inl refl) t.3 in
-          let rest = each_led ns t.0 b t.2 t.4 in
-          (one.0 ++ rest.0, led_append Leads (IsAmong (n ∷ ns)) one.0 rest.0 a t.0 b one.1 (led_weaker Leads (IsAmong ns) (IsAmong (n ∷ ns)) (λ name h. inr h) rest.0 t.0 b rest.1))
+          let rest = each_led ns t.0 b t.2 t.4 in (
+            one.0 ++ rest.0,
+            led_append Leads (IsAmong (n ∷ ns)) one.0 rest.0 a t.0 b one.1
+                (led_weaker Leads (IsAmong ns) (IsAmong (n ∷ ns)) (λ name h. inr h) rest.0 t.0 b rest.1),
+          )
 
       -- some were told, and at the next one memory ran out
       pub told_left : {E : Type 0} (before after : List (List ℕ)) (name : List ℕ) (a b c : Named X) (flag : Bool) (e : E) →
@@ -169,8 +198,13 @@ module _ {X : Type 0} (Tells : X → X → Bool → Type 0) where
       told_left before after name a b c flag e t v =
           let all = (before ++ name ∷ []) ++ after in
           let one = each_led before a b flag t in
-          let two = visit_err (IsAmong all) name b c e (among_more (before ++ name ∷ []) after name (among_last before name)) v in
-          (one.0 ++ two.0, led_append Leads (IsAmong all) one.0 two.0 a b c (led_weaker Leads (IsAmong before) (IsAmong all) (λ q h. among_more (before ++ name ∷ []) after q (among_more before (name ∷ []) q h)) one.0 a b one.1) two.1)
+          let two = visit_err (IsAmong all) name b c e (among_more (before ++ name ∷ []) after name (among_last before name)) v in (
+            one.0 ++ two.0,
+            led_append Leads (IsAmong all) one.0 two.0 a b c
+                (led_weaker Leads (IsAmong before) (IsAmong all)
+                (λ q h. among_more (before ++ name ∷ []) after q (among_more before (name ∷ []) q h)) one.0 a b one.1)
+                two.1,
+          )
 
       pub any_led : {E : Type 0} (names : List (List ℕ)) (a b : Named X) (r : Result Bool E) → AreTold Tells Leads names a b r →
           (s : Named X) × AreLed (IsAmong names) Leads s a b

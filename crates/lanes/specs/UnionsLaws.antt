@@ -8,7 +8,7 @@ use Rattle.map_model.specs.Maps.{at, union, IsSorted}
 use Rattle.map_model.specs.MapLaws.{same_maps, sorted-put, at-put, at-union, sorted-union, key_is}
 use Rattle.value_model.specs.Order.{text_cmp}
 use Rattle.ejson_value.specs.Key.{name_order}
-use Rattle.lanes.specs.Lanes.{Named, AreApart, VisitBy, IsVisit}
+use Rattle.lanes.specs.Lanes.{Named, AreApart, AreLanes, VisitBy, IsVisit}
 
 module _ {X : Type 0} where
   pub put_left : (a b : Named X) (name : List ℕ) (x : X) → IsSorted text_cmp b →
@@ -103,12 +103,6 @@ module _ {X : Type 0} where
       by None is = (is, sym (of_right a b name is) ∙ e)
       by (Some x) is = cc (sym e ∙ some_left a b name x is)
 
-  -- two lanes: the names of each rise, and none is in both
-  pub record AreLanes (a b : Named X) : Type 0 where
-    pub one : IsSorted text_cmp a
-    pub other : IsSorted text_cmp b
-    pub apart : AreApart a b
-
   -- what a put into one lane is of both
   pub record IsPut {E : Type 0} (name : List ℕ) (x : X) (a b a' b' : Named X) (r : Result (Unit {0}) E) : Type 0 where
     pub put : OnOk r (union text_cmp a' b' ≡ insert_entry text_cmp (union text_cmp a b) name x)
@@ -169,7 +163,11 @@ module _ {X R : Type 0} (P : X → X → R → Type 0) (none : R) where
         visit = visited_some (union text_cmp a b) (union text_cmp a' b) name old v.0 r (some_left a b name old is)
             (ap (λ y. union text_cmp y b) v.1 ∙ put_left a b name v.0 l.other) v.2;
         lanes = subst (λ (y : Named X). AreLanes y b) (sym v.1)
-            (record { one = sorted-put name_order a name v.0 l.one; other = l.other; apart = apart_left a b name v.0 (not_right a b name old is l.apart) l.apart });
+            (record {
+              one = sorted-put name_order a name v.0 l.one;
+              other = l.other;
+              apart = apart_left a b name v.0 (not_right a b name old is l.apart) l.apart;
+            });
       }
 
   pub visit_right : (a b b' : Named X) (name : List ℕ) (r : R) → is_some (at text_cmp a name) ≡ false → IsVisit P none b b' name r → AreLanes a b →
