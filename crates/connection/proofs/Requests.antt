@@ -18,11 +18,7 @@ use Rattle.connection.specs.connection_laws.AsksLaws.{subscribe_makes, unsubscri
 use Rattle.connection.specs.connection_laws.AsksLaws.{drop_made, gone_asked}
 use Rattle.connection.specs.declared.side.Side.{Side}
 use Rattle.connection.specs.Kept.{seen}
-use Rattle.connection.specs.Answers.{DoesAsked}
-
--- over each history
-abbrev pub DoesOver : Ask → AConnection → AConnection → Bool → Type 0
-DoesOver a old new b = (app : App) (name : List ℕ) (history : List Entry) → IsConnection app name history old → DoesAsked app name history a old new b
+use Rattle.connection.specs.Answers.{DoesOver}
 
 abbrev done : Result (Unit {0}) ClientFault
 done = Ok tt

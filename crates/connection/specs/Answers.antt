@@ -55,6 +55,10 @@ abbrev pub DoesAsked : App → List ℕ → List Entry → Ask → AConnection �
 DoesAsked app name history a old new true = IsAsked app name history a old new
 DoesAsked app name history a old new false = (can_ask (as_conn old) a ≡ false) × (new ≡ old)
 
+-- the same, whatever application, name and history the client is kept over
+abbrev pub DoesOver : Ask → AConnection → AConnection → Bool → Type 0
+DoesOver a old new b = (app : App) (name : List ℕ) (history : List Entry) → IsConnection app name history old → DoesAsked app name history a old new b
+
 abbrev pub Does : {E : Type 0} → Ask → AConnection → AConnection → Result Bool E → Type 0
-Does a old new (Ok b) = (app : App) (name : List ℕ) (history : List Entry) → IsConnection app name history old → DoesAsked app name history a old new b
+Does a old new (Ok b) = DoesOver a old new b
 Does a old new (Err e) = new ≡ old

@@ -23,7 +23,8 @@ printed_is (s ∷ journal) (id ∷ ids) (n ∷ counts) texts =
     let some : List Line = map out_line (take n texts) in
     let rest : List Line = kept_lines journal ids counts (drop n texts) in
     ap (λ (ts : List (List ℕ)). line_of (kept_value s id) ∷ ts)
-    (ap₂ (λ (a b : List (List ℕ)). a ++ b) (sym (out_texts_are (take n texts))) (printed_is journal ids counts (drop n texts)) ∙ sym (map-append line_text some rest))
+    (ap₂ (λ (a b : List (List ℕ)). a ++ b) (sym (out_texts_are (take n texts))) (printed_is journal ids counts (drop n texts))
+    ∙ sym (map-append line_text some rest))
 
 pub session_lines_are : (x : AConnection) → session_lines x.session x.sent ≡ map line_text (kept_journal x)
 session_lines_are x = ap (λ (ts : List (List ℕ)). head_text x.session.carried.number ∷ ts)

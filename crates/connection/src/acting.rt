@@ -1,12 +1,11 @@
 //! What a client and its session do by themselves.
 ghost use Rattle.std.specs.Prelude.{◌≡◌, OnErr};
 ghost use Rattle.connection.specs.world_model.declared.events.Act.TheVariants as act;
-ghost use Rattle.connection.specs.Kept.{seen, IsKept};
 ghost use Rattle.connection.specs.Answers.{Answers, Takes, IsRefusal};
 
 use crate::EventFault;
 use crate::client_core::TakeFault;
-use crate::side::Side;
+use crate::connection::Connection;
 use crate::world_model::Answer;
 use ejson_value::Mem;
 use heard_messages::Heard;
@@ -23,97 +22,90 @@ pub(crate) fn refused(fault: EventFault) -> Result<Answer, Mem>
     }
 }
 
-/// A text that waits in the client goes onto the link to the server.
-pub(crate) fn up(side: &mut Side) -> Result<Answer, Mem>
-    requires { IsKept side.old }
-    ensures kept { IsKept side.new }
-    ensures acts { Answers act.Up (seen side.old) (seen side.new) result }
-{
-    if side.is_dropped || side.upward.is_full() {
-        return Ok(Answer::Idle);
-    }
-    side.upward.texts.reserve(1)?;
-    match side.client.next_out() {
-        None => Ok(Answer::Idle),
-        Some(text) => {
-            side.upward.texts.push(text).unwrap();
-            Ok(Answer::Done)
+impl Connection {
+    /// A text that waits in the client goes onto the link to the server.
+    pub fn up(&mut self) -> Result<Answer, Mem>
+        ensures { Answers act.Up self.old self.new result }
+    {
+        if self.side.is_dropped || self.side.upward.is_full() {
+            return Ok(Answer::Idle);
+        }
+        self.side.upward.texts.reserve(1)?;
+        match self.side.client.next_out() {
+            None => Ok(Answer::Idle),
+            Some(text) => {
+                self.side.upward.texts.push(text).unwrap();
+                Ok(Answer::Done)
+            }
         }
     }
-}
 
-/// The session takes a text from that link.
-pub(crate) fn recv(side: &mut Side) -> Result<Answer, Mem>
-    requires { IsKept side.old }
-    ensures kept { IsKept side.new }
-    ensures acts { Answers act.Recv (seen side.old) (seen side.new) result }
-{
-    let Some(text) = side.upward.first() else {
-        return Ok(Answer::Idle);
-    };
-    match side.session.take(text) {
-        Ok(()) => {
-            side.upward.pass();
-            Ok(Answer::Done)
+    /// The session takes a text from that link.
+    pub fn recv(&mut self) -> Result<Answer, Mem>
+        ensures { Answers act.Recv self.old self.new result }
+    {
+        let Some(text) = self.side.upward.first() else {
+            return Ok(Answer::Idle);
+        };
+        match self.side.session.take(text) {
+            Ok(()) => {
+                self.side.upward.pass();
+                Ok(Answer::Done)
+            }
+            Err(fault) => refused(fault),
         }
-        Err(fault) => refused(fault),
     }
-}
 
-/// The session handles the message that came first.
-pub(crate) fn handle(side: &mut Side) -> Result<Answer, Mem>
-    requires { IsKept side.old }
-    ensures kept { IsKept side.new }
-    ensures acts { Answers act.Handle (seen side.old) (seen side.new) result }
-{
-    match side.session.handle() {
-        Ok(()) => Ok(Answer::Done),
-        Err(fault) => refused(fault),
+    /// The session handles the message that came first.
+    pub fn handle(&mut self) -> Result<Answer, Mem>
+        ensures { Answers act.Handle self.old self.new result }
+    {
+        match self.side.session.handle() {
+            Ok(()) => {}
+            Err(fault) => return refused(fault),
+        }
+        Ok(Answer::Done)
     }
-}
 
-/// A text of the session's outbox goes onto the link to the client.
-pub(crate) fn send(side: &mut Side) -> Result<Answer, Mem>
-    requires { IsKept side.old }
-    ensures kept { IsKept side.new }
-    ensures acts { Answers act.Send (seen side.old) (seen side.new) result }
-{
-    if side.downward.is_full() {
-        return Ok(Answer::Idle);
-    }
-    side.downward.texts.reserve(1)?;
-    match side.session.send() {
-        None => Ok(Answer::Idle),
-        Some(text) => {
-            side.downward.texts.push(text).unwrap();
-            Ok(Answer::Done)
+    /// A text of the session's outbox goes onto the link to the client.
+    pub fn send(&mut self) -> Result<Answer, Mem>
+        ensures { Answers act.Send self.old self.new result }
+    {
+        if self.side.downward.is_full() {
+            return Ok(Answer::Idle);
+        }
+        self.side.downward.texts.reserve(1)?;
+        match self.side.session.send() {
+            None => Ok(Answer::Idle),
+            Some(text) => {
+                self.side.downward.texts.push(text).unwrap();
+                Ok(Answer::Done)
+            }
         }
     }
-}
 
-/// The client takes a text from that link. With the answer goes the number of its refusal, where it
-/// refuses the text; it is broken then.
-pub(crate) fn take(side: &mut Side, heard: &mut Heard) -> Result<(Answer, Option<u8>), Mem>
-    requires { IsKept side.old }
-    ensures kept { IsKept side.new }
-    ensures acts { Takes (seen side.old) (seen side.new) result }
-{
-    if side.is_dropped {
-        return Ok((Answer::Idle, None));
-    }
-    let Some(text) = side.downward.first() else {
-        return Ok((Answer::Idle, None));
-    };
-    match side.client.take(text, heard) {
-        Ok(()) => {
-            side.downward.pass();
-            Ok((Answer::Done, None))
+    /// The client takes a text from that link. With the answer goes the number of its refusal, where
+    /// it refuses the text; it is broken then. Others may have read the text already.
+    pub fn take(&mut self, heard: &mut Heard) -> Result<(Answer, Option<u8>), Mem>
+        ensures { Takes self.old self.new result }
+    {
+        if self.side.is_dropped {
+            return Ok((Answer::Idle, None));
         }
-        Err(TakeFault::ServerSent(number)) => {
-            side.downward.pass();
-            Ok((Answer::Done, Some(number)))
+        let Some(text) = self.side.downward.first() else {
+            return Ok((Answer::Idle, None));
+        };
+        match self.side.client.take(text, heard) {
+            Ok(()) => {
+                self.side.downward.pass();
+                Ok((Answer::Done, None))
+            }
+            Err(TakeFault::ServerSent(number)) => {
+                self.side.downward.pass();
+                Ok((Answer::Done, Some(number)))
+            }
+            Err(TakeFault::Idle) => Ok((Answer::Idle, None)),
+            Err(TakeFault::Memory) => Err(Mem),
         }
-        Err(TakeFault::Idle) => Ok((Answer::Idle, None)),
-        Err(TakeFault::Memory) => Err(Mem),
     }
 }

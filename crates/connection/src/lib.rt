@@ -5,23 +5,18 @@
 mod acting;
 mod acts;
 mod asking;
-mod asks;
 mod connection;
 mod items;
 mod lines;
 mod link;
 mod naming;
-mod printing;
 mod resting;
 mod side;
 mod storing;
 mod texts;
 
-pub use acts::act;
-pub use asks::ask;
 pub use connection::Connection;
 pub use connection_laws::{client_core, store_machine, world_model};
 pub use lines::journal_lines;
-pub use naming::named;
 pub use session_core::{Call, EventFault, Session, history_log};
 pub use session_state;

@@ -1,10 +1,8 @@
 //! The act that an event names.
-ghost use Rattle.std.specs.Prelude.{◌≡◌, ◌<◌, ℕ, List, length, option_map};
-ghost use Rattle.app_model.specs.App.{App};
-ghost use Rattle.connection.specs.history_model.declared.entry.Entry.{Entry};
-ghost use Rattle.connection.specs.world_model.Events.{number_of, act_in};
+ghost use Rattle.std.specs.Prelude.{◌≡◌, ◌<◌, option_map};
+ghost use Rattle.connection.specs.world_model.Events.{number_of};
 ghost use Rattle.connection.specs.world_model.declared.events.Act.TheVariants as act;
-ghost use Rattle.connection.specs.connection_laws.Connection.{as_conn, IsConnection};
+ghost use Rattle.connection.specs.Acting.{IsNamed};
 ghost use Rattle.connection.specs.Named.{place_at, count_at, load_named, advance_named, named_at};
 
 use crate::connection::Connection;
@@ -87,7 +85,7 @@ fn advance_named(
     Some(Act::Advance { sub, count })
 }
 
-// The same, by what the session keeps.
+// The act that the event names, by what the session keeps.
 fn named_at(connection: &Connection, entries: u64, event: &Event) -> Option<Act>
     requires { entries < 18446744073709551615 }
     ensures { result ≡ named_at connection.now.session.carried.own.subs entries event.now }
@@ -102,11 +100,13 @@ fn named_at(connection: &Connection, entries: u64, event: &Event) -> Option<Act>
     }
 }
 
-/// The act of the client and its session that the event names over a history of this length, if it names
-/// one.
-pub fn named(connection: &Connection, entries: u64, event: &Event) -> Option<Act>
-    requires { entries < 18446744073709551615 }
-    ensures { (app : App) (name : List ℕ) (history : List Entry) → IsConnection app name history connection.now → entries ≡ length history → result ≡ act_in history (as_conn connection.now) event.now }
-{
-    named_at(connection, entries, event)
+impl Connection {
+    /// The act of the client and its session that the event names over a history of this length, if it
+    /// names one.
+    pub fn named(&self, entries: u64, event: &Event) -> Option<Act>
+        requires { entries < 18446744073709551615 }
+        ensures { IsNamed self.now entries event.now result }
+    {
+        named_at(self, entries, event)
+    }
 }

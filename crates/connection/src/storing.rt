@@ -17,6 +17,7 @@ ghost use Rattle.connection.specs.Storing.{Tries, Begins, StepsOn, Learns, Learn
 
 use crate::Call;
 use crate::acting::refused;
+use crate::connection::Connection;
 use crate::history_log::Batch;
 use crate::session_state::{cursor_of, may_load};
 use crate::side::{Refusal, Side};
@@ -91,34 +92,6 @@ fn begin_blocking(side: &mut Side, machine: &mut Machine) -> Result<Answer, Mem>
     }
 }
 
-/// The store begins the session's call that blocks, or the refusal is kept.
-pub(crate) fn begin(side: &mut Side, machine: &mut Machine) -> Result<Answer, Mem>
-    requires kept { IsKept side.old }
-    requires connection { IsConnection machine.old.app side.old.client.name machine.old.history (seen side.old) }
-    requires served { IsServed machine.old.app machine.old.history (as_conn (seen side.old)) }
-    ensures kept { IsKept side.new }
-    ensures begins { Begins machine.old machine.new (seen side.old) (seen side.new) result }
-{
-    if side.is_dropped {
-        return Ok(Answer::Idle);
-    }
-    begin_blocking(side, machine)
-}
-
-/// The run of the session's call makes its next step.
-pub(crate) fn step(side: &Side, machine: &mut Machine, k: u64) -> Result<Answer, Mem>
-    requires { IsKept side.now }
-    ensures { StepsOn k machine.old machine.new (seen side.now) result }
-{
-    match machine.step(side.number, k)? {
-        Some(status) => {
-            drop(status);
-            Ok(Answer::Done)
-        }
-        None => Ok(Answer::Idle),
-    }
-}
-
 // The session learns that its call was refused.
 fn learn_refusal(side: &mut Side, k: u64, refusal: Refusal) -> Result<Answer, Mem>
     requires kept { IsKept side.old }
@@ -166,19 +139,6 @@ fn learn_status(side: &mut Side, machine: &Machine, k: u64, at: u64) -> Result<A
     }
 }
 
-/// The session learns how far the run of the call was at a place of the history, or that the call was
-/// refused.
-pub(crate) fn learn(side: &mut Side, machine: &Machine, k: u64, at: u64) -> Result<Answer, Mem>
-    requires { IsKept side.old }
-    ensures kept { IsKept side.new }
-    ensures learns { Learns machine.now.app machine.now.history k at (seen side.old) (seen side.new) result }
-{
-    match side.kept {
-        Some(refusal) if k == refusal.k => learn_refusal(side, k, refusal),
-        _ => learn_status(side, machine, k, at),
-    }
-}
-
 // The session loads the subscription with the contents of a place of the history.
 fn load_from(side: &mut Side, sub: u64, at: u64, contents: &Contents) -> Result<Answer, Mem>
     requires { IsKept side.old }
@@ -206,21 +166,6 @@ fn load_earlier(side: &mut Side, machine: &Machine, sub: u64, at: u64) -> Result
     load_from(side, sub, at, &contents)
 }
 
-/// The session loads the subscription, at a place of the history.
-pub(crate) fn load(side: &mut Side, machine: &Machine, sub: u64, at: u64) -> Result<Answer, Mem>
-    requires { IsKept side.old }
-    ensures kept { IsKept side.new }
-    ensures loads { AnswersIn machine.now.app machine.now.history (act.Load sub at) (seen side.old) (seen side.new) result }
-{
-    if at > machine.length() {
-        return Ok(Answer::Idle);
-    }
-    if at == machine.length() {
-        return load_from(side, sub, at, machine.contents());
-    }
-    load_earlier(side, machine, sub, at)
-}
-
 fn advance_by<L: Ledger>(
     side: &mut Side,
     sub: u64,
@@ -241,15 +186,6 @@ fn advance_by<L: Ledger>(
     }
 }
 
-/// The subscription goes on over the batch.
-pub(crate) fn advance_over(side: &mut Side, sub: u64, batch: &Batch) -> Result<Answer, Mem>
-    requires { IsKept side.old }
-    ensures kept { IsKept side.new }
-    ensures advances { AdvancesBy sub batch.now.from batch.now.count batch.now.changes (seen side.old) (seen side.new) result }
-{
-    advance_by::<Brand>(side, sub, batch, Blank::new(1))
-}
-
 // The subscription goes on over so many entries behind the place that it shows.
 fn advance_from(
     side: &mut Side,
@@ -266,46 +202,97 @@ fn advance_from(
 {
     let _length = machine.length();
     let batch = machine.batch(from, count)?;
-    advance_over(side, sub, &batch)
+    advance_by::<Brand>(side, sub, &batch, Blank::new(1))
 }
 
-/// The session leads the subscription on, by so many entries of the history.
-pub(crate) fn advance(
-    side: &mut Side,
-    machine: &Machine,
-    sub: u64,
-    count: u64,
-) -> Result<Answer, Mem>
-    requires { IsKept side.old }
-    ensures kept { IsKept side.new }
-    ensures advances { AnswersIn machine.now.app machine.now.history (act.Advance sub count) (seen side.old) (seen side.new) result }
-{
-    let Some(from) = cursor_of(side.session.subs(), sub) else {
-        return Ok(Answer::Idle);
-    };
-    let length = machine.length();
-    if from > length || count > length - from {
-        return Ok(Answer::Idle);
+impl Connection {
+    /// The store begins the session's call that blocks, or the refusal is kept.
+    pub fn begin(&mut self, machine: &mut Machine) -> Result<Answer, Mem>
+        requires connection { IsConnection machine.old.app self.old.own.name machine.old.history self.old }
+        requires served { IsServed machine.old.app machine.old.history (as_conn self.old) }
+        ensures { Begins machine.old machine.new self.old self.new result }
+    {
+        if self.side.is_dropped {
+            return Ok(Answer::Idle);
+        }
+        begin_blocking(&mut self.side, machine)
     }
-    advance_from(side, machine, sub, from, count)
-}
 
-/// The session leads the subscription on, by what was told elsewhere of so many entries of the history.
-pub(crate) fn feed(
-    side: &mut Side,
-    sub: u64,
-    count: u64,
-    news: &Publishes,
-    known: &mut KnownTexts,
-) -> Result<Answer, Mem>
-    requires kept { IsKept side.old }
-    requires right { AreRight sub (seen side.old).session.carried.box (news_of news.now) known.old }
-    ensures kept { IsKept side.new }
-    ensures feeds { FeedsBy sub count news.now (seen side.old) (seen side.new) result }
-    ensures learnt { AreLearnt sub (seen side.old).session.carried.box (news_of news.now) known.old known.new }
-{
-    match side.session.feed(sub, count, news, known) {
-        Ok(()) => Ok(Answer::Done),
-        Err(fault) => refused(fault),
+    /// The run of the session's call makes its next step.
+    pub fn step(&self, machine: &mut Machine, k: u64) -> Result<Answer, Mem>
+        ensures { StepsOn k machine.old machine.new self.now result }
+    {
+        match machine.step(self.side.number, k)? {
+            Some(status) => {
+                drop(status);
+                Ok(Answer::Done)
+            }
+            None => Ok(Answer::Idle),
+        }
+    }
+
+    /// The session learns how far the run of the call was at a place of the history, or that the call
+    /// was refused.
+    pub fn learn(&mut self, machine: &Machine, k: u64, at: u64) -> Result<Answer, Mem>
+        ensures { Learns machine.now.app machine.now.history k at self.old self.new result }
+    {
+        match self.side.kept {
+            Some(refusal) if k == refusal.k => learn_refusal(&mut self.side, k, refusal),
+            _ => learn_status(&mut self.side, machine, k, at),
+        }
+    }
+
+    /// The session loads the subscription, at a place of the history.
+    pub fn load(&mut self, machine: &Machine, sub: u64, at: u64) -> Result<Answer, Mem>
+        ensures { AnswersIn machine.now.app machine.now.history (act.Load sub at) self.old self.new result }
+    {
+        if at > machine.length() {
+            return Ok(Answer::Idle);
+        }
+        if at == machine.length() {
+            return load_from(&mut self.side, sub, at, machine.contents());
+        }
+        load_earlier(&mut self.side, machine, sub, at)
+    }
+
+    /// The session leads the subscription on, by so many entries of the history.
+    pub fn advance(&mut self, machine: &Machine, sub: u64, count: u64) -> Result<Answer, Mem>
+        ensures { AnswersIn machine.now.app machine.now.history (act.Advance sub count) self.old self.new result }
+    {
+        let Some(from) = cursor_of(self.side.session.subs(), sub) else {
+            return Ok(Answer::Idle);
+        };
+        let length = machine.length();
+        if from > length || count > length - from {
+            return Ok(Answer::Idle);
+        }
+        advance_from(&mut self.side, machine, sub, from, count)
+    }
+
+    /// The session leads the subscription on over a batch of entries that was made elsewhere.
+    pub fn advance_over(&mut self, sub: u64, batch: &Batch) -> Result<Answer, Mem>
+        ensures { AdvancesBy sub batch.now.from batch.now.count batch.now.changes self.old self.new result }
+    {
+        advance_by::<Brand>(&mut self.side, sub, batch, Blank::new(1))
+    }
+
+    /// The session leads the subscription on, by what was told elsewhere of so many entries of the
+    /// history.
+    pub fn feed(
+        &mut self,
+        sub: u64,
+        count: u64,
+        news: &Publishes,
+        known: &mut KnownTexts,
+    ) -> Result<Answer, Mem>
+        requires right { AreRight sub self.old.session.carried.box (news_of news.now) known.old }
+        ensures feeds { FeedsBy sub count news.now self.old self.new result }
+        ensures learnt { AreLearnt sub self.old.session.carried.box (news_of news.now) known.old known.new }
+    {
+        match self.side.session.feed(sub, count, news, known) {
+            Ok(()) => {}
+            Err(fault) => return refused(fault),
+        }
+        Ok(Answer::Done)
     }
 }

@@ -215,3 +215,18 @@ module _ (x : AWorld) (p : IsWorld x) (name : List ℕ) (e : Event) (acts_by : a
   no_act_happens lines is prints =
       let says = is_act e name acts_by (as_world x) in
       (none_named x name e says.0 p (sym is), prints ∙ (ap (λ (o : Option Act). texts_of (act_values (as_world x) name o)) is ∙ sym says.1))
+
+  -- where memory runs out before
+  pub act_same : (y : AWorld) → y ≡ x → (m : Mem) → Happens x e y (Err m)
+  act_same y same m = left_by_act e name acts_by x y (subst IsWorld (sym same) p, ap as_world same)
+
+  -- the client that is lent acts
+  module _ (a : Act) (is : Some a ≡ act_by (as_world x) name e) (next : MachineState) (put : AConnections) (busy : Names) (touches : busy ≡ with_name x.busy name) where
+    pub acted_happens : (o : Answer) (refusal : Option ℕ) → ActsIn a (record { app = x.app; history = x.history }) next x.conns put name (Ok (o, refusal)) → (lines : List (List ℕ)) → lines ≡ texts_of (told_values o refusal) →
+        Happens x e (record x { app = next.app; history = next.history; conns = put; busy = busy }) (Ok lines)
+    acted_happens o refusal t lines prints =
+        let told = told_acts x p name a next put busy touches o refusal t in
+        act_happens a is (record x { app = next.app; history = next.history; conns = put; busy = busy }) (Ok lines) (told.0, prints ∙ sym (ap texts_of told.1))
+
+    pub acted_left : (m : Mem) → ActsIn a (record { app = x.app; history = x.history }) next x.conns put name (Err m) → Happens x e (record x { app = next.app; history = next.history; conns = put; busy = busy }) (Err m)
+    acted_left m t = act_happens a is (record x { app = next.app; history = next.history; conns = put; busy = busy }) (Err m) (err_acts x p name a next put busy touches m t)

@@ -6,7 +6,8 @@ use Rattle.connection.specs.world_model.declared.events.Act.{Act}
 use Rattle.connection.specs.world_model.declared.events.Act.TheVariants as act
 use Rattle.connection.specs.world_model.Settle.{load_at, loads}
 use Rattle.world_rounds_laws.specs.Listing.{behind_by, behind}
-use Rattle.world_core.specs.Acting.{adds_entry, learns_of}
+use Rattle.world_core.specs.Acting.{learns_of}
+use Rattle.connection.specs.Acting.{adds_entry}
 
 abbrev AddsNone : Act → Type 0
 AddsNone a = adds_entry a ≡ false

@@ -1,5 +1,6 @@
 -- An act of a client is answered as its connection answers it.
-use Rattle.std.specs.Prelude.{◌≡◌, ℕ, List, [], ◌∷◌, ◌++◌, true, false, cond, Result, Ok, Err, refl}
+use Rattle.ejson_value.specs.declared.memory.Mem.{Mem}
+use Rattle.std.specs.Prelude.{◌≡◌, ℕ, Option, List, [], ◌∷◌, ◌++◌, true, false, cond, Result, Ok, Err, refl}
 use Rattle.std.proofs.Common.{ap, sym, subst, ◌∙◌, append-nil}
 use Rattle.app_model.specs.App.{App}
 use Rattle.connection.specs.history_model.declared.entry.Entry.{Entry}
@@ -15,8 +16,9 @@ use Rattle.connection.specs.world_invariant_laws.LinksLaws.{links_kept}
 use Rattle.world_rounds_laws.specs.Visits.{Side, can_on, act_on}
 use Rattle.connection.specs.connection_laws.Connection.{AConnection, as_conn, IsConnection}
 use Rattle.connection.specs.connection_laws.StandingLaws.{longer_stays}
-use Rattle.connection.specs.Answers.{Acts, AnswersIn, Answers}
-use Rattle.connection.specs.Storing.{Enters, Begins, StepsOn, Learns}
+use Rattle.connection.specs.Answers.{Acts, AnswersIn}
+use Rattle.connection.specs.Acting.{TellsOver}
+use Rattle.connection.specs.Storing.{Enters, Begins, StepsOn}
 use Rattle.connection.specs.connection_laws.Acting.{IsDone}
 use Rattle.world_news_laws.specs.multiplexer.Telling.{ANews}
 use Rattle.world_news_laws.specs.multiplexer.LongerLaws.{told_longer}
@@ -90,10 +92,6 @@ module _ (v : AVisit) (r : IsReady v) (a : Act) where
   stays none answer.QueueFull = refl
 
   module _ {E : Type 0} (y : AConnection) where
-    pub alone : es ≡ [] → (result : Result Answer E) → Answers a v.client y result → AnswersTo a v (visit v.machine y v.news) result
-    alone none (Ok o) acts = answered v.machine y v.news r.news o (acts app v.client.own.name h r.connection) (stays none o)
-    alone none (Err e) acts = left v.machine y v.news refl acts r.news
-
     -- over the history, which tells more perhaps
     pub over : es ≡ [] → (news : ANews) → AreNews v.machine news → (result : Result Answer E) → AnswersIn app h a v.client y result → AnswersTo a v (visit v.machine y news) result
     over none news told (Ok o) acts = answered v.machine y news told o (acts v.client.own.name r.connection) (stays none o)
@@ -112,6 +110,14 @@ module _ (v : AVisit) (r : IsReady v) (a : Act) where
   pub left_by : (n : MachineState) (y : AConnection) → n ≡ v.machine → y ≡ v.client → IsLeft v (visit n y v.news)
   left_by n y m x = left n y v.news m x (subst (λ (k : MachineState). AreNews k v.news) (sym m) r.news)
 
+-- as the client tells it, of an act that adds no entry
+module _ (v : AVisit) (r : IsReady v) (a : Act) (y : AConnection) where
+  pub told_over : (told : Answer × Option ℕ) → TellsOver a v.machine v.machine v.client y (Ok told) → Answered a v (visit v.machine y v.news) told.0
+  told_over told t = answered v r a v.machine y v.news r.news told.0 t.0.0 t.0.1
+
+  pub told_left : (e : Mem) → TellsOver a v.machine v.machine v.client y (Err e) → IsLeft v (visit v.machine y v.news)
+  told_left e t = left_by v r a v.machine y t.1 t.0
+
 module _ {E : Type 0} (v : AVisit) (r : IsReady v) where
   pub begins : (n : MachineState) (y : AConnection) (result : Result Answer E) → Begins v.machine n v.client y result → AnswersTo act.Begin v (visit n y v.news) result
   begins n y (Ok o) b = entered v r act.Begin n y o b.0 b.1
@@ -120,10 +126,6 @@ module _ {E : Type 0} (v : AVisit) (r : IsReady v) where
   pub steps : (k : ℕ) (n : MachineState) (result : Result Answer E) → StepsOn k v.machine n v.client result → AnswersTo (act.Step k) v (visit n v.client v.news) result
   steps k n (Ok o) s = let both = s v.client.own.name r.connection in entered v r (act.Step k) n v.client o both.0 both.1
   steps k n (Err e) s = left_by v r (act.Step k) n v.client s refl
-
-  pub learns : (k at : ℕ) (y : AConnection) (result : Result Answer E) → Learns v.machine.app v.machine.history k at v.client y result → AnswersTo (act.Learn k at) v (visit v.machine y v.news) result
-  learns k at y (Ok o) l = answered v r (act.Learn k at) v.machine y v.news r.news o (l v.client.own.name r.connection r.linked.served) (stays v r (act.Learn k at) refl o)
-  learns k at y (Err e) l = left_by v r (act.Learn k at) v.machine y refl l
 
 -- ---- whether it was made
 

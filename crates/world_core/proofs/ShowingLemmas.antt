@@ -49,12 +49,8 @@ module _ (x : AWorld) (p : IsWorld x) (name : List ℕ) where
   connected c is = (client_is x p name c (sym is)).connection
 
   -- it can act
-  pub ready : IfSome (at text_cmp x.conns name) (IsReady (record { app = x.app; history = x.history }) name)
-  ready = by (at text_cmp x.conns name) refl
-    where
-      by : (o : Option AConnection) → at text_cmp x.conns name ≡ o → IfSome o (IsReady (record { app = x.app; history = x.history }) name)
-      by None is = tt
-      by (Some c) is = record { connection = (client_is x p name c is).connection; served = (clients_linked x p name c is).served }
+  pub ready_client : (c : AConnection) → Some c ≡ connection_of x name → IsReady (record { app = x.app; history = x.history }) name c
+  ready_client c is = record { connection = (client_is x p name c (sym is)).connection; served = (clients_linked x p name c (sym is)).served }
 
 -- ---- the history
 

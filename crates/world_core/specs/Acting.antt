@@ -61,13 +61,6 @@ count_of app act.Send x = outbox_in x
 count_of app act.Take x = downward_in x
 count_of app a x = 0
 
--- ---- acts that the history may grow by
-
-abbrev pub adds_entry : Act → Bool
-adds_entry act.Begin = true
-adds_entry (act.Step k) = true
-adds_entry a = false
-
 -- ---- lists
 
 abbrev pub learns_of : ℕ → List ℕ → List Act

@@ -1,9 +1,8 @@
 //! One act of a client.
 ghost use Rattle.std.specs.Prelude.{◌≡◌, false};
-ghost use Rattle.connection.specs.world_model.declared.events.Act.TheVariants as act;
-ghost use Rattle.connection.specs.Answers.{Answers};
+ghost use Rattle.connection.specs.Acting.{adds_entry};
 ghost use Rattle.world_core.specs.Visit.{visit, IsReady};
-ghost use Rattle.world_core.specs.Acting.{AnswersTo, Tries, adds_entry};
+ghost use Rattle.world_core.specs.Acting.{AnswersTo, Tries};
 
 use crate::showing::advance;
 use connection::Connection;
@@ -12,16 +11,6 @@ use connection::world_model::{Act, Answer};
 use ejson_value::Mem;
 use heard_messages::Heard;
 use world_news_laws::multiplexer::Multiplexer;
-
-// The client takes a text, whether or not it breaks at it.
-fn take(connection: &mut Connection, heard: &mut Heard) -> Result<Answer, Mem>
-    ensures { Answers act.Take connection.old connection.new result }
-{
-    match connection.take(heard) {
-        Ok((answer, _)) => Ok(answer),
-        Err(mem) => Err(mem),
-    }
-}
 
 // Makes an act that adds no entry to the history.
 fn make_over(
@@ -36,17 +25,8 @@ fn make_over(
     ensures { AnswersTo act (visit machine.now connection.old news.old) (visit machine.now connection.new news.new) result }
 {
     match act {
-        Act::Up => connection.up(),
-        Act::Recv => connection.recv(),
-        Act::Handle => connection.handle(),
-        // These two may add one.
-        Act::Begin => Ok(Answer::Idle),
-        Act::Step { .. } => Ok(Answer::Idle),
-        Act::Learn { k, at } => connection.learn(machine, k, at),
-        Act::Load { sub, at } => connection.load(machine, sub, at),
         Act::Advance { sub, count } => advance(connection, machine, news, sub, count),
-        Act::Send => connection.send(),
-        Act::Take => take(connection, heard),
+        _ => Ok(connection.act_over(machine, heard, act)?.0),
     }
 }
 

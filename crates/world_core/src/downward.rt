@@ -84,7 +84,8 @@ pub(crate) fn tells(
     heard: &mut Heard,
 ) -> Result<bool, Mem>
     requires { IsReady (visit machine.now connection.old news.old) }
-    ensures { Passes (loadings ∷ advancings ∷ sendings ∷ takings ∷ []) (visit machine.now connection.old news.old) (visit machine.now connection.new news.new) result }
+    ensures { Passes (loadings ∷ advancings ∷ sendings ∷ takings ∷ [])
+        (visit machine.now connection.old news.old) (visit machine.now connection.new news.new) result }
 {
     let shown = shows(alloc, connection, machine, news, heard)?;
     let sent = texts_down(connection, machine, news, heard)?;
@@ -101,8 +102,10 @@ pub fn tell(
     heard: &mut Heard,
 ) -> Result<bool, Mem>
     requires { IsReady (visit machine.now connection.old news.old) }
-    ensures shows { Passes (loadings ∷ advancings ∷ sendings ∷ takings ∷ []) (visit machine.now connection.old news.old) (visit machine.now connection.new news.new) result }
-    ensures round { asks_nothing connection.old ≡ true → Passes order (visit machine.now connection.old news.old) (visit machine.now connection.new news.new) result }
+    ensures shows { Passes (loadings ∷ advancings ∷ sendings ∷ takings ∷ [])
+        (visit machine.now connection.old news.old) (visit machine.now connection.new news.new) result }
+    ensures round { asks_nothing connection.old ≡ true →
+        Passes order (visit machine.now connection.old news.old) (visit machine.now connection.new news.new) result }
 {
     tells(alloc, connection, machine, news, heard)
 }

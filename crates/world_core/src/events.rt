@@ -6,7 +6,7 @@ ghost use Rattle.world_core.specs.history_model.Operations.{operation_in};
 ghost use Rattle.world_core.specs.history_log.Entries.{told_operation};
 ghost use Rattle.world_laws.specs.World.{as_world, IsWorld};
 ghost use Rattle.world_core.specs.Kept.{seen};
-ghost use Rattle.world_core.specs.Happening.{Happens, MakesAct, actor, asked_one};
+ghost use Rattle.world_core.specs.Happening.{Happens, actor, asked_one};
 
 use crate::inside::Inside;
 use crate::opening::open;
@@ -14,7 +14,7 @@ use crate::printing::{history, journal, show, store};
 use crate::rounds::settle;
 use crate::store_machine::AdminFault;
 use crate::world_model::{Act, Event};
-use crate::{Hands, Printed, acted, asked, named};
+use crate::{Hands, Printed};
 use collection_store::Op;
 use ejson_value::{Items, Mem, Text};
 use lanes::Lanes;
@@ -26,25 +26,9 @@ fn act_named(inside: &Inside, client: &Text, event: &Event) -> Option<Act>
 {
     let length = inside.machine.length();
     match inside.conns.get(client) {
-        Some(connection) => named(connection, length, event),
+        Some(connection) => connection.named(length, event),
         None => None,
     }
-}
-
-// The client acts.
-fn make(inside: &mut Inside, client: &Text, act: Act) -> Result<Printed, Mem>
-    requires { IsWorld (seen inside.old) }
-    ensures { MakesAct (seen inside.old) client.now act (seen inside.new) result }
-{
-    inside.busy.put(client)?;
-    let (answer, refusal) = acted(
-        &mut inside.conns,
-        &mut inside.machine,
-        &mut inside.heard,
-        client,
-        act,
-    )?;
-    Ok(Printed::told(answer, refusal))
 }
 
 // The client makes the act that the event names.
@@ -53,8 +37,15 @@ fn act(inside: &mut Inside, client: &Text, event: &Event) -> Result<Printed, Mem
     requires acts { actor event.now ≡ Some client.now }
     ensures { Happens (seen inside.old) event.now (seen inside.new) result }
 {
-    match act_named(inside, client, event) {
-        Some(act) => make(inside, client, act),
+    let Some(act) = act_named(inside, client, event) else {
+        return Ok(Printed::asked(false));
+    };
+    inside.busy.put(client)?;
+    match inside.conns.get_mut(client) {
+        Some(connection) => {
+            let (answer, refusal) = connection.act(&mut inside.machine, &mut inside.heard, act)?;
+            Ok(Printed::told(answer, refusal))
+        }
         None => Ok(Printed::asked(false)),
     }
 }
@@ -67,8 +58,13 @@ fn ask(inside: &mut Inside, client: &Text, event: &Event) -> Result<Printed, Mem
     ensures { Happens (seen inside.old) event.now (seen inside.new) result }
 {
     inside.busy.put(client)?;
-    let done = asked(&mut inside.conns, client, event)?;
-    Ok(Printed::asked(done))
+    match inside.conns.get_mut(client) {
+        Some(connection) => {
+            let done = connection.ask(event)?;
+            Ok(Printed::asked(done))
+        }
+        None => Ok(Printed::asked(false)),
+    }
 }
 
 // The client is gone.
@@ -78,7 +74,10 @@ fn leave(inside: &mut Inside, client: &Text, event: &Event) -> Result<Printed, M
     ensures { Happens (seen inside.old) event.now (seen inside.new) result }
 {
     inside.busy.put(client)?;
-    let done = asked(&mut inside.conns, client, event)?;
+    let Some(connection) = inside.conns.get_mut(client) else {
+        return Ok(Printed::asked(false));
+    };
+    let done = connection.ask(event)?;
     if !done {
         return Ok(Printed::asked(false));
     }

@@ -22,11 +22,11 @@ mod world;
 
 pub use clients::{Beside, Clients, NoLane, no_clients};
 pub use connection;
-pub use connection::{Connection, named, store_machine, world_model};
+pub use connection::{Connection, store_machine, world_model};
 pub use downward::tell;
 pub use hands::{Hands, InTurn, OnThreads};
 pub use phases::round;
 pub use printed::Printed;
-pub use visits::{acted, asked, visited};
+pub use visits::visited;
 pub use world::World;
 pub use world_news_laws::multiplexer;

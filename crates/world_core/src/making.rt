@@ -5,7 +5,8 @@ ghost use Rattle.connection.specs.world_model.Settle.{steps};
 ghost use Rattle.connection.specs.world_model.Store.{held_in};
 ghost use Rattle.world_rounds_laws.specs.Steps.{Covers};
 ghost use Rattle.world_core.specs.Visit.{visit, side, IsReady, Makes, Passes};
-ghost use Rattle.world_core.specs.Acting.{is_repeatable, count_of, adds_entry};
+ghost use Rattle.world_core.specs.Acting.{is_repeatable, count_of};
+ghost use Rattle.connection.specs.Acting.{adds_entry};
 
 use crate::acting::{tries, tries_over};
 use connection::Connection;
@@ -25,7 +26,8 @@ pub(crate) fn repeat(
 ) -> Result<bool, Mem>
     requires ready { IsReady (visit machine.old connection.old news.old) }
     requires leads { is_repeatable act ≡ true }
-    ensures { let v = visit machine.old connection.old news.old in Makes (replicate (count_of machine.old.app act (side v)) act) v (visit machine.new connection.new news.new) result }
+    ensures { let v = visit machine.old connection.old news.old in
+        Makes (replicate (count_of machine.old.app act (side v)) act) v (visit machine.new connection.new news.new) result }
 {
     let mut made = false;
     while tries(connection, machine, news, heard, act)? {
@@ -46,7 +48,8 @@ pub(crate) fn repeat_over(
     requires ready { IsReady (visit machine.now connection.old news.old) }
     requires leads { is_repeatable act ≡ true }
     requires adds { adds_entry act ≡ false }
-    ensures { let v = visit machine.now connection.old news.old in Makes (replicate (count_of machine.now.app act (side v)) act) v (visit machine.now connection.new news.new) result }
+    ensures { let v = visit machine.now connection.old news.old in
+        Makes (replicate (count_of machine.now.app act (side v)) act) v (visit machine.now connection.new news.new) result }
 {
     let mut made = false;
     while tries_over(connection, machine, news, heard, act)? {

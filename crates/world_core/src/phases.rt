@@ -115,7 +115,8 @@ fn serves(
     heard: &mut Heard,
 ) -> Result<bool, Mem>
     requires { IsReady (visit machine.old connection.old news.old) }
-    ensures { Passes (ups ∷ recvs ∷ handles ∷ begins ∷ steps ∷ learns ∷ []) (visit machine.old connection.old news.old) (visit machine.new connection.new news.new) result }
+    ensures { Passes (ups ∷ recvs ∷ handles ∷ begins ∷ steps ∷ learns ∷ [])
+        (visit machine.old connection.old news.old) (visit machine.new connection.new news.new) result }
 {
     let asked = asks(connection, machine, news, heard)?;
     let called = calls(alloc, connection, machine, news, heard)?;

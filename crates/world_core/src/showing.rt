@@ -1,14 +1,11 @@
 //! A subscription that goes on.
 ghost use Rattle.std.specs.Prelude.{◌≡◌, ◌+◌, ◌≤◌, ◌<◌, length, Some, IfOk, IfSome};
-ghost use Rattle.std.specs.Arc.{arc_value};
 ghost use Rattle.connection.specs.session_model.Subscriptions.{cursor_of};
-ghost use Rattle.connection.specs.session_laws.Events.{IsFeed};
 ghost use Rattle.connection.specs.world_model.declared.events.Act.TheVariants as act;
-ghost use Rattle.connection.specs.world_model.Store.{moments};
 ghost use Rattle.connection.specs.connection_laws.Connection.{IsConnection};
 ghost use Rattle.connection.specs.Answers.{AnswersIn};
 ghost use Rattle.world_news_laws.specs.News.{AreNews};
-ghost use Rattle.world_core.specs.Lending.{SpansIn, IsLentTo};
+ghost use Rattle.world_core.specs.Lending.{SpansIn, IsLentTo, FeedsSub};
 
 use connection::Connection;
 use connection::session_state::{Sub, sub_of};
@@ -67,7 +64,7 @@ fn told(
     requires is { cursor_of sub connection.now.session.carried.own.subs ≡ Some from }
     requires within { from + count ≤ length machine.now.history }
     ensures keeps { AreNews machine.now news.new }
-    ensures feeds { IfOk result (λ told. IfSome told (λ lent. IsFeed (moments machine.now.app connection.now.session.carried.number machine.now.history) sub count (arc_value lent.span.told) connection.now.session)) }
+    ensures feeds { IfOk result (λ told. IfSome told (FeedsSub machine.now connection.now sub count)) }
     ensures lent { IfOk result (λ told. IfSome told (IsLentTo machine.now connection.now sub from (from + count))) }
 {
     match sub_of(connection.subs(), sub) {

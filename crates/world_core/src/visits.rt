@@ -3,45 +3,16 @@ ghost use Rattle.std.specs.Prelude.{◌≡◌, IfSome};
 ghost use Rattle.map_model.specs.Maps.{at};
 ghost use Rattle.value_model.specs.Order.{text_cmp};
 ghost use Rattle.world_news_laws.specs.News.{AreNews};
-ghost use Rattle.world_core.specs.Clients.{IsReady, ActsIn, AsksIn};
 ghost use Rattle.world_core.specs.Visits.{CanVisit, VisitsIn, AreReady, TellsIn};
 
-use crate::connection::{Connection, act as act_of, ask};
+use crate::connection::Connection;
 use crate::multiplexer::Multiplexer;
 use crate::store_machine::Machine;
-use crate::world_model::{Act, Answer, Event};
 use crate::{round, tell};
 use ejson_value::{Mem, Text};
 use heard_messages::Heard;
 use lanes::Lanes;
 use std::alloc::Global;
-
-/// The client of this name acts. What it answers, with the number of its refusal where it refuses a text.
-pub fn acted<L: Lanes<Connection>>(
-    clients: &mut L,
-    machine: &mut Machine,
-    heard: &mut Heard,
-    name: &Text,
-    act: Act,
-) -> Result<(Answer, Option<u8>), Mem>
-    requires { IfSome (at text_cmp (L.values clients.old) name.now) (IsReady machine.old name.now) }
-    ensures { ActsIn act machine.old machine.new (L.values clients.old) (L.values clients.new) name.now result }
-{
-    match clients.get_mut(name) {
-        Some(connection) => act_of(connection, machine, heard, act),
-        None => Ok((Answer::Idle, None)),
-    }
-}
-
-/// The client of this name is asked for what the event says. Whether it could do it.
-pub fn asked<L: Lanes<Connection>>(clients: &mut L, name: &Text, event: &Event) -> Result<bool, Mem>
-    ensures { AsksIn event.now (L.values clients.old) (L.values clients.new) name.now result }
-{
-    match clients.get_mut(name) {
-        Some(connection) => ask(connection, event),
-        None => Ok(false),
-    }
-}
 
 /// The client of this name goes through its phases. Whether any act was made.
 pub fn visited<L: Lanes<Connection>>(

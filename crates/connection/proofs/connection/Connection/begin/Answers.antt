@@ -3,5 +3,5 @@ use Rattle.connection.specs.world_invariant_laws.Session.{IsServed}
 use Rattle.connection.specs.connection_laws.Connection.{AConnection, as_conn}
 use Rattle.connection.proofs.connection.Connection.begin.Goals as goal
 
-pub begin-requires-clause-served : goal.begin-requires-clause-served
-begin-requires-clause-served c = subst (λ (x : AConnection). IsServed c.args.machine.now.app c.args.machine.now.history (as_conn x)) (sym c.self.view_is) c.requires.served
+pub begin_blocking-requires-clause-served : goal.begin_blocking-requires-clause-served
+begin_blocking-requires-clause-served c = subst (λ (x : AConnection). IsServed c.args.machine.now.app c.args.machine.now.history (as_conn x)) (sym c.self.view_is) c.requires.served

@@ -1,6 +1,0 @@
-use Rattle.std.proofs.Common.{sym, ◌∙◌}
-use Rattle.connection.proofs.Stores.{step_idle}
-use Rattle.connection.proofs.storing.step.Goals as goal
-
-pub returns-in-None : goal.returns-in-None
-returns-in-None c = step_idle c.args.side.now c.requires c.args.machine.now c.step.new.self c.args.k c.in_ok-status.ensures.ok (sym c.in-None.is ∙ c.in_ok-status.ensures.status)
