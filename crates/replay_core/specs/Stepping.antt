@@ -17,13 +17,6 @@ pub record IsOperation (l : List ℕ) (op : Op) : Type 0 where
   pub fits : IsEvent (event.Admin (told_operation l))
   pub operation : operation_in (told_operation l) ≡ Some op
 
--- the line is an event, which ran and gave these lines
-pub record StepsEvent (l : List ℕ) (old new : World) (lines : List (List ℕ)) : Type 0 where
-  pub event : Event
-  pub is_event : event_of l ≡ Some event
-  pub world : new ≡ step old event
-  pub printed : lines ≡ lines_of old event
-
 -- the line is an event, which ran, and its lines were added to the output
 pub record RunsEvent (l : List ℕ) (old new : World) (before now : List ℕ) : Type 0 where
   pub is_line : is_blank l ≡ false

@@ -16,7 +16,8 @@ use Rattle.replay_core.specs.Replay.{app_of, events_of}
 abbrev pub AreShown : World → Type 0
 AreShown w = (name : List ℕ) → IfSome (conn_of w name) (λ (c : Conn). IsShown c.client)
 
--- Of every world: the headline holds, each client shows what it is to show, and one that sends no text but those that it is asked for refuses none but for its length.
+-- Of every world: the headline holds, each client shows what it is to show, and one that sends no text but those that it is asked for refuses none but
+-- for its length.
 pub record IsTrue (w : World) : Type 0 where
   pub headline : IsTrueWorld w
   pub shown : AreShown w

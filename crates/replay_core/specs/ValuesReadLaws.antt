@@ -65,7 +65,8 @@ put_inserts : (key : List ℕ) (d : Data) (ms : Members) → members_of (put key
 put_inserts key d no_members = refl
 put_inserts key d (member other e ms) =
     of_either (text_cmp key other) (member key d (member other e ms)) (member other d ms) (member other e (put key d ms))
-    ∙ ap (λ (es : List (List ℕ × Data)). match_ordering (text_cmp key other) ((key, d) ∷ (other, e) ∷ members_of ms) ((other, d) ∷ members_of ms) ((other, e) ∷ es))
+    ∙ ap (λ (es : List (List ℕ × Data)).
+    match_ordering (text_cmp key other) ((key, d) ∷ (other, e) ∷ members_of ms) ((other, d) ∷ members_of ms) ((other, e) ∷ es))
     (put_inserts key d ms)
 
 inside_rise : (key : List ℕ) (d : Data) (ms : Members) → HasRisingKeys d → MembersHaveRisingKeys ms → MembersHaveRisingKeys (put key d ms)

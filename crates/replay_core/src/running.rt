@@ -1,19 +1,15 @@
 //! Lines of a replay, as they run.
-ghost use Rattle.std.specs.Prelude.{◌≡◌, ◌+◌, ◌<◌, ◌≤◌, ◌^◌, ◌++◌, length, IfOk, OnOk};
-ghost use Rattle.world_core.specs.world_model.Events.{step};
-ghost use Rattle.world_core.specs.world_model.Lines.{lines_of};
+ghost use Rattle.std.specs.Prelude.{◌≡◌, ◌+◌, ◌<◌, ◌^◌, ◌++◌, length, IfOk, OnOk};
 ghost use Rattle.replay_core.specs.Replay.{all_bytes};
-ghost use Rattle.replay_core.specs.Stepping.{IsOperation, StepsEvent, RunsLine};
+ghost use Rattle.replay_core.specs.Stepping.{RunsLine};
 ghost use Rattle.replay_core.specs.Tasks.{IsRead, AreRead, texts_of, RunsLines};
 
 use crate::tasks::{ReadLine, Task};
 use checking::add_line;
-use collection_store::Op;
 use ejson_codec::Lines;
-use ejson_value::{Mem, Text};
+use ejson_value::Mem;
 use std::alloc::Global;
 use world_core::{Hands, World};
-use world_events::Event;
 
 fn add_lines(output: &mut Vec<u8>, lines: &Lines) -> Result<(), Mem>
     ensures { OnOk result (output.new.items ≡ output.old.items ++ all_bytes lines.now) }
@@ -22,32 +18,6 @@ fn add_lines(output: &mut Vec<u8>, lines: &Lines) -> Result<(), Mem>
         add_line(output, line)?;
     }
     Ok(())
-}
-
-// Runs an event, and answers what it prints.
-fn run_event<H: Hands>(
-    hands: &H,
-    alloc: Global,
-    world: &mut World,
-    event: &Event,
-) -> Result<Lines, Mem>
-    requires { H.ready }
-    ensures { IfOk result (λ lines. (world.new ≡ step world.old event.now) × (lines ≡ lines_of world.old event.now)) }
-{
-    world.event(hands, event)?.lines(alloc)
-}
-
-// Makes the operation of which the text tells, and answers what it prints.
-fn run_operation(
-    alloc: Global,
-    world: &mut World,
-    text: &Text,
-    operation: &Op,
-) -> Result<Lines, Mem>
-    requires { IsOperation text.now operation.now }
-    ensures { IfOk result (StepsEvent text.now world.old world.new) }
-{
-    world.admin_told(text, operation)?.lines(alloc)
 }
 
 // Runs a line, and answers whether it is an event or blank.
@@ -62,14 +32,20 @@ fn run_line<H: Hands>(
     requires read { IsRead read.now }
     ensures { IfOk result (RunsLine read.now.line.now world.old world.new output.old.items output.new.items) }
 {
-    let lines = match &read.task {
-        Task::Nothing => return Ok(true),
-        Task::Bad => return Ok(false),
-        Task::Operation(text, operation) => run_operation(alloc, world, text, operation)?,
-        Task::Event(event) => run_event(hands, alloc, world, event)?,
-    };
-    add_lines(output, &lines)?;
-    Ok(true)
+    match &read.task {
+        Task::Nothing => Ok(true),
+        Task::Bad => Ok(false),
+        Task::Operation(text, operation) => {
+            let lines = world.admin_told(text, operation)?.lines(alloc)?;
+            add_lines(output, &lines)?;
+            Ok(true)
+        }
+        Task::Event(event) => {
+            let lines = world.event(hands, event)?.lines(alloc)?;
+            add_lines(output, &lines)?;
+            Ok(true)
+        }
+    }
 }
 
 /// Runs lines up to the first bad one, and answers the number of that, where the first has this
