@@ -1,5 +1,5 @@
 -- The causes of the statuses of a run.
-use Rattle.std.proofs.Common.{◌≡◌, ◌≤◌, ◌<◌, ℕ, List, [], Bool, true, false, Option, Some, None, length, take, subst, inl, inr}
+use Rattle.std.proofs.Common.{◌≡◌, ◌≤◌, ◌<◌, ℕ, List, [], Bool, true, false, Option, Some, None, length, take, sym, subst, ◌∙◌, inl, inr}
 use Rattle.std.specs.Prelude.{IfSome, is_some}
 use Rattle.io_edge.specs.Outside.{Grows}
 use Rattle.replay_core.specs.checking.Input.{input_limit, line_limit, lines_in, IsWithin, IsTooLong}
@@ -8,7 +8,7 @@ use Rattle.commands.specs.declared.command.Command.{Command}
 use Rattle.commands.specs.declared.command.Command.TheVariants as command
 use Rattle.commands.specs.declared.status.Status.{Status}
 use Rattle.commands.specs.declared.status.Status.TheVariants as status
-use Rattle.commands.specs.Cause.{output_of, bad_line_of, IsTrueRunOf, Ran, EndsAs, CauseOf}
+use Rattle.commands.specs.Cause.{reads, output_of, bad_line_of, IsTrueRunOf, Ran, EndsAs, CauseOf, CauseBy}
 
 -- ---- inputs
 
@@ -35,6 +35,7 @@ true_run : (c : Command) (input : List ℕ) → IsTrueRunOf c input
 true_run command.Check input = tt
 true_run command.Replay input = replays_are_true input
 true_run (command.Beat interval timeout) input = tt
+true_run (command.Gen seed calls) input = tt
 
 -- a run of any input is true, wherever it ends
 pub run_is_true : (c : Command) (o : Option (List ℕ)) → IfSome o (λ input. IsTrueRunOf c input)
@@ -65,3 +66,17 @@ cause_of c left rest bytes written now status.WriteFault same short whole ends =
 }
 cause_of c left rest bytes written now status.Memory same short whole ends = (run_is_true c left, ends)
 cause_of c left rest bytes written now _ same short whole ends = absurd ends
+
+-- ---- commands that read an input, and those that read none
+
+pub by_reading : (c : Command) (b : Bool) (left rest written now : Option (List ℕ)) (s : Status) → b ≡ reads c → b ≡ true → CauseOf c left rest written now s → CauseBy (reads c) c left rest written now s
+by_reading c b left rest written now s is reads_one cause = subst (λ (x : Bool). CauseBy x c left rest written now s) (sym reads_one ∙ is) cause
+
+pub by_none : (c : Command) (b : Bool) (left rest written now : Option (List ℕ)) (s : Status) → b ≡ reads c → b ≡ false → rest ≡ left → EndsAs c [] written now s → CauseBy (reads c) c left rest written now s
+by_none c b left rest written now s is reads_none same ends = subst (λ (x : Bool). CauseBy x c left rest written now s) (sym reads_none ∙ is) (same, ends)
+
+pub reading_is_used : (c : Command) (left rest written now : Option (List ℕ)) (s : Status) → CauseOf c left rest written now s → s ≡ status.Usage → ⊥
+reading_is_used c left rest written now s cause e = subst (λ (x : Status). CauseOf c left rest written now x) e cause
+
+pub ending_is_used : (c : Command) (input : List ℕ) (written now : Option (List ℕ)) (s : Status) → EndsAs c input written now s → s ≡ status.Usage → ⊥
+ending_is_used c input written now s ends e = subst (λ (x : Status). EndsAs c input written now x) e ends

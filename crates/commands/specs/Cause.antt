@@ -1,5 +1,5 @@
 -- When each status of a run comes, and what was read and written then.
-use Rattle.std.specs.Prelude.{◌≡◌, ℕ, List, [], ◌∷◌, take, Bool, true, false, Option, None, Some, is_some, IfSome, codes, option_and_then, option_map, if◌then◌else◌}
+use Rattle.std.specs.Prelude.{◌≡◌, ◌≤◌, ℕ, List, [], ◌∷◌, take, Bool, true, false, Option, None, Some, is_some, IfSome, codes, option_and_then, option_map, if◌then◌else◌}
 use Rattle.value_model.specs.Size.{is_name}
 use Rattle.io_edge.specs.Outside.{Grows}
 use Rattle.replay_core.specs.checking.Input.{IsWithin, IsTooLong}
@@ -7,6 +7,7 @@ use Rattle.replay_core.specs.checking.Check.{check_text, check_bad}
 use Rattle.heartbeat.specs.Beats.{IsTime, longest}
 use Rattle.command_words.specs.Number.{number_in}
 use Rattle.beating.specs.Run.{beat_text, beat_bad}
+use Rattle.generated_work.specs.Generated.{generated_input, max_calls}
 use Rattle.commands.specs.declared.command.Command.{Command}
 use Rattle.commands.specs.declared.command.Command.TheVariants as command
 use Rattle.commands.specs.declared.status.Status.{Status}
@@ -26,15 +27,29 @@ time_in word = number_in 1 longest word
 abbrev pub beat_of : List ℕ → List ℕ → Option Command
 beat_of interval timeout = option_and_then (λ i. option_map (λ t. command.Beat i t) (time_in timeout)) (time_in interval)
 
+-- the command `gen` with the numbers that these words tell
+abbrev pub gen_of : List ℕ → List ℕ → Option Command
+gen_of seed calls = option_and_then (λ n. option_map (λ c. command.Gen n c) (number_in 0 max_calls calls)) (number_in 0 4294967295 seed)
+
+-- the command that a word names with two behind it
+abbrev pub command_with : List ℕ → List ℕ → List ℕ → Option Command
+command_with word one two = if is_name word (codes "beat") then beat_of one two else (if is_name word (codes "gen") then gen_of one two else None)
+
 -- the command that the words name, if they are those of one
 abbrev pub command_in : List (List ℕ) → Option Command
 command_in (word ∷ []) = command_of word
-command_in (word ∷ interval ∷ timeout ∷ []) = if is_name word (codes "beat") then beat_of interval timeout else None
+command_in (word ∷ one ∷ two ∷ []) = command_with word one two
 command_in _ = None
+
+-- whether a command reads an input
+abbrev pub reads : Command → Bool
+reads (command.Gen seed calls) = false
+reads _ = true
 
 -- the numbers of a command are within what it takes
 abbrev pub HasBounds : Command → Type 0
 HasBounds (command.Beat interval timeout) = IsTime interval × IsTime timeout
+HasBounds (command.Gen seed calls) = calls ≤ max_calls
 HasBounds _ = Unit {0}
 
 -- the whole output of a command for an input
@@ -42,12 +57,14 @@ abbrev pub output_of : Command → List ℕ → List ℕ
 output_of command.Check input = check_text input
 output_of command.Replay input = replay_text input
 output_of (command.Beat interval timeout) input = beat_text interval timeout input
+output_of (command.Gen seed calls) input = generated_input seed calls
 
 -- the number of the first line that isn't of the grammar
 abbrev pub bad_line_of : Command → List ℕ → Option ℕ
 bad_line_of command.Check input = check_bad input
 bad_line_of command.Replay input = first_bad input
 bad_line_of (command.Beat interval timeout) input = beat_bad input
+bad_line_of (command.Gen seed calls) input = None
 
 -- what holds of the worlds of a replay
 abbrev pub IsTrueRunOf : Command → List ℕ → Type 0
@@ -87,7 +104,12 @@ CauseOf c left rest written now status.TooLong = IfSome left IsTooLong × Grows 
 CauseOf c left rest written now status.Memory = IfSome left (λ input. IsTrueRunOf c input) × Grows written now []
 CauseOf c left rest written now _ = ⊥
 
+-- The cause of a status of a command that reads an input, or of one that reads none: its source stays as it was, and it ends as for an empty input.
+abbrev pub CauseBy : Bool → Command → Option (List ℕ) → Option (List ℕ) → Option (List ℕ) → Option (List ℕ) → Status → Type 0
+CauseBy true c left rest written now s = CauseOf c left rest written now s
+CauseBy false c left rest written now s = (rest ≡ left) × EndsAs c [] written now s
+
 -- `Usage` comes exactly where the words name no command
 abbrev pub Cause : Option Command → Option (List ℕ) → Option (List ℕ) → Option (List ℕ) → Option (List ℕ) → Status → Type 0
 Cause None left rest written now s = s ≡ status.Usage
-Cause (Some c) left rest written now s = CauseOf c left rest written now s
+Cause (Some c) left rest written now s = CauseBy (reads c) c left rest written now s

@@ -1,8 +1,9 @@
 //! All that a command does, over any source and sink.
-ghost use Rattle.std.specs.Prelude.{◌≡◌, ◌≢◌, ◌↔◌, ◌<◌, ◌≤◌, [], length, Some, Err, IfOk, IfSome, OnOk};
+ghost use Rattle.std.specs.Prelude.{◌≡◌, ◌≢◌, ◌↔◌, ◌<◌, ◌≤◌, [], length, Some, None, Err, IfOk, IfSome, OnOk};
 ghost use Rattle.replay_core.specs.checking.Input.{input_limit, IsWithin, IsTooLong};
 ghost use Rattle.io_edge.specs.declared.whole.ReadAll.TheVariants as ReadAll;
-ghost use Rattle.commands.specs.Cause.{Cause, CauseOf, EndsAs, HasBounds, command_in, output_of, bad_line_of};
+ghost use Rattle.commands.specs.Cause.{Cause, CauseOf, CauseBy, EndsAs, reads, HasBounds, command_in, output_of, bad_line_of};
+ghost use Rattle.generated_work.specs.Generated.{generated_input};
 ghost use Rattle.commands.specs.declared.status.Status.TheVariants as status;
 
 use crate::command::{Command, command_in};
@@ -10,6 +11,7 @@ use crate::reason::{Wanted, reason_for};
 use crate::status::Status;
 use beating::beat;
 use ejson_value::{Bytes, Mem, Text};
+use generated_work::generate_input;
 use io_edge::{ReadAll, Sink, Source, read_all, write_all};
 use replay_core::checking::{INPUT_LIMIT, LINE_LIMIT, Outcome, check, count_lines};
 use replay_core::{Plain, Replayer, Threaded, World};
@@ -21,6 +23,7 @@ use std::thread::Threads;
 fn wanted(command: Command, number: u32) -> Wanted {
     match command {
         Command::Beat { .. } => Wanted::Moment,
+        Command::Gen { .. } => Wanted::Nothing,
         _ if number == 1 => Wanted::Application,
         Command::Check => Wanted::Nothing,
         Command::Replay => Wanted::Event,
@@ -53,6 +56,17 @@ pub fn read_input<I: Source>(alloc: Global, input: &mut I) -> Result<Bytes, Read
     Ok(bytes)
 }
 
+// What generated work writes.
+fn generated(alloc: Global, seed: u32, calls: u32) -> Result<Outcome, Mem>
+    ensures text { IfOk result (λ o. o.text.items ≡ generated_input seed calls) }
+    ensures bad { IfOk result (λ o. o.bad_line ≡ None) }
+{
+    Ok(Outcome {
+        text: generate_input(alloc, seed, calls)?,
+        bad_line: None,
+    })
+}
+
 // What a command writes for an input.
 fn outcome_of<R: Replayer>(
     replayer: &R,
@@ -71,6 +85,7 @@ fn outcome_of<R: Replayer>(
         Command::Check => check(alloc, input),
         Command::Replay => replayer.replay(alloc, input, left),
         Command::Beat { interval, timeout } => beat(alloc, interval, timeout, input),
+        Command::Gen { seed, calls } => generated(alloc, seed, calls),
     }
 }
 
@@ -128,7 +143,7 @@ fn run_input<R: Replayer, O: Sink>(
 
 // Reads the input of a command, runs it and writes its output.
 #[tactic(auto, using(crate::proofs::Causes::run_is_true))]
-fn run_command<R: Replayer, I: Source, O: Sink>(
+fn run_reading<R: Replayer, I: Source, O: Sink>(
     replayer: &R,
     alloc: Global,
     command: Command,
@@ -161,6 +176,32 @@ fn run_command<R: Replayer, I: Source, O: Sink>(
     }
 }
 
+// Runs a command, over its input where it reads one.
+fn run_command<R: Replayer, I: Source, O: Sink>(
+    replayer: &R,
+    alloc: Global,
+    command: Command,
+    input: &mut I,
+    output: &mut O,
+    reason: &mut Text,
+    left: &mut Option<World>,
+) -> Status
+    requires ready { R.ready }
+    requires bounds { HasBounds command }
+    ensures cause { CauseBy (reads command) command (I.left input.old) (I.left input.new)
+        (O.written output.old) (O.written output.new) result }
+    ensures usage { result ≢ Status.Usage }
+    ensures read_fault { (result ≡ Status.ReadFault) ↔ (I.faults input.old < I.faults input.new) }
+    ensures write_fault { (result ≡ Status.WriteFault) ↔ (O.faults output.old < O.faults output.new) }
+    ensures told { result ≢ Status.BadInput → reason.new ≡ reason.old }
+{
+    if command.reads() {
+        run_reading(replayer, alloc, command, input, output, reason, left)
+    } else {
+        run_input(replayer, alloc, command, &[], output, reason, left)
+    }
+}
+
 // Runs the command that the words name, a replay by this replayer.
 fn run_by<R: Replayer, I: Source, O: Sink>(
     replayer: &R,
@@ -185,13 +226,14 @@ fn run_by<R: Replayer, I: Source, O: Sink>(
     }
 }
 
-/// Runs the command that the words name, over an input that it reads whole. Other words are `Usage`,
+/// Runs the command that the words name, over an input that it reads whole, where it reads one. Other words are `Usage`,
 /// and nothing is read or written then.
 ///
 /// `check` writes `["ok"]` where the first line is an application, and otherwise `["fault",number,place]`
 /// and `["bad",1]`; where that line is missing or no EJSON value, `["bad",1]` alone. A further line that
 /// isn't blank is bad. `replay` runs the lines behind the application as events and writes what they print.
-/// `beat INTERVAL TIMEOUT` hands a heart the moments of its lines, and writes what it answers.
+/// `beat INTERVAL TIMEOUT` hands a heart the moments of its lines, and writes what it answers. `gen N CALLS` reads nothing,
+/// and writes the input of a drive of that many calls, drawn from N.
 ///
 /// `cause` says when each status comes, what was read and written then, and what holds of the worlds
 /// of a replay, also where it ended for want of memory: after every event the headline, what each client

@@ -1,4 +1,4 @@
-//! The program `ddp`: a reactive data server and its client, with the commands `check`, `replay`, `beat`, `serve` and `console`, and the
+//! The program `ddp`: a reactive data server and its client, with the commands `check`, `replay`, `beat`, `gen`, `serve` and `console`, and the
 //! last two with hearts: `serve-beat` and `console-beat`.
 #![tactic(auto)]
 

@@ -5,7 +5,7 @@ use clap::Command;
 use std::alloc::{AllocError, Global};
 
 // Each command that is built: its words, and what it does.
-const COMMANDS: [(&str, &str); 7] = [
+const COMMANDS: [(&str, &str); 8] = [
     (
         "check",
         "Tells whether line 1 of standard input is an application, or what is wrong with it and where",
@@ -17,6 +17,10 @@ const COMMANDS: [(&str, &str); 7] = [
     (
         "beat INTERVAL TIMEOUT",
         "Tells of each moment on standard input whether a ping is due or a link is at its end; the words are milliseconds",
+    ),
+    (
+        "gen N CALLS",
+        "Writes the input of a drive of that many calls, drawn from N; it reads nothing",
     ),
     (
         "serve PORT CONNECTIONS",

@@ -1,17 +1,21 @@
-use Rattle.std.proofs.Common.{ℕ, List, subst, rules}
-use Rattle.commands.specs.Cause.{EndsAs}
-use Rattle.commands.proofs.Causes.{cause_of, run_is_true}
+use Rattle.std.proofs.Common.{[], refl}
+use Rattle.commands.proofs.Causes.{by_reading, by_none, reading_is_used, ending_is_used}
 use Rattle.commands.proofs.run.run_command.Goals as goal
 
-pub returns-in-Ok-clause-cause : goal.returns-in-Ok-clause-cause
-returns-in-Ok-clause-cause g c =
-    let command = c.args.command in
-    let before = g.O.Sink.written c.args.output.now in
-    let now = g.O.Sink.written c.run_input.new.output in
-    let ends = subst (λ (bytes : List ℕ). EndsAs command bytes before now c.run_input.result) c.as_slice.ensures.value c.run_input.ensures.ends in
-    let left = g.I.Source.left c.args.input.now in
-    let rest = g.I.Source.left c.read_input.new.input in
-    cause_of command left rest c.in-Ok.bytes before now c.run_input.result c.in-Ok.ensures.all c.in-Ok.ensures.within c.in-Ok.ensures.end ends
+pub returns-then-reads-clause-cause : goal.returns-then-reads-clause-cause
+returns-then-reads-clause-cause g c =
+    by_reading c.args.command c.reads.result (g.I.Source.left c.args.input.now) (g.I.Source.left c.run_reading.new.input) (g.O.Sink.written c.args.output.now) (g.O.Sink.written c.run_reading.new.output) c.run_reading.result
+    c.reads.ensures c.if-reads.true c.run_reading.ensures.cause
 
-pub returns-in-Err-Memory-clause-cause : goal.returns-in-Err-Memory-clause-cause
-returns-in-Err-Memory-clause-cause g c = (run_is_true c.args.command (g.I.Source.left c.args.input.now), search rules)
+pub returns-then-reads-clause-usage : goal.returns-then-reads-clause-usage
+returns-then-reads-clause-usage g c =
+    reading_is_used c.args.command (g.I.Source.left c.args.input.now) (g.I.Source.left c.run_reading.new.input) (g.O.Sink.written c.args.output.now) (g.O.Sink.written c.run_reading.new.output) c.run_reading.result
+    c.run_reading.ensures.cause
+
+pub returns-else-reads-clause-cause : goal.returns-else-reads-clause-cause
+returns-else-reads-clause-cause g c =
+    by_none c.args.command c.reads.result (g.I.Source.left c.args.input.now) (g.I.Source.left c.args.input.now) (g.O.Sink.written c.args.output.now) (g.O.Sink.written c.run_input.new.output) c.run_input.result
+    c.reads.ensures c.if-reads.false refl c.run_input.ensures.ends
+
+pub returns-else-reads-clause-usage : goal.returns-else-reads-clause-usage
+returns-else-reads-clause-usage g c = ending_is_used c.args.command [] (g.O.Sink.written c.args.output.now) (g.O.Sink.written c.run_input.new.output) c.run_input.result c.run_input.ensures.ends
