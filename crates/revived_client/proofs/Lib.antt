@@ -1,0 +1,5 @@
+mod Catching
+mod Copied
+mod Hearing
+mod Keeping
+mod Seen
