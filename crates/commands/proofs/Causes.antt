@@ -34,6 +34,7 @@ keeps_within bytes short few = record { bytes = short; lines = few }
 true_run : (c : Command) (input : List ℕ) → IsTrueRunOf c input
 true_run command.Check input = tt
 true_run command.Replay input = replays_are_true input
+true_run command.Revive input = tt
 true_run (command.Beat interval timeout) input = tt
 true_run (command.Gen seed calls) input = tt
 

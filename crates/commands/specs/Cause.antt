@@ -8,6 +8,7 @@ use Rattle.heartbeat.specs.Beats.{IsTime, longest}
 use Rattle.command_words.specs.Number.{number_in}
 use Rattle.beating.specs.Run.{beat_text, beat_bad}
 use Rattle.generated_work.specs.Generated.{generated_input, max_calls}
+use Rattle.reviving.specs.Run.{revive_text, revive_bad}
 use Rattle.commands.specs.declared.command.Command.{Command}
 use Rattle.commands.specs.declared.command.Command.TheVariants as command
 use Rattle.commands.specs.declared.status.Status.{Status}
@@ -17,7 +18,11 @@ use Rattle.replay_core.specs.Truth.{IsTrueReplay}
 
 -- the command that the word names alone
 abbrev pub command_of : List ℕ → Option Command
-command_of word = if is_name word (codes "check") then Some command.Check else (if is_name word (codes "replay") then Some command.Replay else None)
+command_of word =
+    if is_name word (codes "check") then Some command.Check
+    else if is_name word (codes "replay") then Some command.Replay
+    else if is_name word (codes "revive") then Some command.Revive
+    else None
 
 -- a number of milliseconds that a heart takes
 abbrev pub time_in : List ℕ → Option ℕ
@@ -56,6 +61,7 @@ HasBounds _ = Unit {0}
 abbrev pub output_of : Command → List ℕ → List ℕ
 output_of command.Check input = check_text input
 output_of command.Replay input = replay_text input
+output_of command.Revive input = revive_text input
 output_of (command.Beat interval timeout) input = beat_text interval timeout input
 output_of (command.Gen seed calls) input = generated_input seed calls
 
@@ -63,6 +69,7 @@ output_of (command.Gen seed calls) input = generated_input seed calls
 abbrev pub bad_line_of : Command → List ℕ → Option ℕ
 bad_line_of command.Check input = check_bad input
 bad_line_of command.Replay input = first_bad input
+bad_line_of command.Revive input = revive_bad input
 bad_line_of (command.Beat interval timeout) input = beat_bad input
 bad_line_of (command.Gen seed calls) input = None
 

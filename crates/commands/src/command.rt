@@ -15,6 +15,8 @@ pub enum Command {
     Check,
     /// Runs the lines as events and tells what they show.
     Replay,
+    /// Runs the lines with a client that lives through several links and tells what it says and shows.
+    Revive,
     /// Hands a heart of these times, in milliseconds, the moments of the lines, and tells what it answers.
     Beat { interval: u32, timeout: u32 },
     /// Writes the input of a drive of this many calls, drawn from this number.
@@ -27,7 +29,7 @@ impl Command {
         ensures { result ≡ reads self }
     {
         match self {
-            Command::Check | Command::Replay | Command::Beat { .. } => true,
+            Command::Check | Command::Replay | Command::Revive | Command::Beat { .. } => true,
             Command::Gen { .. } => false,
         }
     }
@@ -42,6 +44,8 @@ fn command_of(word: &Text) -> Option<Command>
         Some(Command::Check)
     } else if word.as_str() == "replay" {
         Some(Command::Replay)
+    } else if word.as_str() == "revive" {
+        Some(Command::Revive)
     } else {
         None
     }

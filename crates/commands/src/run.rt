@@ -15,6 +15,7 @@ use generated_work::generate_input;
 use io_edge::{ReadAll, Sink, Source, read_all, write_all};
 use replay_core::checking::{INPUT_LIMIT, LINE_LIMIT, Outcome, check, count_lines};
 use replay_core::{Plain, Replayer, Threaded, World};
+use reviving::revive;
 use std::alloc::Global;
 use std::marker::Sync;
 use std::thread::Threads;
@@ -26,7 +27,7 @@ fn wanted(command: Command, number: u32) -> Wanted {
         Command::Gen { .. } => Wanted::Nothing,
         _ if number == 1 => Wanted::Application,
         Command::Check => Wanted::Nothing,
-        Command::Replay => Wanted::Event,
+        Command::Replay | Command::Revive => Wanted::Event,
     }
 }
 
@@ -84,6 +85,7 @@ fn outcome_of<R: Replayer>(
     match command {
         Command::Check => check(alloc, input),
         Command::Replay => replayer.replay(alloc, input, left),
+        Command::Revive => revive(alloc, input),
         Command::Beat { interval, timeout } => beat(alloc, interval, timeout, input),
         Command::Gen { seed, calls } => generated(alloc, seed, calls),
     }
@@ -232,6 +234,7 @@ fn run_by<R: Replayer, I: Source, O: Sink>(
 /// `check` writes `["ok"]` where the first line is an application, and otherwise `["fault",number,place]`
 /// and `["bad",1]`; where that line is missing or no EJSON value, `["bad",1]` alone. A further line that
 /// isn't blank is bad. `replay` runs the lines behind the application as events and writes what they print.
+/// `revive` runs them with a client that lives through several links, and writes what it says and shows.
 /// `beat INTERVAL TIMEOUT` hands a heart the moments of its lines, and writes what it answers. `gen N CALLS` reads nothing,
 /// and writes the input of a drive of that many calls, drawn from N.
 ///

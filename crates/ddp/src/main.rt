@@ -1,5 +1,5 @@
-//! The program `ddp`: a reactive data server and its client, with the commands `check`, `replay`, `beat`, `gen`, `serve` and `console`, and the
-//! last two with hearts: `serve-beat` and `console-beat`.
+//! The program `ddp`: a reactive data server and its client, with the commands `check`, `replay`, `revive`, `beat`, `gen`, `serve` and
+//! `console`, and the last two with hearts: `serve-beat` and `console-beat`.
 #![tactic(auto)]
 
 mod announcing;

@@ -1,6 +1,7 @@
-//! Runs the examples, and tells of each script whether its application is one and its run writes what stands beside it,
-//! of each file of rows whether `check` answers to their applications what stands behind them, and of each file of runs
-//! whether the words and lines of each lead to the status and the lines behind them.
+//! Runs the examples, and tells of each script whether its application is one and its run writes what stands beside it (a
+//! script in the folder `revive` is one of that command, any other is one of `replay`), of each file of rows whether `check`
+//! answers to their applications what stands behind them, and of each file of runs whether the words and lines of each lead
+//! to the status and the lines behind them.
 #![tactic(auto)]
 
 use commands::{Status, run_plain};
@@ -79,9 +80,18 @@ fn are_answered(alloc: Global, rows: &str) -> Result<bool, Mem> {
     Ok(true)
 }
 
-fn is_right(alloc: Global, script: &str, output: &str) -> Result<bool, Mem> {
+fn is_right(alloc: Global, command: &str, script: &str, output: &str) -> Result<bool, Mem> {
     let application = script.lines().next().unwrap_or("");
-    Ok(is_taken(alloc, application)? && writes(alloc, "replay", script, Status::Ok, output)?)
+    Ok(is_taken(alloc, application)? && writes(alloc, command, script, Status::Ok, output)?)
+}
+
+// The command that runs the script of this name.
+fn command_of(name: &str) -> &'static str {
+    if name.starts_with("revive/") {
+        "revive"
+    } else {
+        "replay"
+    }
 }
 
 // The words of a row, which spaces part.
@@ -147,7 +157,12 @@ fn told_of_rows(rt: &HostRuntime, name: &str) -> io::Result<&'static str> {
 fn told_of_script(rt: &HostRuntime, name: &str) -> io::Result<&'static str> {
     let script = fs::read_to_string(rt, format!(in rt.alloc(); "{name}.jsonl")?)?;
     let output = fs::read_to_string(rt, format!(in rt.alloc(); "{name}.out")?)?;
-    Ok(word(is_right(rt.alloc(), script.as_str(), output.as_str())))
+    Ok(word(is_right(
+        rt.alloc(),
+        command_of(name),
+        script.as_str(),
+        output.as_str(),
+    )))
 }
 
 fn told_of_runs(rt: &HostRuntime, name: &str) -> io::Result<&'static str> {

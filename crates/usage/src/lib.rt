@@ -15,6 +15,10 @@ const COMMANDS: [(&str, &str); 8] = [
         "Runs the application and the events on standard input, a line each, and prints what they show",
     ),
     (
+        "revive",
+        "Runs a client of the application on standard input that lives through several links, and prints what it says and shows",
+    ),
+    (
         "beat INTERVAL TIMEOUT",
         "Tells of each moment on standard input whether a ping is due or a link is at its end; the words are milliseconds",
     ),
