@@ -1,5 +1,6 @@
 //! The program `ddp`: a reactive data server and its client, with the commands `check`, `replay`, `revive`, `beat`, `gen`, `serve` and
-//! `console`, and the last two with hearts: `serve-beat` and `console-beat`.
+//! `console`; with hearts the last two are `serve-beat` and `console-beat`, and a console that goes on over further links is
+//! `console-retry`.
 #![tactic(auto)]
 
 mod announcing;

@@ -15,9 +15,12 @@ use Rattle.client_script.specs.declared.end.ConsoleEnd.{ConsoleEnd}
 use Rattle.client_script.specs.declared.end.ConsoleEnd.TheVariants as ended
 use Rattle.client_script.specs.Ends.{is_link_fault}
 use Rattle.console_run.specs.Console.{Consoles}
+use Rattle.console_retry.specs.Retries.{RunsRetried}
+use Rattle.console_retry.specs.Retries as retries
 use Rattle.network_commands.specs.declared.command.NetworkCommand.{NetworkCommand}
 use Rattle.network_commands.specs.declared.command.NetworkCommand.TheVariants as command
-use Rattle.network_commands.specs.Words.{network_command_in}
+use Rattle.network_commands.specs.declared.command.RetryCommand.{RetryCommand}
+use Rattle.network_commands.specs.Words.{network_command_in, retry_command_in}
 use Rattle.network_commands.specs.Input.{bad_line_of, app_in, script_in}
 
 -- ---- what is known of the outside at one moment
@@ -145,14 +148,27 @@ module _ {L : Type 0} (steps : L → Call → L → Type 0) (faults : L → ℕ)
   abbrev pub Talks : App → List Line → Outside → Outside → Status → Type 0
   Talks app script before now s = RunsScript (Consoles steps) is_link_fault ComesTo faults app script before now s ⊎ HasNoLink before now s
 
+  -- The script of a console that goes on over further links, so many at most. `shown` is what was written once it had ended.
+  pub record Retried (tries : ℕ) (app : App) (script : List Line) (before now : Outside) (s : Status) : Type 0 where
+    pub shown : Option (List ℕ)
+    pub end : ConsoleEnd
+    pub ran : RunsRetried steps faults script app tries
+        (retries.outside before.written before.net.given before.net.faults) (retries.outside shown now.net.given now.net.faults) end
+    pub told : ComesTo end shown now.written s
+
   -- The cause of a status of a run: that of the command which the words name. Where they name none for which a network is needed, it is that of any
   -- other command.
   abbrev pub RunCauseOf : Option NetworkCommand → List (List ℕ) → Option (List ℕ) → Option (List ℕ) → Outside → Outside → Status → Type 0
   RunCauseOf (Some c) words left rest before now s = CauseOf Talks c left rest before now s
   RunCauseOf None words left rest before now s = Cause (command_in words) left rest before.written now.written s
 
+  -- a console that goes on over further links is one whose script ends so
+  abbrev pub RetryCauseOf : Option RetryCommand → List (List ℕ) → Option (List ℕ) → Option (List ℕ) → Outside → Outside → Status → Type 0
+  RetryCauseOf (Some c) words left rest before now s = CauseOf (Retried c.tries) (command.Console c.port) left rest before now s
+  RetryCauseOf None words left rest before now s = RunCauseOf (network_command_in words) words left rest before now s
+
   abbrev pub RunCause : List (List ℕ) → Option (List ℕ) → Option (List ℕ) → Outside → Outside → Status → Type 0
-  RunCause words left rest before now s = RunCauseOf (network_command_in words) words left rest before now s
+  RunCause words left rest before now s = RetryCauseOf (retry_command_in words) words left rest before now s
 
 -- the network isn't asked for anything then
 abbrev pub IsUnasked : Status → Type 0

@@ -6,6 +6,7 @@ use Rattle.command_words.specs.Number.{number_in}
 use Rattle.commands.specs.Cause.{time_in}
 use Rattle.network_commands.specs.declared.command.NetworkCommand.{NetworkCommand}
 use Rattle.network_commands.specs.declared.command.NetworkCommand.TheVariants as command
+use Rattle.network_commands.specs.declared.command.RetryCommand.{RetryCommand}
 use Rattle.network_commands.specs.declared.command.TimedCommand.{TimedCommand}
 
 -- a TCP port
@@ -27,6 +28,23 @@ abbrev pub network_command_in : List (List ℕ) → Option NetworkCommand
 network_command_in (word ∷ port ∷ []) = if is_name word (codes "console") then console_of port else None
 network_command_in (word ∷ port ∷ connections ∷ []) = if is_name word (codes "serve") then serve_of port connections else None
 network_command_in _ = None
+
+-- ---- over further links
+
+-- how many further links a console may be given
+abbrev pub tries_in : List ℕ → Option ℕ
+tries_in word = number_in 1 16 word
+
+abbrev pub retried : ℕ → ℕ → RetryCommand
+retried port tries = record { port = port; tries = tries }
+
+abbrev pub retry_of : List ℕ → List ℕ → Option RetryCommand
+retry_of port tries = option_and_then (λ p. option_map (retried p) (tries_in tries)) (port_in port)
+
+-- the command that the words name, if they are those of a console that goes on over further links
+abbrev pub retry_command_in : List (List ℕ) → Option RetryCommand
+retry_command_in (word ∷ port ∷ tries ∷ []) = if is_name word (codes "console-retry") then retry_of port tries else None
+retry_command_in _ = None
 
 -- ---- over links that hearts watch
 

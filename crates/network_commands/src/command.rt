@@ -1,6 +1,6 @@
 //! The words that name commands of a network.
 ghost use Rattle.std.specs.Prelude.{◌≡◌, IfSome};
-ghost use Rattle.network_commands.specs.Words.{port_in, connections_in, serve_of, console_of, network_command_in, timed_of, console_beat_of, serve_beat_of, timed_command_in, HasTimes};
+ghost use Rattle.network_commands.specs.Words.{port_in, connections_in, tries_in, serve_of, console_of, network_command_in, retry_of, retry_command_in, timed_of, console_beat_of, serve_beat_of, timed_command_in, HasTimes};
 
 use command_words::number_in;
 use commands::time_in;
@@ -9,6 +9,9 @@ use ejson_value::Text;
 // The greatest port, and the most connections that a server may be asked to serve.
 const MOST: u32 = 65535;
 
+// How many further links a console may be given at most.
+const MOST_TRIES: u32 = 16;
+
 /// A command that needs a network.
 #[derive(Clone, Copy, Debug, PartialEq, Eq)]
 pub enum NetworkCommand {
@@ -16,6 +19,13 @@ pub enum NetworkCommand {
     Serve { port: u16, connections: u32 },
     /// Connects to this port and runs a script.
     Console { port: u16 },
+}
+
+/// A console that goes on over further links, so many at most.
+#[derive(Clone, Copy, Debug, PartialEq, Eq)]
+pub struct RetryCommand {
+    pub(crate) port: u16,
+    pub(crate) tries: u32,
 }
 
 /// A command over links that hearts with these times, in milliseconds, watch.
@@ -41,6 +51,12 @@ fn connections_in(word: &Text) -> Option<u32>
     number_in(1, MOST, word.as_str())
 }
 
+fn tries_in(word: &Text) -> Option<u32>
+    ensures { result ≡ tries_in word.now }
+{
+    number_in(1, MOST_TRIES, word.as_str())
+}
+
 fn serve_of(port: &Text, connections: &Text) -> Option<NetworkCommand>
     ensures { result ≡ serve_of port.now connections.now }
 {
@@ -63,6 +79,24 @@ pub(crate) fn network_command_in(words: &[Text]) -> Option<NetworkCommand>
     match words {
         [word, port, connections] if word.as_str() == "serve" => serve_of(port, connections),
         [word, port] if word.as_str() == "console" => console_of(port),
+        _ => None,
+    }
+}
+
+fn retry_of(port: &Text, tries: &Text) -> Option<RetryCommand>
+    ensures { result ≡ retry_of port.now tries.now }
+{
+    let port = port_in(port)?;
+    let tries = tries_in(tries)?;
+    Some(RetryCommand { port, tries })
+}
+
+// The command that the words name, if they are those of a console that goes on over further links.
+pub(crate) fn retry_command_in(words: &[Text]) -> Option<RetryCommand>
+    ensures { result ≡ retry_command_in words.now }
+{
+    match words {
+        [word, port, tries] if word.as_str() == "console-retry" => retry_of(port, tries),
         _ => None,
     }
 }

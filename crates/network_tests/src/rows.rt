@@ -31,6 +31,14 @@ console 4000 < @|["show"]|x < #. => 3; ["bad",3]|; line 3 is no line of a script
 console 4000 < @|[5] < #. => 3; ["bad",2]|; line 2 is no line of a script: it does not begin with sub, unsub, call, wait or show; nothing was run
 console 4000 < @|5 < #. => 3; ["bad",2]|; line 2 is no line of a script: it is not a list; nothing was run
 console 4000 < 5|x < #. => 3; ["bad",1]|; line 1 is no application: a part of another form, at its top
+console-retry 4000 1 < @|["sub","1","all",[]]|["wait"]|["show"] < #{"msg":"connected","session":"S1"}|{"msg":"added","collection":"tasks","id":"t1","fields":{"n":1}}|.#{"msg":"connected","session":"S2"}|{"msg":"ready","subs":["1"]} => 0; ["show","console"]|["sub","1","ready"]|; 
+console-retry 4000 2 < @|["wait"] < #x#.#{"msg":"connected","session":"S1"} => 0; ; 
+console-retry 4000 1 < @|["wait"] < #.#.#{"msg":"connected","session":"S1"} => 11; ; 
+console-retry 4000 1 < @|["wait"] < #.#x => 8; ; 
+console-retry 4000 1 < @|["wait"] < #. => 8; ; 
+console-retry 4000 1 < @|["wait"] < #.#{"msg":"ready","subs":["1"]} => 9; ["server sent",3]|; 
+console-retry 4000 1 < @|["wait"] < #.#{"msg":"failed","version":"1"} => 10; ; 
+console-retry 4000 16 < @|["wait"]|["jump"] < #. => 3; ["bad",3]|; line 3 is no line of a script: there is none named "jump" with these parts; nothing was run
 check < @ < #. => 0; ["ok"]|; 
 replay < @|["show","zz"] < #. => 0; ["idle"]|; 
 beat 100 50 < ["tick",0]|["tick",100] < #. => 0; ["none"]|["ping"]|; 
@@ -57,6 +65,7 @@ console 4000 < @|["show"] < #{"msg":"connected","session":"S1"} => 5; ;
 console 4000 < @ < #{"msg":"ready","subs":["1"]} => 5; ; 
 console-beat 4000 100 50 < @|["show"] < #{"msg":"connected","session":"S1"} => 5; ; 
 console-beat 4000 100 50 < @ < #{"msg":"ready","subs":["1"]} => 5; ; 
+console-retry 4000 1 < @|["show"] < #.#{"msg":"connected","session":"S1"} => 5; ; 
 check < @ < #. => 5; ; 
 "#;
 
@@ -78,6 +87,11 @@ console +1
 console 65536
 console
 console 4000 1
+console-retry 4000
+console-retry 4000 0
+console-retry 4000 17
+console-retry 0 1
+console-retry 4000 1 1
 -- serve 4000 1
 -- check
 --help

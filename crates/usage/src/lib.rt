@@ -5,7 +5,7 @@ use clap::Command;
 use std::alloc::{AllocError, Global};
 
 // Each command that is built: its words, and what it does.
-const COMMANDS: [(&str, &str); 8] = [
+const COMMANDS: [(&str, &str); 10] = [
     (
         "check",
         "Tells whether line 1 of standard input is an application, or what is wrong with it and where",
@@ -37,6 +37,10 @@ const COMMANDS: [(&str, &str); 8] = [
     (
         "console PORT",
         "Connects to a server at that port, runs the script that follows the application on standard input, and prints what it shows",
+    ),
+    (
+        "console-retry PORT TRIES",
+        "Does the same, and goes on over a new link where one is lost, at most so many times",
     ),
     (
         "console-beat PORT INTERVAL TIMEOUT",
