@@ -317,10 +317,11 @@ impl<N: StoreName> HeldSession<N> {
         self.session.limited()
     }
 
-    /// The session and the pass.
+    /// The session, which is one of the store's application, and the pass.
     pub fn finish(self) -> (Session, StorePass<N>)
         ensures session { result.0 ≡ self.session }
         ensures pass { result.1 ≡ self.list }
+        ensures served { self.session.carried.app ≡ N.app }
         ensures stands { Stands self }
     {
         let HeldSession { session, pass } = self;

@@ -293,13 +293,15 @@ impl<N: StoreName> HeldStore<N> {
         Ok(Some(self.machine.batch(from, count)?))
     }
 
-    /// The machine, when all callers are back.
+    /// The machine, when all callers are back. It has the store's own history.
     pub fn finish(self, log: &Log<Entry, N>, callers: Callers<N>, note: Note<Entry, N>) -> Machine
         requires parts { N.parts ≡ 65537 }
         requires back { out_of callers.given ≡ 0 }
         ensures app { result.app ≡ N.app }
+        ensures history { result.history ≡ self }
         ensures legal { IsLegal (programs N.app) result.history }
         ensures begins { IsPrefix note result.history }
+        ensures callers { IsPrefix callers.list result.history }
         ensures exact { AreExact result.history callers.given }
         ensures total { counted result.history ≡ amounts callers.given }
     {

@@ -154,6 +154,7 @@ impl<N: StoreName> SharedStore<N> {
         ensures app { result.app ≡ N.app }
         ensures legal { IsLegal (programs N.app) result.history }
         ensures begins { IsPrefix note result.history }
+        ensures callers { IsPrefix callers.list result.history }
         ensures exact { AreExact result.history callers.given }
         ensures total { counted result.history ≡ amounts callers.given }
     {
