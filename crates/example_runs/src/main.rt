@@ -1,17 +1,22 @@
 //! Runs the examples, and tells of each script whether its application is one and its run writes what stands beside it (a
 //! script in the folder `revive` is one of that command, any other is one of `replay`), of each file of rows whether `check`
-//! answers to their applications what stands behind them, and of each file of runs whether the words and lines of each lead
-//! to the status and the lines behind them.
+//! answers to their applications what stands behind them, of each file of runs whether the words and lines of each lead to the
+//! status and the lines behind them, and of each file of inputs whether the words and the bytes of each lead to the status, the
+//! output and the reason behind them, also where a read or a write fails.
 #![tactic(auto)]
 
 use commands::{Status, run_plain};
 use ejson_value::{Bytes, Mem, Text};
 use io_edge::{Calls, MemorySink, MemorySource};
 use std::alloc::Global;
-use std::{env, fs, io};
+use std::{env, fs, io, str};
 
 // How many bytes an output may have.
 const ROOM: u64 = 65536;
+
+// The application that a row of inputs writes as `@`.
+const APPLICATION: &str =
+    r#"{"collections":["tasks"],"methods":{},"publications":{"all":[{"collection":"tasks"}]}}"#;
 
 fn source_of(alloc: Global, input: &str) -> Result<MemorySource, Mem> {
     let bytes = Vec::from_slice(alloc, input.as_bytes())?;
@@ -141,6 +146,118 @@ fn are_runs(alloc: Global, rows: &str) -> Result<bool, Mem> {
     Ok(true)
 }
 
+// Puts the byte that a row writes so: `|` is the end of a line, `@` the application and `~` a byte that is no UTF-8.
+fn put(bytes: &mut Vec<u8>, byte: u8) -> Result<(), Mem> {
+    match byte {
+        b'@' => bytes.extend_from_slice(APPLICATION.as_bytes())?,
+        b'|' => bytes.push(b'\n')?,
+        b'~' => bytes.push(255)?,
+        _ => bytes.push(byte)?,
+    }
+    Ok(())
+}
+
+// `N bytes`: spaces up to so many bytes; `N lines`: so many line ends more.
+fn grow(bytes: &mut Vec<u8>, how: &str) -> Result<(), Mem> {
+    let (number, unit) = how.split_once(' ').unwrap_or((how, ""));
+    let number = number.parse::<u64>().unwrap_or(0) as usize;
+    match unit {
+        "bytes" => bytes.resize(number, b' ')?,
+        "lines" => {
+            let length = bytes.len().saturating_add(number);
+            bytes.resize(length, b'\n')?
+        }
+        _ => {}
+    }
+    Ok(())
+}
+
+fn bytes_of(alloc: Global, input: &str, how: &str) -> Result<Vec<u8>, Mem> {
+    let mut bytes = Vec::new(alloc);
+    for byte in input.as_bytes() {
+        put(&mut bytes, *byte)?;
+    }
+    grow(&mut bytes, how)?;
+    Ok(bytes)
+}
+
+// `read N` or `write N`: the call that fails.
+fn failing(alloc: Global, call: &str, how: &str) -> Result<Calls, Mem> {
+    let mut calls = Calls::new(alloc);
+    let number = how.strip_prefix(call).unwrap_or("");
+    if let Ok(number) = number.parse::<u64>() {
+        calls.push(number)?;
+    }
+    Ok(calls)
+}
+
+fn source(alloc: Global, input: &str, how: &str) -> Result<MemorySource, Mem> {
+    let bytes = bytes_of(alloc, input, how)?;
+    let calls = failing(alloc, "read ", how)?;
+    Ok(MemorySource::new(Bytes::from_vec(bytes), calls))
+}
+
+fn sink(alloc: Global, how: &str) -> Result<MemorySink, Mem> {
+    let calls = failing(alloc, "write ", how)?;
+    MemorySink::new(alloc, ROOM, calls)
+}
+
+// The words of a row of inputs; one space parts two of them.
+fn parted(alloc: Global, row: &str) -> Result<Vec<Text>, Mem> {
+    let mut words = Vec::new(alloc);
+    if !row.is_empty() {
+        for word in row.split(' ') {
+            words.push(Text::from_str(alloc, word)?)?;
+        }
+    }
+    Ok(words)
+}
+
+// What a run came to, as the rows show it.
+fn shown(alloc: Global, status: Status, output: &[u8], reason: &Text) -> Result<String, Mem> {
+    let output = str::from_utf8(output)
+        .unwrap_or("no UTF-8")
+        .replace(alloc, "\n", "|")?;
+    let (status, output, reason) = (status.code(), output.as_str(), reason.as_str());
+    Ok(format!(in alloc; "{status}; {output}; {reason}")?)
+}
+
+fn ran(
+    alloc: Global,
+    words: &[Text],
+    source: &mut MemorySource,
+    sink: &mut MemorySink,
+) -> Result<String, Mem> {
+    let mut reason = Text::new(alloc);
+    let status = run_plain(alloc, words, source, sink, &mut reason, &mut None);
+    shown(alloc, status, sink.written(), &reason)
+}
+
+fn comes_of(alloc: Global, words: &str, how: &str, input: &str) -> Result<String, Mem> {
+    let words = parted(alloc, words)?;
+    let mut source = source(alloc, input, how)?;
+    let mut sink = sink(alloc, how)?;
+    ran(alloc, words.as_slice(), &mut source, &mut sink)
+}
+
+// Whether a row of inputs is so: its words, perhaps `, ` and which call fails or how long the input is, `: `, the input,
+// ` => `, and the status, the output and the reason.
+fn is_input(alloc: Global, row: &str) -> Result<bool, Mem> {
+    let (given, rest) = row.split_once(": ").unwrap_or((row, ""));
+    let (words, how) = given.split_once(", ").unwrap_or((given, ""));
+    let (input, wanted) = rest.split_once(" => ").unwrap_or((rest, ""));
+    Ok(comes_of(alloc, words, how, input)?.as_str() == wanted)
+}
+
+fn are_inputs(alloc: Global, rows: &str) -> Result<bool, Mem> {
+    for row in rows.lines() {
+        if !is_input(alloc, row)? {
+            return Ok(false);
+        }
+    }
+    Ok(true)
+}
+
 fn word(right: Result<bool, Mem>) -> &'static str {
     match right {
         Ok(true) => "right",
@@ -170,12 +287,19 @@ fn told_of_runs(rt: &HostRuntime, name: &str) -> io::Result<&'static str> {
     Ok(word(are_runs(rt.alloc(), rows.as_str())))
 }
 
-// What becomes of the rows, the runs or the script of this name.
+fn told_of_inputs(rt: &HostRuntime, name: &str) -> io::Result<&'static str> {
+    let rows = fs::read_to_string(rt, name)?;
+    Ok(word(are_inputs(rt.alloc(), rows.as_str())))
+}
+
+// What becomes of the rows, the runs, the inputs or the script of this name.
 fn told(rt: &HostRuntime, name: &str) -> io::Result<&'static str> {
     if name.ends_with(".rows") {
         told_of_rows(rt, name)
     } else if name.ends_with(".runs") {
         told_of_runs(rt, name)
+    } else if name.ends_with(".inputs") {
+        told_of_inputs(rt, name)
     } else {
         told_of_script(rt, name)
     }

@@ -1,7 +1,5 @@
-//! Tests of the lines that are events, and of the commands over sources and sinks that fail.
+//! Tests of the commands: the limits that a message names. What the commands make of their inputs are rows of the examples.
 #![tactic(auto)]
 
 #[cfg(test)]
-mod inputs;
-#[cfg(test)]
-mod lines;
+mod limits;
