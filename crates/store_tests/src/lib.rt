@@ -1,30 +1,12 @@
-//! Tests of a store, from the lowest layer up: selectors, modifiers and sort keys; operations; applications, their templates,
-//! cursors and rules; runs of methods; the machine. What a line of `replay` or `check` can show is a script among the examples.
+//! Tests of a store: what is no selector and no modifier, the limits of a store, and the machine with its limits. What a line
+//! of `replay` or `check` can show is a script among the examples.
 #![tactic(auto)]
 
 #[cfg(test)]
-mod applications;
-#[cfg(test)]
-mod cursors;
-#[cfg(test)]
-mod judging;
+mod limits;
 #[cfg(test)]
 mod machines;
 #[cfg(test)]
-mod modifiers;
-#[cfg(test)]
-mod operations;
-#[cfg(test)]
-mod runs;
-#[cfg(test)]
-mod selectors;
-#[cfg(test)]
-mod tables;
-#[cfg(test)]
-mod telling;
-#[cfg(test)]
-mod templates;
+mod readings;
 #[cfg(test)]
 mod values;
-#[cfg(test)]
-mod windows;

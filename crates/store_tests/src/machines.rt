@@ -1,11 +1,8 @@
 //! Scripts of calls of a machine, with what each answers, and the limits of a history.
-use crate::applications::app;
-use crate::operations::{letters, long};
-use crate::telling::{otherwise, push_number, push_outcome};
-use crate::values::{list, split, text, value};
-use ejson_codec::Lines;
+use crate::values::{app, halves, letters, list, split, text, value};
+use ejson_codec::text as written;
 use ejson_value::{Items, Text, Value};
-use program_steps::{End, Status};
+use program_steps::{End, Outcome, Status};
 use std::alloc::Global;
 use std::test::Fail;
 use store_machine::{AdminFault, BeginFault, Machine};
@@ -13,9 +10,7 @@ use store_machine::{AdminFault, BeginFault, Machine};
 const APP: &str =
     r#"{"collections":["tasks"],"methods":{"e":{"steps":[]},"make":{"steps":[["insert","tasks",{"n":{"$param":0}}],["return",{"$made":0}]],"stub":true},"pair":{"steps":[["insert","tasks",{"n":1}],["insert","tasks",{"n":2}],["return",[{"$made":0},{"$made":1}]]]}}}"#;
 
-// Each row: a call of a machine whose history begins empty, ` => `, and its answer. Calls are those of session 1; lines
-// stand with ` | ` between them. `long N` inserts a document with a text of N letters; 1,048,576 bytes are a document's
-// most.
+// Each row: a call of a machine whose history begins empty, ` => `, and its answer. Calls are those of session 1.
 const RUNS: &str = r#"begin 0 make [5] "S1-1" => begun
 step 0 => begun
 step 0 => ended 3 done "y4piDQHehLAJsG4mX"
@@ -40,48 +35,45 @@ begin 1 make [] null => ended 6 failed 409 Duplicate id
 begin 0 make [] null => ended 4 done ["y4piDQHehLAJsG4mX","wFaMCMJBmQ25LXRms"]
 length => 8"#;
 
-const REFUSALS: &str = r#"long 1048569 => refused 413
-long 1048568 => made
-long 1048569 => refused 409
-length => 1"#;
-
 const LAST_NUMBER: &str = r#"begin 9007199254740991 e [] null => ended 1 done
-history => ["history",1] | ["begin","S1",9007199254740991,"e",[],null]"#;
+begin 9007199254740991 make [] null => ended 1 done
+length => 1"#;
 
 fn number(text: &str) -> u64 {
     text.parse::<u64>().unwrap_or(0)
 }
 
-fn lines_told(alloc: Global, lines: &Lines) -> Result<Text, Fail> {
-    let mut told = Text::new(alloc);
-    for line in lines.as_slice() {
-        if !told.is_empty() {
-            told.push_str(" | ")?;
+fn word(alloc: Global, word: &str) -> Result<String, Fail> {
+    Ok(String::from_str(alloc, word)?)
+}
+
+fn done_told(alloc: Global, at: u64, value: &Value) -> Result<String, Fail> {
+    let value = written(alloc, value)?;
+    Ok(format!(in alloc; "ended {at} done {}", value.as_str())?)
+}
+
+fn end_told(alloc: Global, end: &End) -> Result<String, Fail> {
+    match &end.outcome {
+        Outcome::Done(None) => Ok(format!(in alloc; "ended {} done", end.at)?),
+        Outcome::Done(Some(value)) => done_told(alloc, end.at, value),
+        Outcome::Failed(fault) => {
+            let (code, reason) = (fault.code.as_str(), fault.reason.as_str());
+            Ok(format!(in alloc; "ended {} failed {code} {reason}", end.at)?)
         }
-        told.push_str(line.as_str())?;
     }
-    Ok(told)
 }
 
-fn end_told(alloc: Global, end: &End) -> Result<Text, Fail> {
-    let mut told = text(alloc, "ended ")?;
-    push_number(alloc, &mut told, end.at)?;
-    told.push_str(" ")?;
-    push_outcome(alloc, &mut told, &end.outcome)?;
-    Ok(told)
-}
-
-fn status_told(alloc: Global, status: &Status) -> Result<Text, Fail> {
+fn status_told(alloc: Global, status: &Status) -> Result<String, Fail> {
     match &status.ended {
-        None => text(alloc, "begun"),
+        None => word(alloc, "begun"),
         Some(end) => end_told(alloc, end),
     }
 }
 
-fn told_or_none(alloc: Global, status: &Option<Status>) -> Result<Text, Fail> {
+fn told_or_none(alloc: Global, status: &Option<Status>) -> Result<String, Fail> {
     match status {
         Some(status) => status_told(alloc, status),
-        None => text(alloc, "none"),
+        None => word(alloc, "none"),
     }
 }
 
@@ -108,15 +100,15 @@ fn begun_told(
     method: &Text,
     params: &Items,
     seed: &Value,
-) -> Result<Text, Fail> {
+) -> Result<String, Fail> {
     match begun(machine, k, method, params, seed) {
         Ok(status) => status_told(alloc, &status),
-        Err(fault) => text(alloc, format!(in alloc; "{fault}")?.as_str()),
+        Err(_) => word(alloc, "refused"),
     }
 }
 
 // The words are `METHOD PARAMS SEED`.
-fn begin_by(alloc: Global, machine: &mut Machine, k: u64, words: &str) -> Result<Text, Fail> {
+fn begin_by(alloc: Global, machine: &mut Machine, k: u64, words: &str) -> Result<String, Fail> {
     let (method, rest) = split(words);
     let (params, seed) = rest.rsplit_once(" ").unwrap_or((rest, "null"));
     let method = text(alloc, method)?;
@@ -125,72 +117,49 @@ fn begin_by(alloc: Global, machine: &mut Machine, k: u64, words: &str) -> Result
     begun_told(alloc, machine, k, &method, &params, &seed)
 }
 
-fn begin(alloc: Global, machine: &mut Machine, words: &str) -> Result<Text, Fail> {
+fn begin(alloc: Global, machine: &mut Machine, words: &str) -> Result<String, Fail> {
     let (k, rest) = split(words);
     begin_by(alloc, machine, number(k), rest)
 }
 
-fn step(alloc: Global, machine: &mut Machine, k: &str) -> Result<Text, Fail> {
+fn step(alloc: Global, machine: &mut Machine, k: &str) -> Result<String, Fail> {
     let status = machine.step(1, number(k))?;
     told_or_none(alloc, &status)
 }
 
-fn status(alloc: Global, machine: &Machine, words: &str) -> Result<Text, Fail> {
+fn status(alloc: Global, machine: &Machine, words: &str) -> Result<String, Fail> {
     let (k, at) = split(words);
     let status = machine.status(1, number(k), number(at).min(machine.length()))?;
     told_or_none(alloc, &status)
 }
 
-fn admin(alloc: Global, machine: &mut Machine, op: &Items) -> Result<Text, Fail> {
-    match machine.admin(op) {
-        Ok(()) => text(alloc, "made"),
-        Err(AdminFault::Refused { code }) => {
-            text(alloc, format!(in alloc; "refused {code}")?.as_str())
-        }
-        Err(AdminFault::Memory) => text(alloc, "memory"),
-    }
-}
-
-fn long_doc(alloc: Global, count: u64) -> Result<Value, Fail> {
-    let mut doc = long(alloc, count)?;
-    doc.put(text(alloc, "_id")?, Value::Text(text(alloc, "long")?))?;
-    Ok(Value::Object(doc))
-}
-
-fn long_insert(alloc: Global, count: u64) -> Result<Items, Fail> {
-    let mut op = list(alloc, r#"["insert","tasks"]"#)?;
-    op.push(long_doc(alloc, count)?)?;
-    Ok(op)
-}
-
-fn length(alloc: Global, machine: &Machine) -> Result<Text, Fail> {
-    let mut told = Text::new(alloc);
-    push_number(alloc, &mut told, machine.length())?;
-    Ok(told)
-}
-
-fn answer(alloc: Global, machine: &mut Machine, row: &str) -> Result<Text, Fail> {
-    let (word, rest) = split(row);
-    match word {
+fn answer(alloc: Global, machine: &mut Machine, row: &str) -> Result<String, Fail> {
+    let (name, rest) = split(row);
+    match name {
         "begin" => begin(alloc, machine, rest),
         "step" => step(alloc, machine, rest),
         "status" => status(alloc, machine, rest),
-        "long" => admin(alloc, machine, &long_insert(alloc, number(rest))?),
-        "length" => length(alloc, machine),
-        _ => lines_told(alloc, &machine.history_lines()?),
+        _ => Ok(format!(in alloc; "{}", machine.length())?),
     }
 }
 
-// The first row that is answered otherwise, with the answer.
-fn first_wrong(alloc: Global, machine: &mut Machine, script: &str) -> Result<Text, Fail> {
+fn is_right(alloc: Global, machine: &mut Machine, row: &str) -> Result<bool, Fail> {
+    let (call, wanted) = halves(row);
+    Ok(answer(alloc, machine, call)?.as_str() == wanted)
+}
+
+// The first row that is answered otherwise, or nothing.
+fn first_wrong(
+    alloc: Global,
+    machine: &mut Machine,
+    script: &'static str,
+) -> Result<&'static str, Fail> {
     for row in script.lines() {
-        let (call, wanted) = row.split_once(" => ").unwrap_or((row, ""));
-        let answer = answer(alloc, machine, call)?;
-        if answer.as_str() != wanted {
-            return otherwise(alloc, call, &answer);
+        if !is_right(alloc, machine, row)? {
+            return Ok(row);
         }
     }
-    Ok(Text::new(alloc))
+    Ok("")
 }
 
 fn machine(alloc: Global) -> Result<Machine, Fail> {
@@ -198,16 +167,15 @@ fn machine(alloc: Global) -> Result<Machine, Fail> {
     Ok(Machine::new(alloc, &app)?)
 }
 
-fn wrong_in(alloc: Global, script: &str) -> Result<Text, Fail> {
+fn wrong_in(alloc: Global, script: &'static str) -> Result<&'static str, Fail> {
     let mut machine = machine(alloc)?;
     first_wrong(alloc, &mut machine, script)
 }
 
 #[test]
 fn scripts(rt: HostRuntime) -> Result<(), Fail> {
-    for script in [RUNS, AGAIN, REFUSALS, LAST_NUMBER] {
-        let wrong = wrong_in(rt.alloc(), script)?;
-        assert!(rt; wrong.is_empty(), "{}", wrong.as_str());
+    for script in [RUNS, AGAIN, LAST_NUMBER] {
+        assert_eq!(rt; wrong_in(rt.alloc(), script)?, "");
     }
     Ok(())
 }
