@@ -1,10 +1,11 @@
-//! Sessions that take texts, and are handed the moments of a store.
+//! Sessions that take texts and are fed, what they take no more of, and a history that is full. What a line of `replay` can show
+//! is a script among the examples.
 #![tactic(auto)]
 
 #[cfg(test)]
 mod bench;
 #[cfg(test)]
-mod journal;
+mod history;
 #[cfg(test)]
 mod limits;
 #[cfg(test)]
@@ -12,8 +13,4 @@ mod looks;
 #[cfg(test)]
 mod moments;
 #[cfg(test)]
-mod runs;
-#[cfg(test)]
 mod scripts;
-#[cfg(test)]
-mod stands;

@@ -5,36 +5,17 @@ use std::test::Fail;
 const APP: &str =
     r#"{"collections":["tasks"],"methods":{"bump":{"steps":[]}},"publications":{"all":[{"collection":"tasks"}]}}"#;
 
-// A text of 2,097,152 bytes is read, and a longer one isn't; so are 127 levels of JSON, of which a
-// value has 32 at most.
+// A text of 2,097,152 bytes is read, and a longer one isn't.
 const LONG_TEXTS: &str = r#"take {"msg":"connect","version":"1"}
 send
 long 2097130 {"id":"*","msg":"ping"}
 measure
 long 2097131 {"id":"*","msg":"ping"}
 send
-nested 32 {"id":"1","msg":"sub","name":"all","params":[*]}
-send
-nested 40 {"id":"1","msg":"sub","name":"all","params":[*]}
-send
-nested 125 {"id":"1","msg":"sub","name":"all","params":[*]}
-send
-nested 126 {"id":"1","msg":"sub","name":"all","params":[*]}
-send
-nested 200 {"id":"1","msg":"sub","name":"all","params":[*]}
-send
-handle
-work
 --
 {"msg":"connected","session":"S1"}
 2097152
 {"msg":"error","reason":"Bad request"}
-none
-{"msg":"error","reason":"Bad request"}
-{"msg":"error","reason":"Bad request"}
-{"msg":"error","reason":"Parse error"}
-{"msg":"error","reason":"Parse error"}
-call; unloaded 0; cursors; feeds; running
 "#;
 
 // With a method that blocks, 4,096 messages wait and no more. What is answered at once still is.
@@ -48,31 +29,31 @@ take {"id":"2","msg":"unsub"}
 work
 limits
 take {"msg":"ping"}
-ends 0 1 -
+ends 0 1
 take {"id":"2","msg":"unsub"}
 handle
 take {"id":"2","msg":"unsub"}
 take {"id":"2","msg":"unsub"}
-journal
+send
+send
+send
+send
+send
+send
 --
 call 0 bump [] "S1-0-server"; unloaded; cursors; feeds; running 0
-records 2
+2 in 2
 queue full
 call 0 bump [] "S1-0-server"; unloaded; cursors; feeds; running 0
-records 2
+2 in 2
 queue full
 queue full
-["journal","S1"]
-["connect"]
-["out",{"msg":"connected","session":"S1"}]
-["call",0,"1"]
-["ping"]
-["out",{"msg":"pong"}]
-["finished",0,1]
-["out",{"id":"1","msg":"result"}]
-["out",{"methods":["1"],"msg":"updated"}]
-["nosub","2"]
-["out",{"id":"2","msg":"nosub"}]
+{"msg":"connected","session":"S1"}
+{"msg":"pong"}
+{"id":"1","msg":"result"}
+{"methods":["1"],"msg":"updated"}
+{"id":"2","msg":"nosub"}
+none
 "#;
 
 // The texts of the messages that wait have 4,194,304 bytes together and no more.
@@ -86,64 +67,63 @@ take {"id":"2","msg":"unsub"}
 take {"id":"2","msg":"unsub"}
 take {"id":"","msg":"unsub"}
 take {"msg":"ping"}
-ends 0 1 -
+ends 0 1
 take {"id":"2","msg":"unsub"}
 handle
-ends 1 1 -
+ends 1 1
 take {"id":"2","msg":"unsub"}
-journal
+send
+send
+send
+send
+send
+send
+send
 --
 queue full
 queue full
 queue full
 queue full
-["journal","S1"]
-["connect"]
-["out",{"msg":"connected","session":"S1"}]
-["call",0,"1"]
-["ping"]
-["out",{"msg":"pong"}]
-["finished",0,1]
-["out",{"id":"1","msg":"result"}]
-["out",{"methods":["1"],"msg":"updated"}]
-["call",1,"2"]
-["finished",1,1]
-["out",{"id":"2","msg":"result"}]
-["out",{"methods":["2"],"msg":"updated"}]
+{"msg":"connected","session":"S1"}
+{"msg":"pong"}
+{"id":"1","msg":"result"}
+{"methods":["1"],"msg":"updated"}
+{"id":"2","msg":"result"}
+{"methods":["2"],"msg":"updated"}
+none
 "#;
 
 // With 4,096 texts that are to be sent nothing is taken, nor done, until one of them is sent.
 const MANY_TEXTS: &str = r#"take {"msg":"connect","version":"1"}
 take {"id":"1","msg":"sub","name":"all"}
 handle
-load 0 0
+load 0
 take {"id":"1","method":"bump","msg":"method"}
 handle
 times 4094 {"msg":"ping"}
-store tasks/t1={"n":1}
 work
 limits
 take {"msg":"ping"}
 take {"msg":"pong"}
 take {"id":"2","msg":"unsub"}
 handle
-load 0 0
-advance 0 1
+load 0
+advance 0 0 1 none
 feed 0 1 tasks/t1={"n":1}
 unblocks 0
-ends 0 1 -
+ends 0 1
 refuse 0 1
 work
 limits
 send
-ends 0 1 -
+ends 0 1
 take {"msg":"pong"}
 send
 take {"msg":"pong"}
 work
 --
 call 0 bump [] "S1-0-server"; unloaded; cursors 0@0; feeds all []; running 0
-records 4098
+4098 in 4098
 idle
 idle
 idle
@@ -155,7 +135,7 @@ idle
 idle
 idle
 call 0 bump [] "S1-0-server"; unloaded; cursors 0@0; feeds all []; running 0
-records 4098
+4098 in 4098
 {"msg":"connected","session":"S1"}
 idle
 {"msg":"ready","subs":["1"]}
@@ -218,16 +198,16 @@ limits
 take {"msg":"pong"}
 take {"id":"2","msg":"unsub"}
 handle
-load 0 0
-load 1 0
-ends 0 1 -
+load 0
+load 1
+ends 0 1
 work
 limits
 send
 send
 --
-records 262143
-records 262144 limited
+262143 in 262143
+262144 in 262144 limited
 journal full
 journal full
 journal full
@@ -235,7 +215,7 @@ journal full
 idle
 idle
 call; unloaded 0; cursors; feeds; running
-records 262144 limited
+262144 in 262144 limited
 {"msg":"connected","session":"S1"}
 none
 "#;
@@ -257,12 +237,11 @@ none
 const CAUSES: &str = r#"take {"msg":"connect","version":"1"}
 take {"id":"1","msg":"sub","name":"all"}
 handle
-load 0 0
+load 0
 take {"id":"1","method":"bump","msg":"method"}
 handle
 times 4096 {"id":"2","msg":"unsub"}
 times 262139 {"msg":"pong"}
-store tasks/t1={"n":1}
 take {"id":"2","msg":"unsub"}
 take {"msg":"pong"}
 work
@@ -270,17 +249,17 @@ limits
 take {"id":"2","msg":"unsub"}
 take {"msg":"pong"}
 take nope
-advance 0 1
+advance 0 0 1 none
 feed 0 1 tasks/t1={"n":1}
 unblocks 0
-ends 0 1 -
+ends 0 1
 refuse 0 1
 handle
-load 0 0
-load 1 0
-advance 1 1
+load 0
+load 1
+advance 1 0 1 none
 feed 0 0 tasks/t1={"n":1}
-ends 1 1 -
+ends 1 1
 unblocks 1
 refuse 1 1
 work
@@ -290,11 +269,11 @@ send
 send
 close
 take {"id":"2","msg":"unsub"}
-ends 0 1 -
+ends 0 1
 --
 queue full
 call 0 bump [] "S1-0-server"; unloaded; cursors 0@0; feeds all []; running 0
-records 262144 limited
+262144 in 262144 limited
 journal full
 journal full
 journal full
@@ -312,7 +291,7 @@ idle
 idle
 idle
 call 0 bump [] "S1-0-server"; unloaded; cursors 0@0; feeds all []; running 0
-records 262144 limited
+262144 in 262144 limited
 {"msg":"connected","session":"S1"}
 {"msg":"ready","subs":["1"]}
 none

@@ -1,7 +1,7 @@
-//! What is seen of a session beside its journal.
+//! What is to be done for a session, and which limits it met.
 use ejson_codec::text;
 use ejson_value::{Items, Text, Value};
-use session_core::{Call, Feed, Place, Session, Sub, Work};
+use session_core::{Call, Feed, Place, Session, Work};
 use std::alloc::Global;
 use std::test::Fail;
 
@@ -88,47 +88,11 @@ pub(crate) fn work_told(alloc: Global, work: &Work) -> Result<Text, Fail> {
     Ok(told)
 }
 
-fn push_sub(alloc: Global, told: &mut Text, sub: &Sub) -> Result<(), Fail> {
-    push_number(alloc, told, sub.sub)?;
-    told.push_str(":")?;
-    told.push_str(sub.id.as_str())?;
-    match sub.cursor {
-        None => Ok(()),
-        Some(at) => Ok(told.push_str(format!(in alloc; "@{at}")?.as_str())?),
-    }
-}
-
-fn push_live(alloc: Global, told: &mut Text, subs: &[Sub]) -> Result<(), Fail> {
-    for sub in subs {
-        push_sub(alloc, told, sub)?;
-    }
-    Ok(())
-}
-
-fn push_running(alloc: Global, told: &mut Text, session: &Session) -> Result<(), Fail> {
-    let running = session.running()?;
-    push_numbers(alloc, told, running.as_slice())
-}
-
-/// The live subscriptions with their ids and places, the call that blocks, and the calls that run.
-pub(crate) fn live_told(alloc: Global, session: &Session) -> Result<Text, Fail> {
-    let mut told = Text::from_str(alloc, "subs")?;
-    push_live(alloc, &mut told, session.subs())?;
-    told.push_str("; blocks")?;
-    push_called(alloc, &mut told, session.blocking())?;
-    told.push_str("; runs")?;
-    push_running(alloc, &mut told, session)?;
-    Ok(told)
-}
-
-/// How many records there are, and what was met.
+/// How many items the journal has in how many records, and what was met.
 pub(crate) fn limits_told(alloc: Global, session: &Session) -> Result<Text, Fail> {
-    let mut told = Text::from_string(format!(in alloc; "records {}", session.records())?)?;
-    if session.failed() {
-        told.push_str(" failed")?;
-    }
-    if session.limited() {
-        told.push_str(" limited")?;
-    }
-    Ok(told)
+    let (items, records) = (session.counts().len(), session.records());
+    let failed = if session.failed() { " failed" } else { "" };
+    let limited = if session.limited() { " limited" } else { "" };
+    let told = format!(in alloc; "{items} in {records}{failed}{limited}")?;
+    Ok(Text::from_string(told)?)
 }

@@ -1,33 +1,28 @@
-//! The moments of a store, made by hand.
+//! What a session is handed: texts, documents, changes and publishes, as they stand in scripts.
 use app_model::App;
 use ejson_codec::parse;
-use ejson_value::{Change, Changes, Contents, Doc, Items, Key, Publish, Publishes, Text, Value};
+use ejson_value::{Change, Changes, Doc, Key, Publish, Publishes, Text, Value};
 use session_core::Batch;
 use std::alloc::Global;
 use std::test::Fail;
 
-pub(crate) fn value(alloc: Global, text: &str) -> Result<Value, Fail> {
+fn value(alloc: Global, text: &str) -> Result<Value, Fail> {
     Ok(parse(alloc, &Text::from_str(alloc, text)?)?)
-}
-
-pub(crate) fn items(alloc: Global, text: &str) -> Result<Items, Fail> {
-    match value(alloc, text)? {
-        Value::List(items) => Ok(items),
-        _ => Err("no list".into()),
-    }
 }
 
 pub(crate) fn number(text: &str) -> Result<u64, Fail> {
     Ok(text.parse::<u64>()?)
 }
 
-/// A text of so many letters.
-pub(crate) fn letters(alloc: Global, count: u64) -> Result<Text, Fail> {
-    let mut text = Text::new(alloc);
+/// The text with so many letters in place of its star.
+pub(crate) fn long_text(alloc: Global, count: u64, text: &str) -> Result<Text, Fail> {
+    let (before, after) = halves(text, "*")?;
+    let mut long = Text::from_str(alloc, before)?;
     for _ in 0..count {
-        text.push('x')?;
+        long.push('x')?;
     }
-    Ok(text)
+    long.push_str(after)?;
+    Ok(long)
 }
 
 pub(crate) fn app(alloc: Global, text: &str) -> Result<App, Fail> {
@@ -56,31 +51,6 @@ fn key_of(alloc: Global, text: &str) -> Result<Key, Fail> {
     })
 }
 
-// The change, which is made.
-fn change(alloc: Global, all: &mut Contents, text: &str) -> Result<Change, Fail> {
-    let (key, after) = halves(text, "=")?;
-    let key = key_of(alloc, key)?;
-    let before = all.remove(&key);
-    if let Some(doc) = document(alloc, after)? {
-        all.put(key.copy()?, doc)?;
-    }
-    Ok(Change {
-        key,
-        before,
-        after: document(alloc, after)?,
-    })
-}
-
-fn changes(alloc: Global, all: &mut Contents, text: &str) -> Result<Changes, Fail> {
-    let mut changes = Changes::new(alloc);
-    for one in text.split(';') {
-        if !one.is_empty() {
-            changes.push(change(alloc, all, one)?)?;
-        }
-    }
-    Ok(changes)
-}
-
 fn publish(alloc: Global, text: &str) -> Result<Publish, Fail> {
     let (key, new) = halves(text, "=")?;
     let key = key_of(alloc, key)?;
@@ -90,70 +60,42 @@ fn publish(alloc: Global, text: &str) -> Result<Publish, Fail> {
     })
 }
 
-/// What is published, key by key.
+/// What is published at one key.
 pub(crate) fn news(alloc: Global, text: &str) -> Result<Publishes, Fail> {
     let mut news = Publishes::new(alloc);
-    for one in text.split(';') {
-        news.push(publish(alloc, one)?)?;
-    }
+    news.push(publish(alloc, text)?)?;
     Ok(news)
 }
 
-/// What each entry of a history changes.
-#[derive(Drop)]
-pub(crate) struct Moments {
-    entries: Vec<Text>,
+// A change: `KEY=BEFORE>AFTER`.
+fn change(alloc: Global, text: &str) -> Result<Change, Fail> {
+    let (key, documents) = halves(text, "=")?;
+    let (before, after) = halves(documents, ">")?;
+    let key = key_of(alloc, key)?;
+    let before = document(alloc, before)?;
+    Ok(Change {
+        key,
+        before,
+        after: document(alloc, after)?,
+    })
 }
 
-impl Moments {
-    pub(crate) fn new(alloc: Global) -> Moments {
-        Moments {
-            entries: Vec::new(alloc),
-        }
+// One change, or none.
+fn changes(alloc: Global, text: &str) -> Result<Changes, Fail> {
+    let mut changes = Changes::new(alloc);
+    if text != "none" {
+        changes.push(change(alloc, text)?)?;
     }
+    Ok(changes)
+}
 
-    /// One more entry.
-    pub(crate) fn add(&mut self, alloc: Global, text: &str) -> Result<(), Fail> {
-        self.entries.push(Text::from_str(alloc, text)?)?;
-        Ok(())
-    }
-
-    /// The documents after so many entries.
-    pub(crate) fn contents(&self, alloc: Global, at: u64) -> Result<Contents, Fail> {
-        let mut all = Contents::new(alloc);
-        for text in self.entries.iter().take(at as usize) {
-            drop(changes(alloc, &mut all, text.as_str())?);
-        }
-        Ok(all)
-    }
-
-    // The changes of the entry at this place, behind the others.
-    fn push_changes(
-        &self,
-        alloc: Global,
-        made: &mut Changes,
-        all: &mut Contents,
-        place: u64,
-    ) -> Result<(), Fail> {
-        if let Some(text) = self.entries.get(place as usize) {
-            for one in changes(alloc, all, text.as_str())?.as_slice() {
-                made.push(one.copy()?)?;
-            }
-        }
-        Ok(())
-    }
-
-    /// The changes of so many entries.
-    pub(crate) fn batch(&self, alloc: Global, from: u64, count: u64) -> Result<Batch, Fail> {
-        let mut all = self.contents(alloc, from)?;
-        let mut changes = Changes::new(alloc);
-        for place in 0..count {
-            self.push_changes(alloc, &mut changes, &mut all, from.saturating_add(place))?;
-        }
-        Ok(Batch {
-            from,
-            count,
-            changes,
-        })
-    }
+/// Entries of a history: `FROM COUNT` and what they change.
+pub(crate) fn batch(alloc: Global, text: &str) -> Result<Batch, Fail> {
+    let (from, rest) = halves(text, " ")?;
+    let (count, rest) = halves(rest, " ")?;
+    Ok(Batch {
+        from: number(from)?,
+        count: number(count)?,
+        changes: changes(alloc, rest)?,
+    })
 }
