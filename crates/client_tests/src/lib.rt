@@ -1,13 +1,10 @@
-//! Tests of a client: of its documents, while simulations are open, and of the whole client with its server's texts.
+//! Tests of a client with its server's texts: what is found in its view, how its calls end, and what it takes no more of. What a
+//! line of `replay` or `revive` can show is a script among the examples.
 #![tactic(auto)]
 
-#[cfg(test)]
-mod changing;
 #[cfg(test)]
 mod clients;
 #[cfg(test)]
 mod running;
 #[cfg(test)]
 mod scripts;
-#[cfg(test)]
-mod views;

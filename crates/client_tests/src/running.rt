@@ -1,5 +1,4 @@
 //! Running scripts.
-use crate::scripts::TASKS;
 use app_model::App;
 use client_core::{Client, ClientFault, Outcome, TakeFault, View};
 use ejson_codec::{parse, text};
@@ -56,14 +55,6 @@ fn split(row: &str) -> (&str, &str) {
     row.split_once(" ").unwrap_or((row, ""))
 }
 
-fn asked(alloc: Global, answer: Result<(), ClientFault>) -> Result<Text, Fail> {
-    match answer {
-        Ok(()) => words(alloc, "ok"),
-        Err(ClientFault::Idle) => words(alloc, "idle"),
-        Err(ClientFault::Memory) => Err(Fail::from(Mem)),
-    }
-}
-
 fn took(alloc: Global, answer: Result<(), TakeFault>) -> Result<Text, Fail> {
     match answer {
         Ok(()) => words(alloc, "ok"),
@@ -89,48 +80,11 @@ fn take(alloc: Global, client: &mut Client, row: &str) -> Result<Text, Fail> {
     took(alloc, client.take(&text, &mut heard))
 }
 
-fn sub(alloc: Global, client: &mut Client, row: &str) -> Result<Text, Fail> {
-    let (id, rest) = split(row);
-    let (name, params) = split(rest);
-    let id = words(alloc, id)?;
-    let name = words(alloc, name)?;
-    let params = items(alloc, params)?;
-    asked(alloc, client.sub(&id, &name, &params))
-}
-
-fn unsub(alloc: Global, client: &mut Client, row: &str) -> Result<Text, Fail> {
-    let id = words(alloc, row)?;
-    asked(alloc, client.unsub(&id))
-}
-
-fn raw(alloc: Global, client: &mut Client, row: &str) -> Result<Text, Fail> {
-    let text = words(alloc, row)?;
-    asked(alloc, client.raw(&text))
-}
-
 fn call(alloc: Global, client: &mut Client, row: &str) -> Result<Text, Fail> {
     let (method, params) = split(row);
     let method = words(alloc, method)?;
     let params = items(alloc, params)?;
     called(alloc, client.call(&method, &params))
-}
-
-fn out(alloc: Global, client: &mut Client) -> Result<Text, Fail> {
-    match client.next_out() {
-        Some(text) => Ok(text),
-        None => words(alloc, "none"),
-    }
-}
-
-fn show(alloc: Global, client: &Client) -> Result<Text, Fail> {
-    let mut told = Text::new(alloc);
-    for line in client.show_lines()?.as_slice() {
-        if !told.is_empty() {
-            told.push('|')?;
-        }
-        told.push_str(line.as_str())?;
-    }
-    Ok(told)
 }
 
 fn outcome(alloc: Global, client: &Client, number: &str) -> Result<Text, Fail> {
@@ -194,16 +148,11 @@ fn answer(alloc: Global, client: &mut Client, row: &str) -> Result<Text, Fail> {
     let (word, rest) = split(row);
     match word {
         "take" => take(alloc, client, rest),
-        "sub" => sub(alloc, client, rest),
-        "unsub" => unsub(alloc, client, rest),
-        "raw" => raw(alloc, client, rest),
         "call" => call(alloc, client, rest),
-        "out" => out(alloc, client),
         "outcome" => outcome(alloc, client, rest),
         "state" => state(alloc, client),
         "find" => find(alloc, client.view(), rest),
-        "count" => count(alloc, client),
-        _ => show(alloc, client),
+        _ => count(alloc, client),
     }
 }
 
@@ -228,20 +177,4 @@ fn client(alloc: Global, app: &str) -> Result<Client, Fail> {
 pub(crate) fn wrong_in(alloc: Global, app: &str, script: &str) -> Result<Text, Fail> {
     let mut client = client(alloc, app)?;
     first_wrong(alloc, &mut client, script)
-}
-
-fn all_rows(alloc: Global, before: &str, row: &str, after: &str) -> Result<Text, Fail> {
-    let (text, number) = row.split_once(" => ").unwrap_or((row, ""));
-    Ok(Text::from_string(format!(in alloc; "{before}\ntake {text} => sent {number}\n{after}")?)?)
-}
-
-/// The same of a client that is broken by the text of the row.
-pub(crate) fn refused_wrong(
-    alloc: Global,
-    before: &str,
-    row: &str,
-    after: &str,
-) -> Result<Text, Fail> {
-    let script = all_rows(alloc, before, row, after)?;
-    wrong_in(alloc, TASKS, script.as_str().trim_start())
 }

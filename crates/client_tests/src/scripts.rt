@@ -5,6 +5,7 @@ pub(crate) const TASKS: &str = r#"{"collections":["tasks"],
 "methods":{
 "bare":{"steps":[["insert","tasks",{"_id":"q"}]]},
 "big":{"steps":[["insert","tasks",{"_id":"y","n":1}],["update","tasks",{"_id":"t1"},{"$set":{"n":2}}],["insert","tasks",{"_id":"z"}]],"stub":true},
+"drop":{"steps":[["remove","tasks",{"_id":{"$param":0}}]],"stub":true},
 "fail":{"steps":[["throw","403","Denied"]],"stub":[["insert","tasks",{"_id":"x","n":1}]]},
 "fill":{"steps":[
 ["insert","tasks",{"a":{"$param":0}}],["insert","tasks",{"a":{"$param":0}}],
@@ -13,6 +14,7 @@ pub(crate) const TASKS: &str = r#"{"collections":["tasks"],
 ["insert","tasks",{"a":{"$param":0}}],["insert","tasks",{"a":{"$param":0}}],
 ["insert","tasks",{"a":{"$param":0}}],["insert","tasks",{"a":{"$param":0}}]],"stub":true},
 "make":{"steps":[["insert","tasks",{"n":{"$param":0}}],["return",{"$made":0}]],"stub":true},
+"put":{"steps":[["insert","tasks",{"$param":0}]],"stub":true},
 "set":{"steps":[["update","tasks",{"_id":{"$param":0}},{"$set":{"n":{"$param":1}}}]],"stub":true},
 "turn":{"steps":[["insert","tasks",{"_id":"u","n":1}],["unblock"],["remove","tasks",{"_id":"t1"}],
 ["require","tasks",{"n":9},"404","None"],["remove","tasks",{}]],"stub":true}},
@@ -22,77 +24,49 @@ pub(crate) const TASKS: &str = r#"{"collections":["tasks"],
 pub(crate) const GUARDED: &str =
     r#"{"collections":["tasks"],"rules":{"tasks":{"allow":[{"on":"insert","selector":{"n":{"$lte":5}}}]}}}"#;
 
-/// One id on both sides.
-pub(crate) const MADE: &str = r#"out => {"msg":"connect","support":["1"],"version":"1"}
-out => none
-sub 1 all [] => idle
+/// How calls end, and whether the client has settled.
+pub(crate) const CALLS: &str = r#"state => settled
+call make [5] => idle
 take {"msg":"connected","session":"S1"} => ok
-sub 1 all [] => ok
-sub 1 all [] => idle
+state => connected settled
 call make [5] => 1
-out => {"id":"1","msg":"sub","name":"all","params":[]}
-out => {"id":"1","method":"make","msg":"method","params":[5],"randomSeed":"S1-1"}
-out => none
-take {"msg":"ready","subs":["1"]} => ok
-show => ["show","a"]|["doc","tasks","y4piDQHehLAJsG4mX",{"n":5}]|["sub","1","ready"]|["method","1","waiting"]
 state => connected
-take {"collection":"tasks","fields":{"n":5},"id":"y4piDQHehLAJsG4mX","msg":"added"} => ok
 take {"id":"1","msg":"result","result":"y4piDQHehLAJsG4mX"} => ok
-show => ["show","a"]|["doc","tasks","y4piDQHehLAJsG4mX",{"n":5}]|["sub","1","ready"]|["method","1","waiting"]
 outcome 1 => none
 take {"methods":["1"],"msg":"updated"} => ok
-show => ["show","a"]|["doc","tasks","y4piDQHehLAJsG4mX",{"n":5}]|["sub","1","ready"]|["method","1","done","y4piDQHehLAJsG4mX"]
 outcome 1 => done
 outcome 0 => none
 outcome 2 => none
-state => connected settled"#;
-
-/// A simulation that the server refuses.
-pub(crate) const DENIED: &str = r#"take {"msg":"connected","session":"S1"} => ok
-call fail [] => 1
-show => ["show","a"]|["doc","tasks","x",{"n":1}]|["method","1","waiting"]
-take {"error":{"error":"403","errorType":"Meteor.Error","message":"Denied [403]","reason":"Denied"},"id":"1","msg":"result"} => ok
-show => ["show","a"]|["doc","tasks","x",{"n":1}]|["method","1","waiting"]
-take {"methods":["1"],"msg":"updated"} => ok
-show => ["show","a"]|["method","1","failed","403","Denied"]
-outcome 1 => failed"#;
-
-/// Two simulations and one removal.
-pub(crate) const REMOVED: &str = r#"take {"msg":"connected","session":"S1"} => ok
-sub 1 all [] => ok
-take {"collection":"tasks","fields":{"n":0},"id":"t1","msg":"added"} => ok
-take {"msg":"ready","subs":["1"]} => ok
-call set ["t1",1] => 1
-call set ["t1",2] => 2
-take {"id":"1","msg":"result"} => ok
-take {"collection":"tasks","fields":{"n":1},"id":"t1","msg":"changed"} => ok
-take {"methods":["1"],"msg":"updated"} => ok
-take {"collection":"tasks","id":"t1","msg":"removed"} => ok
-show => ["show","a"]|["doc","tasks","t1",{"n":2}]|["sub","1","ready"]|["method","1","done"]|["method","2","waiting"]
-take {"id":"2","msg":"result"} => ok
+state => connected settled
+call fail [] => 2
 take {"methods":["2"],"msg":"updated"} => ok
-show => ["show","a"]|["sub","1","ready"]|["method","1","done"]|["method","2","done"]"#;
+outcome 2 => none
+take {"error":{"error":"403","errorType":"Meteor.Error","message":"Denied [403]","reason":"Denied"},"id":"2","msg":"result"} => ok
+outcome 2 => failed
+state => connected settled"#;
 
 /// A simulation hides what the server says, also from what is looked for.
 pub(crate) const HIDDEN: &str = r#"take {"msg":"connected","session":"S1"} => ok
 take {"collection":"tasks","fields":{"n":0},"id":"t1","msg":"added"} => ok
 call set ["t1",1] => 1
 take {"collection":"tasks","fields":{"n":7},"id":"t1","msg":"changed"} => ok
-show => ["show","a"]|["doc","tasks","t1",{"n":1}]|["method","1","waiting"]
 find tasks {"n":1} => t1{"n":1}
 find tasks {"n":7} => 
+find tasks {"_id":"t1"} => t1{"n":1}
+find tasks {"_id":"t1","n":7} => 
+find tasks {"_id":"t2"} => 
 find other {} => 
 take {"collection":"tasks","fields":{"n":1},"id":"t1","msg":"changed"} => ok
 take {"methods":["1"],"msg":"updated"} => ok
 take {"id":"1","msg":"result"} => ok
-show => ["show","a"]|["doc","tasks","t1",{"n":1}]|["method","1","done"]"#;
+find tasks {} => t1{"n":1}"#;
 
 /// What stubs do, and that an unknown method and one without a stub simulate nothing.
 pub(crate) const STUBS: &str = r#"take {"msg":"connected","session":"S1"} => ok
 take {"collection":"tasks","fields":{"n":0},"id":"t1","msg":"added"} => ok
 call bare [] => 1
 call nothing [] => 2
-show => ["show","a"]|["doc","tasks","t1",{"n":0}]|["method","1","waiting"]|["method","2","waiting"]
+find tasks {} => t1{"n":0}
 call turn [] => 3
 find tasks {} => u{"n":1}
 take {"methods":["2","3"],"msg":"updated"} => ok
@@ -109,6 +83,29 @@ call make [1] => 7
 count => 3
 take {"methods":["6","7"],"msg":"updated"} => ok
 count => 1"#;
+
+/// Simulated documents that come and go while the server says others.
+pub(crate) const ABSENT: &str = r#"take {"msg":"connected","session":"S1"} => ok
+call put [{"_id":"x","n":1}] => 1
+call put [{"_id":"y","n":2}] => 2
+take {"collection":"tasks","fields":{"n":3},"id":"y","msg":"added"} => ok
+find tasks {} => x{"n":1} y{"n":2}
+take {"methods":["1","2"],"msg":"updated"} => ok
+find tasks {} => y{"n":3}
+call drop ["y"] => 3
+find tasks {} => 
+find tasks {"_id":"y"} => 
+take {"collection":"tasks","fields":{"n":4},"id":"y","msg":"changed"} => ok
+find tasks {} => 
+call put [{"_id":"y","n":5}] => 4
+take {"methods":["3"],"msg":"updated"} => ok
+find tasks {} => y{"n":5}
+take {"collection":"tasks","id":"y","msg":"removed"} => ok
+find tasks {} => y{"n":5}
+take {"methods":["4"],"msg":"updated"} => ok
+find tasks {} => 
+take {"collection":"tasks","fields":{"n":6},"id":"x","msg":"changed"} => sent 6
+call put [{"_id":"x","n":1}] => idle"#;
 
 /// The stub of a client's own write tests no rules.
 pub(crate) const OWN_WRITES: &str = r#"take {"msg":"connected","session":"S1"} => ok
@@ -151,50 +148,12 @@ count => 57
 call fill ["@20@"] => 8
 count => 67"#;
 
-/// What becomes of subscriptions.
-pub(crate) const SUBS: &str = r#"take {"msg":"connected","session":"S1"} => ok
-unsub 1 => idle
-sub 1 all [] => ok
-sub 2 none [] => ok
-state => connected
-take {"msg":"ready","subs":["1","9"]} => ok
-take {"error":{"error":404,"errorType":"Meteor.Error","reason":"Subscription not found"},"id":"2","msg":"nosub"} => ok
-show => ["show","a"]|["sub","1","ready"]|["sub","2","refused","404"]
-state => connected settled
-unsub 2 => idle
-unsub 1 => ok
-unsub 1 => idle
-sub 1 all [] => idle
-take {"id":"1","msg":"nosub"} => ok
-take {"id":"8","msg":"nosub"} => ok
-show => ["show","a"]|["sub","1","ended"]|["sub","2","refused","404"]
-sub 1 all [1] => ok
-unsub 1 => ok
-show => ["show","a"]|["sub","1","waiting"]|["sub","2","refused","404"]
-raw hello => ok
-take {"msg":"ping","id":"p"} => ok
-take {"msg":"pong"} => ok
-take {"msg":"error","reason":"Bad request"} => ok
-take {"msg":"other"} => ok
-take {} => ok
-out => {"msg":"connect","support":["1"],"version":"1"}
-out => {"id":"1","msg":"sub","name":"all","params":[]}
-out => {"id":"2","msg":"sub","name":"none","params":[]}
-out => {"id":"1","msg":"unsub"}
-out => {"id":"1","msg":"sub","name":"all","params":[1]}
-out => {"id":"1","msg":"unsub"}
-out => hello
-out => {"id":"p","msg":"pong"}
-out => none"#;
-
 /// The server refuses the version.
 pub(crate) const VERSION: &str = r#"take {"msg":"ping"} => ok
 take {"msg":"failed","version":"1"} => ok
 state => failed settled
 take {"msg":"connected","session":"S1"} => idle
-sub 1 all [] => idle
-call set [] => idle
-raw x => ok"#;
+call set [] => idle"#;
 
 /// The longest text that a client takes, and one that is longer.
 pub(crate) const LONG: &str = r#"take {"a":"@4194296@"} => ok
@@ -202,53 +161,4 @@ take {"msg":"connected","session":"S1"} => ok
 take {"a":"@4194297@"} => sent 1
 take {} => idle
 state => settled
-sub 1 all [] => idle
-raw x => idle
-out => {"msg":"connect","support":["1"],"version":"1"}"#;
-
-/// Before `connected`: a text, and the refusal that breaks the client.
-pub(crate) const EARLY: &str = r#"{"msg":"ready","subs":["1"]} => 3
-{"id":"1","msg":"nosub"} => 3
-{"collection":"tasks","id":"t1","msg":"added"} => 3
-{"id":"1","msg":"result"} => 3
-{"methods":[],"msg":"updated"} => 3
-{"msg":"ready"} => 2
-[] => 1"#;
-
-/// What stands before a refused text.
-pub(crate) const BEFORE: &str = r#"take {"msg":"connected","session":"S1"} => ok
-sub 1 all [] => ok
-call set ["t1",1] => 1
-call set ["t1",2] => 2
-take {"id":"1","msg":"result"} => ok
-take {"methods":["2"],"msg":"updated"} => ok
-take {"collection":"tasks","fields":{"n":0},"id":"t1","msg":"added"} => ok
-show => ["show","a"]|["doc","tasks","t1",{"n":0}]|["sub","1","waiting"]|["method","1","waiting"]|["method","2","waiting"]"#;
-
-/// A text given to the client then, and the refusal that breaks it.
-pub(crate) const LATE: &str = r#"[] => 1
-x => 1
-{"msg":"added"} => 2
-{"msg":"ready"} => 2
-{"error":null,"id":"2","msg":"result"} => 2
-{"msg":"connected","session":"S2"} => 4
-{"msg":"failed","version":"1"} => 4
-{"collection":"tasks","fields":{},"id":"t1","msg":"added"} => 5
-{"collection":"tasks","fields":{},"id":"t2","msg":"changed"} => 6
-{"collection":"tasks","id":"t2","msg":"removed"} => 7
-{"id":"1","msg":"result"} => 8
-{"id":"3","msg":"result"} => 8
-{"id":"02","msg":"result"} => 8
-{"methods":["2"],"msg":"updated"} => 9
-{"methods":["1","1"],"msg":"updated"} => 9
-{"methods":["1","+1"],"msg":"updated"} => 9
-{"methods":["1","0"],"msg":"updated"} => 9"#;
-
-/// What a broken client still says.
-pub(crate) const BROKEN: &str = r#"take {} => idle
-sub 7 all [] => idle
-unsub 1 => idle
-call set ["t1",1] => idle
-raw x => idle
-state => 
-show => ["show","a"]|["doc","tasks","t1",{"n":0}]|["sub","1","waiting"]|["method","1","waiting"]|["method","2","waiting"]"#;
+call set [] => idle"#;
