@@ -1,11 +1,8 @@
-//! Tables of values, of texts with what EJSON (the appendix of Meteor's DDP specification) and the messages of DDP (Meteor's DDP.md)
-//! answer, and of calls of the merge box, of fences and of drawn ids.
+//! Tables of texts with what EJSON (the appendix of Meteor's DDP specification) and the messages of DDP (Meteor's DDP.md) answer, and
+//! of drawn ids; of fences, and of how many documents a merge box lists. What a line of `replay` can show is a script among the
+//! examples.
 #![tactic(auto)]
 
-#[cfg(test)]
-mod boxes;
-#[cfg(test)]
-mod contents;
 #[cfg(test)]
 mod ejson;
 #[cfg(test)]
@@ -13,16 +10,12 @@ mod fences;
 #[cfg(test)]
 mod ids;
 #[cfg(test)]
-mod merges;
+mod listing;
 #[cfg(test)]
 mod messages;
-#[cfg(test)]
-mod names;
 #[cfg(test)]
 mod tables;
 #[cfg(test)]
 mod texts;
-#[cfg(test)]
-mod values;
 #[cfg(test)]
 mod wire;

@@ -1,8 +1,7 @@
 //! The tables, and what is answered to each of their rows.
 use crate::texts::{filled, fits, parts};
-use crate::{contents, ejson, messages, names, values, wire};
+use crate::{ejson, fences, ids, listing, messages, wire};
 use ddp_messages::wire_id;
-use ejson_codec::Lines;
 use ejson_value::Text;
 use std::alloc::Global;
 use std::test::Fail;
@@ -10,10 +9,7 @@ use std::test::Fail;
 // Each row: what is asked, a text, ` => `, and what is answered, `same` where that is the text. `@a 9@` stands for
 // nine times the letter. Asked is: `ejson`, `tree`, `client` and `server`, what is written of what was read (a value, its
 // tree, a message and its copy), or what refuses it; `measures`, the size and the depth of a value; `wire`, the wire form
-// of an id; `own`, the id of a wire form; `whole`, a whole number of 53 bits; `path`, how many parts a path has, and the
-// position that its first part is; `special`, whether names of a document are those of a special form; `user`, the name
-// of a user type; `collection`, the ids of its documents in order; `order`, whether values rise; `grown`, a text that
-// grows by letters; `joined`, by words. There are rows at the limits of levels, of names and of ids.
+// of an id; `own`, the id of a wire form. There are rows at the limits of levels, of names and of ids.
 const ROWS: &str = r#"ejson null => same
 ejson true => same
 ejson -9007199254740991 => same
@@ -234,45 +230,6 @@ own ~1 => no id
 own { => no id
 own {x => no id
 own 0123456789abcdef01234567 => no id
-whole 9007199254740991 => same
-whole 9007199254740992 => no whole number
-whole -9007199254740991 => same
-whole -9007199254740992 => no whole number
-whole 0 => same
-path a => 1 -
-path a.0.b => 3 -
-path  .$x. => no path
-path  => no path
-path . => no path
-path a..b => no path
-path a.a.a.a.a.a.a.a.a.a.a.a.a.a.a.a.a.a.a.a.a.a.a.a.a.a.a.a.a.a.a.a => 32 -
-path a.a.a.a.a.a.a.a.a.a.a.a.a.a.a.a.a.a.a.a.a.a.a.a.a.a.a.a.a.a.a.a.a => no path
-path 0 => 1 0
-path 00 => 1 -
-path 10.a => 2 10
-path +1 => 1 -
-path 1a => 1 -
-path 18446744073709551615 => 1 18446744073709551615
-path 18446744073709551616 => 1 -
-special $date $date => special
-special $binary $binary => special
-special $escape $escape => special
-special $InfNaN $InfNaN => special
-special $flags $flags => plain
-special $regexp $flags => special
-special $type $value => special
-special $type $flags => plain
-special $date a => plain
-special a a => plain
-user @n 0@ => no name
-user @n 1@ => same
-user @n 128@ => same
-user @n 129@ => no name
-collection tasks => ab
-collection task => x
-collection taskss => z
-collection tas => 
-collection  => v
 measures null => 4 0
 measures -12 => 3 0
 measures 3 => 1 0
@@ -295,10 +252,6 @@ measures {"$date":1700000000000} => 23 0
 measures {"$type":"a","$value":[1]} => 26 2
 measures {"$type":"b","$value":null} => 27 1
 measures {"$type":"b","$value":1} => 24 1
-order [null,-12,3,"","a\"\n\u001f","é",{},{"$escape":{"$date":5}},{"a":5},{"a":[]},[],[1],[1,2],{"$binary":"eg=="},{"$binary":"aGk="},false,true,{"$date":-1},{"$date":1700000000000},{"$type":"a","$value":[1]},{"$type":"b","$value":null},{"$type":"b","$value":1}] => rising
-grown abcdefghijklmnopqrstuévwxyz.! => same
-grown aéb => same
-joined abcdefghijklmnopqrs tu év wxyz.! => abcdefghijklmnopqrstuévwxyz.!
 "#;
 
 // What is answered to the text.
@@ -311,14 +264,6 @@ fn answer(alloc: Global, asked: &str, input: &Text) -> Result<Text, Fail> {
         "server" => messages::server_answer(alloc, input),
         "wire" => Ok(wire_id(alloc, input)?),
         "own" => wire::own(alloc, input),
-        "whole" => Ok(names::whole(alloc, input)?),
-        "path" => Ok(names::path(alloc, input)?),
-        "special" => Ok(names::special(alloc, input)?),
-        "user" => Ok(names::user(alloc, input)?),
-        "collection" => Ok(contents::ids(alloc, input)?),
-        "order" => values::order(alloc, input),
-        "grown" => Ok(values::grown(alloc, input)?),
-        "joined" => Ok(values::joined(alloc, input)?),
         _ => Ok(Text::from_str(alloc, "not asked")?),
     }
 }
@@ -336,9 +281,8 @@ fn tables(rt: HostRuntime) -> Result<(), Fail> {
     for row in ROWS.lines() {
         assert!(rt; is_right(rt.alloc(), row)?, "at {row}");
     }
-    assert!(rt; Lines::new(rt.alloc()).is_empty());
-    assert!(rt; values::bytes_grow(rt.alloc())?);
-    assert!(rt; values::documents_shrink(rt.alloc())?);
-    assert!(rt; contents::are_changed(rt.alloc())?);
+    assert_eq!(rt; fences::wrong(rt.alloc())?, "");
+    assert_eq!(rt; ids::wrong(rt.alloc())?, "");
+    assert!(rt; listing::is_right(rt.alloc())?);
     Ok(())
 }
