@@ -4,7 +4,7 @@
 usage: shapes.py FOLDER [NAME..]
 
 For each shape it writes NAME.whole and NAME.tenth. A tenth has a tenth of the events with the same clients and
-subscriptions, so a program that pays for what happens, and for nothing else, takes ten times as long for the whole.
+subscriptions, so a program that pays for what happens, and for nothing else, takes at most ten times as long for the whole.
 
   prices    60 clients watch 40 documents; 3,000 updates
   desks     12 clients, each with 5 subscriptions that overlap in some fields of 300 documents; 3,000 updates, and some
