@@ -1,5 +1,9 @@
 //! Two spans of one entry, and the two answers of an entry that comes and goes, put together.
 ghost use Rattle.std.specs.Prelude.{◌≡◌, ◌+◌, ◌≤◌, length};
+ghost use Rattle.world_news_laws.specs.multiplexer.Looks.{looks, known_in};
+ghost use Rattle.world_news_laws.specs.multiplexer.Spans.{HasItsSource, IsLent};
+ghost use Rattle.world_news_laws.specs.multiplexer.Telling.{AreTold, IsSource};
+ghost use Rattle.world_news_laws.specs.Sources.{cursors_at_of};
 
 use crate::asked::{INSERT, REMOVE, app, operation, subscription, told};
 use app_model::App;
@@ -28,6 +32,74 @@ fn ask_by<L: Ledger>(
 {
     let mut steps = Steps::<L>::new(blank);
     multiplexer.span(machine, sub, from, 1, &mut steps)
+}
+
+// The span is put back and asked for again: no document is looked at.
+fn ask_again<L: Ledger>(
+    multiplexer: &mut Multiplexer,
+    machine: &Machine,
+    sub: &Sub,
+    from: u64,
+    lent: Lent,
+    steps: &mut Steps<L>,
+) -> Result<Option<Lent>, Mem>
+    requires within { from + 1 ≤ length machine.now.history }
+    requires source { HasItsSource multiplexer.old.sources lent }
+    requires lent { IsLent machine.now sub.now from (from + 1) lent }
+    ensures { steps.new ≡ steps.old }
+{
+    multiplexer.learn(lent);
+    multiplexer.span(machine, sub, from, 1, steps)
+}
+
+// A span that is asked for, put back and asked for again: no more documents are looked at than for the first time.
+fn ask_twice<L: Ledger>(
+    multiplexer: &mut Multiplexer,
+    machine: &Machine,
+    app: &App,
+    sub: &Sub,
+    from: u64,
+    steps: &mut Steps<L>,
+) -> Result<Option<Lent>, Mem>
+    requires within { from + 1 ≤ length machine.now.history }
+    requires told { AreTold (cursors_at_of app.now) machine.now multiplexer.old }
+    requires source { IsSource (cursors_at_of app.now) sub.now }
+    ensures { steps.new ≤ steps.old + looks (length sub.now.cursors) machine.now (known_in multiplexer.old.sources sub.now.name sub.now.params from (from + 1)) (from + 1) }
+{
+    let _app = app;
+    match multiplexer.span(machine, sub, from, 1, steps)? {
+        Some(lent) => ask_again(multiplexer, machine, sub, from, lent, steps),
+        None => Ok(None),
+    }
+}
+
+fn ask_new_twice<L: Ledger>(
+    alloc: Global,
+    machine: &Machine,
+    app: &App,
+    sub: &Sub,
+    blank: Blank,
+) -> Result<Option<Lent>, Mem>
+    requires within { 1 ≤ length machine.now.history }
+    requires source { IsSource (cursors_at_of app.now) sub.now }
+    requires name { blank.name ≡ L.name }
+    requires parts { blank.parts ≡ L.parts }
+    requires whole { blank.parts ≡ 1 }
+{
+    let mut steps = Steps::<L>::new(blank);
+    let mut multiplexer = Multiplexer::new(alloc);
+    ask_twice(&mut multiplexer, machine, app, sub, 0, &mut steps)
+}
+
+// What is told of the first entry for the second time.
+fn told_again(alloc: Global, machine: &Machine, app: &App, sub: &Sub) -> Result<Lent, Fail>
+    requires { IsSource (cursors_at_of app.now) sub.now }
+{
+    if machine.length() == 0 {
+        return Err("no entry")?;
+    }
+    let lent = ask_new_twice::<Brand>(alloc, machine, app, sub, Blank::new(1))?;
+    Ok(lent.ok_or("no answer")?)
 }
 
 // What is told of the entry at this place.
@@ -129,5 +201,16 @@ fn answers_are_put_together(rt: HostRuntime) -> Result<(), Fail> {
     let machine = made(alloc, &app, &[INSERT, REMOVE])?;
     let mut multiplexer = Multiplexer::new(alloc);
     assert!(rt; tell_together(alloc, &mut multiplexer, &machine, &sub, "t1-")?);
+    Ok(())
+}
+
+#[test]
+fn an_entry_that_was_put_back_is_not_looked_at_again(rt: HostRuntime) -> Result<(), Fail> {
+    let alloc = rt.alloc();
+    let app = app(alloc)?;
+    let sub = subscription(alloc, &app)?;
+    let machine = made(alloc, &app, &[INSERT])?;
+    let lent = told_again(alloc, &machine, &app, &sub)?;
+    assert!(rt; is_told(alloc, &lent.span.told, "t1+")?);
     Ok(())
 }
