@@ -1,46 +1,17 @@
 -- The event that a line describes.
-use Rattle.std.specs.Prelude.{ℕ, ℤ, List, [], Bool, true, false, Option, Some, None, option_and_then, option_map, nat_le, ◌&&◌, if◌then◌else◌, codes}
-use Rattle.std.specs.List.{list_all}
-use Rattle.value_model.specs.Val.{Val, int, text, list, Vals, list_of, no_vals, val}
-use Rattle.value_model.specs.Depth.{depth}
+use Rattle.std.specs.Prelude.{ℕ, ℤ, List, Option, Some, None, option_and_then, option_map, if◌then◌else◌, codes}
+use Rattle.value_model.specs.Val.{Val, int, list, Vals, no_vals, val}
 use Rattle.value_model.specs.Size.{is_name}
-use Rattle.ejson_codec.specs.Reading.{max_levels}
+use Rattle.line_parts.specs.Parts.{text_first, is_nil, text_alone, texts_alone, params_in}
 use Rattle.world_model.specs.declared.events.Act.{Act}
 use Rattle.world_model.specs.declared.events.Act.TheVariants as act
 use Rattle.world_model.specs.declared.events.Event.{Event}
 use Rattle.world_model.specs.declared.events.Event.TheVariants as event
 
--- the text that stands first, and what follows it
-abbrev pub text_first : Vals → Option (List ℕ × Vals)
-text_first (val (text t) vs) = Some (t, vs)
-text_first _ = None
-
 -- the whole number that stands first, and what follows it
 abbrev pub number_first : Vals → Option (ℤ × Vals)
 number_first (val (int z) vs) = Some (z, vs)
 number_first _ = None
-
-abbrev pub is_nil : Vals → Bool
-is_nil no_vals = true
-is_nil (val v vs) = false
-
--- the text that stands alone
-abbrev pub text_alone : Vals → Option (List ℕ)
-text_alone vs = option_and_then (λ first. if is_nil first.1 then Some first.0 else None) (text_first vs)
-
--- two texts that stand alone
-abbrev pub texts_alone : Vals → Option (List ℕ × List ℕ)
-texts_alone vs = option_and_then (λ first. option_map (λ second. (first.0, second)) (text_alone first.1)) (text_first vs)
-
--- each value has at most 32 levels
-abbrev pub have_few_levels : Vals → Bool
-have_few_levels vs = list_all (λ v. nat_le (depth v) max_levels) (list_of vs)
-
--- the parameters: none, or those of a list that stands alone, each of at most 32 levels
-abbrev pub params_in : Vals → Option (List Val)
-params_in no_vals = Some []
-params_in (val (list vs) rest) = if is_nil rest && have_few_levels vs then Some (list_of vs) else None
-params_in _ = None
 
 -- `["admin",operation]`, after the word: any list of such values
 abbrev pub admin_in : Vals → Option Event

@@ -1,86 +1,16 @@
 //! What the lines of events look like.
-ghost use Rattle.std.specs.Prelude.{◌≡◌, IfOk, IfSome, MatchOption, Some, None, nat_le, option_copied, option_map};
-ghost use Rattle.std.specs.List.{list_all};
+ghost use Rattle.std.specs.Prelude.{◌≡◌, IfOk, IfSome, option_map};
 ghost use Rattle.value_model.specs.Val.{vals_of};
-ghost use Rattle.value_model.specs.Depth.{depth};
 ghost use Rattle.ejson_value.specs.View.{view, views};
-ghost use Rattle.ejson_codec.specs.Reading.{max_levels};
+ghost use Rattle.line_parts.specs.Parts.{text_alone};
 ghost use Rattle.world_model.specs.declared.events.Event.TheVariants as event;
-ghost use Rattle.ddp_messages.specs.Limits.{AreShallow};
 ghost use Rattle.world_model.specs.Events.{IsEvent};
-ghost use Rattle.world_events.specs.Events.{text_first, number_first, is_nil, text_alone, texts_alone, params_in, admin_in, sub_with, sub_in, call_with, call_in, unsub_in, raw_in, number_in, placed_in, load_at, advance_by, called_in, run_step_in, learn_in, act_of, step_in, asked_in, placed_row, row_in, event_in};
+ghost use Rattle.world_events.specs.Events.{number_first, admin_in, sub_with, sub_in, call_with, call_in, unsub_in, raw_in, number_in, placed_in, load_at, advance_by, called_in, run_step_in, learn_in, act_of, step_in, asked_in, placed_row, row_in, event_in};
 
-use ejson_value::{Items, Mem, Text, Value, Whole, depth};
+use ejson_value::{Mem, Text, Value, Whole};
+use line_parts::{is_nil, params_in, text_alone, text_first, texts_alone};
 use std::alloc::Global;
 use world_model::{Act, Event};
-
-/// How many lists and objects may stand in one another in a parameter.
-const MAX_LEVELS: u64 = 32;
-
-// The text that stands first, and what follows it.
-fn text_first(values: &[Value]) -> Option<(&Text, &[Value])>
-    ensures { MatchOption result (text_first (vals_of (views values.now)) ≡ None) (λ p. text_first (vals_of (views values.now)) ≡ Some (p.0.now, vals_of (views p.1.now))) }
-{
-    let Some((first, rest)) = values.split_first() else {
-        return None;
-    };
-    match first {
-        Value::Text(text) => Some((text, rest)),
-        _ => None,
-    }
-}
-
-fn is_nil(values: &[Value]) -> bool
-    ensures { result ≡ is_nil (vals_of (views values.now)) }
-{
-    match values.split_first() {
-        None => true,
-        Some(_) => false,
-    }
-}
-
-// The text that stands alone.
-fn text_alone(values: &[Value]) -> Option<&Text>
-    ensures { option_copied result ≡ text_alone (vals_of (views values.now)) }
-{
-    let Some((text, rest)) = text_first(values) else {
-        return None;
-    };
-    if is_nil(rest) { Some(text) } else { None }
-}
-
-// Whether each value has at most 32 levels.
-fn have_few_levels(values: &[Value]) -> bool
-    ensures { result ≡ list_all (λ v. nat_le (depth v) max_levels) (views values.now) }
-{
-    for value in values {
-        if !has_few_levels(value) {
-            return false;
-        }
-    }
-    true
-}
-
-// The parameters that stand alone; none where nothing stands.
-fn params_in(alloc: Global, values: &[Value]) -> Result<Option<Items>, Mem>
-    ensures found { IfOk result (λ params. params ≡ params_in (vals_of (views values.now))) }
-    ensures shallow { IfOk result (λ params. IfSome params AreShallow) }
-{
-    let Some((first, rest)) = values.split_first() else {
-        return Ok(Some(Items::new(alloc)));
-    };
-    let Value::List(items) = first else {
-        return Ok(None);
-    };
-    if !is_nil(rest) {
-        return Ok(None);
-    }
-    if have_few_levels(items.as_slice()) {
-        Ok(Some(items.copy()?))
-    } else {
-        Ok(None)
-    }
-}
 
 // The subscription of these parts.
 fn sub_with(
@@ -180,19 +110,6 @@ fn read_advance(values: &[Value]) -> Result<Option<Event>, Mem>
         id: id.copy()?,
         count,
     }))
-}
-
-// The two texts that stand alone.
-fn texts_alone(values: &[Value]) -> Option<(&Text, &Text)>
-    ensures { option_map (λ p. (p.0.now, p.1.now)) result ≡ texts_alone (vals_of (views values.now)) }
-{
-    let Some((first, rest)) = text_first(values) else {
-        return None;
-    };
-    match text_alone(rest) {
-        Some(second) => Some((first, second)),
-        None => None,
-    }
 }
 
 fn read_raw(values: &[Value]) -> Result<Option<Event>, Mem>
@@ -322,12 +239,6 @@ fn read_drop(values: &[Value]) -> Result<Option<Event>, Mem>
         })),
         None => Ok(None),
     }
-}
-
-fn has_few_levels(value: &Value) -> bool
-    ensures { result ≡ nat_le (depth (view value.now)) max_levels }
-{
-    depth(value) <= MAX_LEVELS
 }
 
 // The operation of an administrator: any list.
