@@ -1,36 +1,11 @@
--- A run goes on line by line.
-use Rattle.std.proofs.Common.{◌≡◌, ℕ, suc, ◌+◌, arith, List, [], ◌∷◌, ◌++◌, Option, Some, true, false, refl, ap, sym, ◌∙◌}
-use Rattle.std.specs.Prelude.{if◌then◌else◌}
+-- What an event of a run writes, and what those behind it do.
+use Rattle.std.proofs.Common.{◌≡◌, ℕ, List, [], ◌∷◌, ◌++◌, Option, Some, refl, ap, sym, ◌∙◌}
 use Rattle.std.proofs.lemmas.Grind.{flat_map-append}
 use Rattle.std.proofs.lemmas.List.{append_assoc}
 use Rattle.heartbeat.specs.Beats.{Event}
 use Rattle.heartbeat.specs.Pulse.{Pulse}
-use Rattle.checking.specs.Input.{is_blank}
 use Rattle.checking.specs.Output.{bytes_of, value_bytes}
-use Rattle.beating.specs.Lines.{event_of}
-use Rattle.beating.specs.Run.{events_of, before_bad, bad_line, bad_unless}
 use Rattle.beating.specs.Kept.{said, after, all_said, begun, said_by}
-
--- ---- a blank line, and one that is an event
-
-pub events_behind_blank : (all : List (List ℕ)) (l : List ℕ) (ls : List (List ℕ)) → all ≡ l ∷ ls → is_blank l ≡ true → events_of all ≡ events_of ls
-events_behind_blank all l ls is blank = ap events_of is ∙ ap (λ b. if b then events_of ls else before_bad (event_of l) (events_of ls)) blank
-
-pub bad_behind_blank : (n : ℕ) (all : List (List ℕ)) (l : List ℕ) (ls : List (List ℕ)) → all ≡ l ∷ ls → is_blank l ≡ true → bad_line n all ≡ bad_line (n + 1) ls
-bad_behind_blank n all l ls is blank =
-    let next : suc n ≡ n + 1 = omega arith in
-    ap (bad_line n) is ∙ ap (λ b. if b then bad_line (suc n) ls else bad_unless (event_of l) n (bad_line (suc n) ls)) blank ∙ ap (λ m. bad_line m ls) next
-
-pub events_with : (all : List (List ℕ)) (l : List ℕ) (ls : List (List ℕ)) (o : Option Event) → all ≡ l ∷ ls → is_blank l ≡ false → event_of l ≡ o → events_of all ≡ before_bad o (events_of ls)
-events_with all l ls o is filled reads =
-    ap events_of is ∙ (ap (λ b. if b then events_of ls else before_bad (event_of l) (events_of ls)) filled ∙ ap (λ e. before_bad e (events_of ls)) reads)
-
-pub bad_with : (n : ℕ) (all : List (List ℕ)) (l : List ℕ) (ls : List (List ℕ)) (o : Option Event) → all ≡ l ∷ ls → is_blank l ≡ false → event_of l ≡ o → bad_line n all ≡ bad_unless o n (bad_line (n + 1) ls)
-bad_with n all l ls o is filled reads =
-    let next : suc n ≡ n + 1 = omega arith in
-    ap (bad_line n) is ∙ (ap (λ b. if b then bad_line (suc n) ls else bad_unless (event_of l) n (bad_line (suc n) ls)) filled ∙ (ap (λ e. bad_unless e n (bad_line (suc n) ls)) reads ∙ ap (λ m. bad_unless o n (bad_line m ls)) next))
-
--- ---- what is written
 
 said_by_some : (interval timeout : ℕ) (p : Pulse) (events : List Event) → said_by interval timeout (Some p) events ≡ all_said p events
 said_by_some interval timeout p [] = refl

@@ -1,34 +1,25 @@
 -- What the command `beat` writes for an input. The heart begins at the moment of the first line. Each tick writes a line that says
 -- what is to be done; once the heart is over each line writes `["idle"]`. The events before the first line that isn't of the
 -- grammar count; then that line is named. Blank lines are passed over.
-use Rattle.std.specs.Prelude.{ℕ, suc, List, [], ◌∷◌, ◌++◌, Option, Some, None, codes, if◌then◌else◌}
+use Rattle.std.specs.Prelude.{ℕ, List, [], ◌∷◌, ◌++◌, Option, codes, if◌then◌else◌}
 use Rattle.value_model.specs.Val.{Val}
 use Rattle.heartbeat.specs.declared.heart.Beat.{Beat}
 use Rattle.heartbeat.specs.declared.heart.Beat.TheVariants.{Nothing, Ping, Close}
 use Rattle.heartbeat.specs.Beats.{Event, History, Times, heard, ticked, handed, beat, is_over}
-use Rattle.checking.specs.Input.{lines_in, is_blank}
+use Rattle.checking.specs.Input.{lines_in}
 use Rattle.checking.specs.Output.{line, bytes_of, bad_lines}
+use Rattle.checking.specs.Walk.{read_to_bad, bad_from}
 use Rattle.beating.specs.Lines.{event_of}
 
 -- ---- the lines of an input
 
-abbrev pub before_bad : Option Event → List Event → List Event
-before_bad None later = []
-before_bad (Some e) later = e ∷ later
-
 -- the events of these lines, up to the first line that is none
 abbrev pub events_of : List (List ℕ) → List Event
-events_of [] = []
-events_of (l ∷ ls) = if is_blank l then events_of ls else before_bad (event_of l) (events_of ls)
-
-abbrev pub bad_unless : Option Event → ℕ → Option ℕ → Option ℕ
-bad_unless None n later = Some n
-bad_unless (Some e) n later = later
+events_of ls = read_to_bad event_of ls
 
 -- the number of the first line that is no event, counted from n
 abbrev pub bad_line : ℕ → List (List ℕ) → Option ℕ
-bad_line n [] = None
-bad_line n (l ∷ ls) = if is_blank l then bad_line (suc n) ls else bad_unless (event_of l) n (bad_line (suc n) ls)
+bad_line n ls = bad_from event_of n ls
 
 -- ---- what is written
 

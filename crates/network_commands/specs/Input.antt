@@ -1,9 +1,10 @@
 -- What the lines of an input are: the application on the first, and for a console a script on the others. Blank lines behind the
 -- first are passed over.
-use Rattle.std.specs.Prelude.{ℕ, suc, List, [], ◌∷◌, Option, Some, None, option_and_then, if◌then◌else◌}
+use Rattle.std.specs.Prelude.{ℕ, List, Option, Some, option_and_then, if◌then◌else◌}
 use Rattle.std.specs.Result.{result_ok}
 use Rattle.app_model.specs.App.{App}
-use Rattle.checking.specs.Input.{lines_in, rest_of, is_blank, value_in}
+use Rattle.checking.specs.Input.{lines_in, rest_of, value_in}
+use Rattle.checking.specs.Walk.{read_to_bad, bad_from}
 use Rattle.checking.specs.Check.{first_reading, is_app, check_bad}
 use Rattle.client_script.specs.declared.line.Line.{Line}
 use Rattle.client_script.specs.Lines.{line_in}
@@ -18,23 +19,13 @@ app_in input = option_and_then result_ok (first_reading (lines_in input))
 abbrev pub action_in : List ℕ → Option Line
 action_in l = option_and_then line_in (value_in l)
 
-abbrev pub before_bad : Option Line → List Line → List Line
-before_bad None later = []
-before_bad (Some action) later = action ∷ later
-
 -- what these lines describe, up to the first one that is no line of a script
 abbrev pub actions_of : List (List ℕ) → List Line
-actions_of [] = []
-actions_of (l ∷ ls) = if is_blank l then actions_of ls else before_bad (action_in l) (actions_of ls)
-
-abbrev pub bad_unless : Option Line → ℕ → Option ℕ → Option ℕ
-bad_unless None n later = Some n
-bad_unless (Some action) n later = later
+actions_of ls = read_to_bad action_in ls
 
 -- the number of the first line that is no line of a script, counted from n
 abbrev pub no_action : ℕ → List (List ℕ) → Option ℕ
-no_action n [] = None
-no_action n (l ∷ ls) = if is_blank l then no_action (suc n) ls else bad_unless (action_in l) n (no_action (suc n) ls)
+no_action n ls = bad_from action_in n ls
 
 -- the script of a console's input
 abbrev pub script_in : List ℕ → List Line

@@ -1,5 +1,5 @@
 -- One line of a replay, and those that follow.
-use Rattle.std.proofs.Common.{◌≡◌, ℕ, suc, ◌+◌, ◌<◌, List, ◌∷◌, ◌++◌, length, drop, get_or, drop-cons, true, false, cond, Some, ap, sym, subst, ◌∙◌, arith, inl, inr}
+use Rattle.std.proofs.Common.{◌≡◌, ℕ, suc, ◌+◌, ◌<◌, List, ◌∷◌, ◌++◌, length, drop, get_or, drop-cons, true, false, Some, refl, ap, sym, subst, ◌∙◌, inl, inr}
 use Rattle.std.proofs.lemmas.Grind.{flat_map-append}
 use Rattle.std.proofs.lemmas.List.{append_assoc}
 use Rattle.world_core.specs.world_model.declared.events.Event.{Event}
@@ -7,29 +7,23 @@ use Rattle.world_core.specs.world_model.World.{World}
 use Rattle.world_core.specs.world_model.Lines.{lines_of}
 use Rattle.world_core.specs.world_model.Events.{step}
 use Rattle.checking.specs.Input.{is_blank}
-use Rattle.replay_core.specs.Replay.{event_of, before_bad, events_of, bad_unless, bad_line, printed, line_bytes, all_bytes}
+use Rattle.checking.specs.WalkLaws.{read_behind_blank, bad_behind_blank, read_with, bad_with}
+use Rattle.replay_core.specs.Replay.{event_of, events_of, bad_line, printed, line_bytes, all_bytes}
 use Rattle.replay_core.specs.declared.tasks.ReadLine.{ReadLine}
 use Rattle.replay_core.specs.Tasks.{AreRead, texts_of, written, Place, place, Leads}
 use Rattle.replay_core.specs.Stepping.{RunsLine}
 
-next : (n : ℕ) → suc n ≡ n + 1
-next n = omega arith
-
 events-blank : (l : List ℕ) (ls : List (List ℕ)) → is_blank l ≡ true → events_of (l ∷ ls) ≡ events_of ls
-events-blank l ls b = ap (λ t. cond t (events_of ls) (before_bad (event_of l) (events_of ls))) b
+events-blank l ls b = read_behind_blank event_of (l ∷ ls) l ls refl b
 
 bad-blank : (n : ℕ) (l : List ℕ) (ls : List (List ℕ)) → is_blank l ≡ true → bad_line n (l ∷ ls) ≡ bad_line (n + 1) ls
-bad-blank n l ls b =
-    ap (λ t. cond t (bad_line (suc n) ls) (bad_unless (event_of l) n (bad_line (suc n) ls))) b ∙ ap (λ k. bad_line k ls) (next n)
+bad-blank n l ls b = bad_behind_blank event_of n (l ∷ ls) l ls refl b
 
 events-event : (l : List ℕ) (ls : List (List ℕ)) (e : Event) → is_blank l ≡ false → event_of l ≡ Some e → events_of (l ∷ ls) ≡ e ∷ events_of ls
-events-event l ls e b is =
-    ap (λ t. cond t (events_of ls) (before_bad (event_of l) (events_of ls))) b ∙ ap (λ o. before_bad o (events_of ls)) is
+events-event l ls e b is = read_with event_of (l ∷ ls) l ls (Some e) refl b is
 
 bad-event : (n : ℕ) (l : List ℕ) (ls : List (List ℕ)) (e : Event) → is_blank l ≡ false → event_of l ≡ Some e → bad_line n (l ∷ ls) ≡ bad_line (n + 1) ls
-bad-event n l ls e b is =
-    ap (λ t. cond t (bad_line (suc n) ls) (bad_unless (event_of l) n (bad_line (suc n) ls))) b
-    ∙ (ap (λ o. bad_unless o n (bad_line (suc n) ls)) is ∙ ap (λ k. bad_line k ls) (next n))
+bad-event n l ls e b is = bad_with event_of n (l ∷ ls) l ls (Some e) refl b is
 
 written-blank : (w : World) (l : List ℕ) (ls : List (List ℕ)) → is_blank l ≡ true → written w (l ∷ ls) ≡ written w ls
 written-blank w l ls b = ap (λ events. all_bytes (printed w events)) (events-blank l ls b)

@@ -1,6 +1,6 @@
 -- What the command `replay` writes for an input: the first line is the application, and each further line that isn't blank is an event. The events before the
 -- first line that isn't of the grammar are run, and what they print is written, a line each; then that line is named.
-use Rattle.std.specs.Prelude.{ℕ, suc, List, [], ◌∷◌, ◌++◌, flat_map, Option, Some, None, option_and_then, Ok, Err, if◌then◌else◌}
+use Rattle.std.specs.Prelude.{ℕ, List, [], ◌∷◌, ◌++◌, flat_map, Option, Some, None, option_and_then, Ok, Err}
 use Rattle.app_model.specs.App.{App}
 use Rattle.program_reading.specs.Faults.{Reading}
 use Rattle.app_model.specs.Reading.{app_reading}
@@ -9,8 +9,9 @@ use Rattle.world_core.specs.world_model.World.{World, start}
 use Rattle.world_core.specs.world_model.Events.{step}
 use Rattle.world_core.specs.world_model.Lines.{lines_of}
 use Rattle.world_events.specs.Events.{event_in}
-use Rattle.checking.specs.Input.{line_feed, lines_in, rest_of, is_blank, value_in}
+use Rattle.checking.specs.Input.{line_feed, lines_in, rest_of, value_in}
 use Rattle.checking.specs.Output.{bytes_of, bad_lines}
+use Rattle.checking.specs.Walk.{read_to_bad, bad_from}
 
 -- ---- the lines of an input
 
@@ -27,23 +28,13 @@ app_of (l ∷ ls) = option_and_then (λ v. read_as (app_reading v)) (value_in l)
 abbrev pub event_of : List ℕ → Option Event
 event_of l = option_and_then event_in (value_in l)
 
-abbrev pub before_bad : Option Event → List Event → List Event
-before_bad None later = []
-before_bad (Some e) later = e ∷ later
-
 -- the events of these lines, up to the first line that is none
 abbrev pub events_of : List (List ℕ) → List Event
-events_of [] = []
-events_of (l ∷ ls) = if is_blank l then events_of ls else before_bad (event_of l) (events_of ls)
-
-abbrev pub bad_unless : Option Event → ℕ → Option ℕ → Option ℕ
-bad_unless None n later = Some n
-bad_unless (Some e) n later = later
+events_of ls = read_to_bad event_of ls
 
 -- the number of the first line that is no event, counted from n
 abbrev pub bad_line : ℕ → List (List ℕ) → Option ℕ
-bad_line n [] = None
-bad_line n (l ∷ ls) = if is_blank l then bad_line (suc n) ls else bad_unless (event_of l) n (bad_line (suc n) ls)
+bad_line n ls = bad_from event_of n ls
 
 -- the number of the first line that isn't of the grammar
 abbrev pub bad_in : Option App → List (List ℕ) → Option ℕ

@@ -21,7 +21,8 @@ use Rattle.world_core.specs.headline_for_proofs.PoliteWorldsLaws.{worlds_have_lo
 use Rattle.world_core.specs.AtRest.{settled_worlds_rest}
 use Rattle.world_core.specs.RestingRounds.{rounds_stay}
 use Rattle.checking.specs.Input.{lines_in, rest_of, is_blank, value_in}
-use Rattle.replay_core.specs.Replay.{read_as, app_of, event_of, before_bad, events_of}
+use Rattle.checking.specs.Walk.{before_bad}
+use Rattle.replay_core.specs.Replay.{read_as, app_of, event_of, events_of}
 use Rattle.replay_core.specs.ValuesRead.{IsRead}
 use Rattle.replay_core.specs.ValuesReadLaws.{from_one, line_is}
 use Rattle.replay_core.specs.EventsReadLaws.{event_is}

@@ -2,7 +2,6 @@
 -- then that line is named. Blank lines are passed over.
 use Rattle.std.specs.Prelude.{
   ℕ,
-  suc,
   pos,
   List,
   [],
@@ -23,8 +22,9 @@ use Rattle.std.specs.Prelude.{
 use Rattle.std.specs.Result.{result_ok}
 use Rattle.value_model.specs.Val.{Val, text, int}
 use Rattle.app_model.specs.App.{App}
-use Rattle.checking.specs.Input.{line_feed, lines_in, is_blank}
+use Rattle.checking.specs.Input.{line_feed, lines_in}
 use Rattle.checking.specs.Output.{line, bytes_of, bad_lines}
+use Rattle.checking.specs.Walk.{read_to_bad, bad_from}
 use Rattle.checking.specs.Check.{reading_of}
 use Rattle.client_core.specs.State.{show_lines}
 use Rattle.console_run.specs.Speaking.{asked}
@@ -43,23 +43,13 @@ use Rattle.reviving.specs.Lines.{line_of}
 abbrev pub app_of : List ℕ → Option App
 app_of l = option_and_then result_ok (reading_of l)
 
-abbrev pub before_bad : Option Line → List Line → List Line
-before_bad None later = []
-before_bad (Some l) later = l ∷ later
-
 -- the lines, up to the first that isn't of the grammar
 abbrev pub lines_of : List (List ℕ) → List Line
-lines_of [] = []
-lines_of (l ∷ ls) = if is_blank l then lines_of ls else before_bad (line_of l) (lines_of ls)
-
-abbrev pub bad_unless : Option Line → ℕ → Option ℕ → Option ℕ
-bad_unless None n later = Some n
-bad_unless (Some l) n later = later
+lines_of ls = read_to_bad line_of ls
 
 -- the number of the first line that isn't of the grammar, counted from n
 abbrev pub bad_line : ℕ → List (List ℕ) → Option ℕ
-bad_line n [] = None
-bad_line n (l ∷ ls) = if is_blank l then bad_line (suc n) ls else bad_unless (line_of l) n (bad_line (suc n) ls)
+bad_line n ls = bad_from line_of n ls
 
 -- ---- what is written
 

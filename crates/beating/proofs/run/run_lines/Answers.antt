@@ -1,11 +1,12 @@
 use Rattle.std.proofs.Common.{◌≡◌, ◌++◌, ap, sym, ◌∙◌, ◌∷◌, arith, refl, ℕ, Vec, Global, true, false, Some, option_map}
 use Rattle.checking.specs.Input.{lines_in, is_blank}
 use Rattle.checking.specs.Output.{bytes_of}
+use Rattle.checking.specs.WalkLaws.{read_behind_blank, bad_behind_blank, read_with, bad_with}
 use Rattle.beating.specs.Run.{events_of, said_from}
 use Rattle.beating.specs.Kept.{said, after, said_by}
 use Rattle.beating.specs.Lines.{event_view, event_of}
 use Rattle.beating.specs.KeptLaws.{said_by-history}
-use Rattle.beating.proofs.Steps.{events_behind_blank, bad_behind_blank, events_with, bad_with, written_event}
+use Rattle.beating.proofs.Steps.{written_event}
 use Rattle.beating.proofs.run.run_lines.Goals.{then-not-is_blank+in_ok-event+in-Some+in_ok-act, else-not-is_blank}
 use Rattle.beating.proofs.run.run_lines.Goals as goal
 
@@ -33,11 +34,11 @@ loop-rest-preserved c =
                 ap (λ (o : Vec ℕ Global). o.items ++ bytes_of (said_by c.args.interval c.args.timeout c.if-not-is_blank.heart (events_of more))) w.output-is
                 ∙ (ap (λ h. w.act.new.output.items ++ bytes_of (said_by c.args.interval c.args.timeout h (events_of more))) w.heart-is
                 ∙ written_event c.args.interval c.args.timeout c.loop-rest.heart w.act.new.heart w.act.new.output.items before whole (events_of all) (events_of more)
-                (event_view w.in-Some.event) (events_with all line more (Some (event_view w.in-Some.event)) is filled reads)
+                (event_view w.in-Some.event) (read_with event_of all line more (Some (event_view w.in-Some.event)) is filled reads)
                 (w.in_ok-act.ensures.heart ∙ ap (λ p. after p (event_view w.in-Some.event)) w.begun-going.ensures)
                 (w.in_ok-act.ensures.said ∙ ap (λ p. before ++ bytes_of (said p (event_view w.in-Some.event))) w.begun-going.ensures)
                 c.loop-rest.invariant.said);
-            bad = sym (bad_with c.loop-rest.number all line more (Some (event_view w.in-Some.event)) is filled reads) ∙ c.loop-rest.invariant.bad;
+            bad = sym (bad_with event_of c.loop-rest.number all line more (Some (event_view w.in-Some.event)) is filled reads) ∙ c.loop-rest.invariant.bad;
             number = omega (arith, c.loop-rest.invariant.number, c.first_line.ensures.shorter);
           }
       | else-not-is_blank w ↦
@@ -46,9 +47,9 @@ loop-rest-preserved c =
             said =
                 ap (λ (o : Vec ℕ Global). o.items ++ bytes_of (said_by c.args.interval c.args.timeout c.if-not-is_blank.heart (events_of more))) w.output-is
                 ∙ (ap (λ h. before ++ bytes_of (said_by c.args.interval c.args.timeout h (events_of more))) w.heart-is
-                ∙ (ap (λ es. before ++ bytes_of (said_by c.args.interval c.args.timeout c.loop-rest.heart es)) (sym (events_behind_blank all line more is blank))
+                ∙ (ap (λ es. before ++ bytes_of (said_by c.args.interval c.args.timeout c.loop-rest.heart es)) (sym (read_behind_blank event_of all line more is blank))
                 ∙ c.loop-rest.invariant.said));
-            bad = sym (bad_behind_blank c.loop-rest.number all line more is blank) ∙ c.loop-rest.invariant.bad;
+            bad = sym (bad_behind_blank event_of c.loop-rest.number all line more is blank) ∙ c.loop-rest.invariant.bad;
             number = omega (arith, c.loop-rest.invariant.number, c.first_line.ensures.shorter);
           }
     ]

@@ -1,8 +1,8 @@
 use Rattle.std.proofs.Common.{◌≡◌, ◌++◌, ap, sym, ◌∙◌, [], ◌∷◌, arith, refl, true, false, Some}
 use Rattle.std.proofs.lemmas.List.{append_assoc}
 use Rattle.checking.specs.Input.{lines_in, is_blank}
+use Rattle.checking.specs.WalkLaws.{read_behind_blank, bad_behind_blank, read_with, bad_with}
 use Rattle.network_commands.specs.Input.{action_in, actions_of}
-use Rattle.network_commands.proofs.Lines.{actions_behind_blank, bad_behind_blank, actions_with, bad_with}
 use Rattle.network_commands.proofs.input.read_actions.Goals.{then-not-is_blank+in_ok-action+in-Some+in_ok-push, else-not-is_blank}
 use Rattle.network_commands.proofs.input.read_actions.Goals as goal
 
@@ -20,9 +20,9 @@ loop-rest-preserved c =
             script =
                 ap (λ s. s ++ actions_of more) (w.script-is ∙ w.in_ok-push.ensures.ok)
                 ∙ (append_assoc c.loop-rest.script (w.in-Some.action ∷ []) (actions_of more)
-                ∙ (ap (λ s. c.loop-rest.script ++ s) (sym (actions_with all line more (Some w.in-Some.action) is filled reads))
+                ∙ (ap (λ s. c.loop-rest.script ++ s) (sym (read_with action_in all line more (Some w.in-Some.action) is filled reads))
                 ∙ c.loop-rest.invariant.script));
-            bad = sym (bad_with c.loop-rest.number all line more (Some w.in-Some.action) is filled reads) ∙ c.loop-rest.invariant.bad;
+            bad = sym (bad_with action_in c.loop-rest.number all line more (Some w.in-Some.action) is filled reads) ∙ c.loop-rest.invariant.bad;
             number = omega (arith, c.loop-rest.invariant.number, c.first_line.ensures.shorter);
           }
       | else-not-is_blank w ↦
@@ -30,9 +30,9 @@ loop-rest-preserved c =
           record {
             script =
                 ap (λ s. s ++ actions_of more) w.script-is
-                ∙ (ap (λ s. c.loop-rest.script ++ s) (sym (actions_behind_blank all line more is blank))
+                ∙ (ap (λ s. c.loop-rest.script ++ s) (sym (read_behind_blank action_in all line more is blank))
                 ∙ c.loop-rest.invariant.script);
-            bad = sym (bad_behind_blank c.loop-rest.number all line more is blank) ∙ c.loop-rest.invariant.bad;
+            bad = sym (bad_behind_blank action_in c.loop-rest.number all line more is blank) ∙ c.loop-rest.invariant.bad;
             number = omega (arith, c.loop-rest.invariant.number, c.first_line.ensures.shorter);
           }
     ]

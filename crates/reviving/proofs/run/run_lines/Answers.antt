@@ -1,10 +1,11 @@
 use Rattle.std.proofs.Common.{◌≡◌, ◌++◌, ap, sym, ◌∙◌, ◌∷◌, arith, refl, ℕ, Vec, Global, true, false, Some}
 use Rattle.checking.specs.Input.{lines_in, is_blank}
 use Rattle.checking.specs.Output.{bytes_of}
+use Rattle.checking.specs.WalkLaws.{read_behind_blank, bad_behind_blank, read_with, bad_with}
 use Rattle.revived_client.specs.State.{RevivedState}
 use Rattle.reviving.specs.Run.{lines_of, all_written}
 use Rattle.reviving.specs.Lines.{line_of}
-use Rattle.reviving.proofs.Steps.{lines_behind_blank, bad_behind_blank, lines_with, bad_with, written_line}
+use Rattle.reviving.proofs.Steps.{written_line}
 use Rattle.reviving.proofs.run.run_lines.Goals.{then-not-is_blank+in_ok-read+in-Some+in_ok-act, else-not-is_blank}
 use Rattle.reviving.proofs.run.run_lines.Goals as goal
 
@@ -25,8 +26,8 @@ loop-rest-preserved c =
                 ap (λ (o : Vec ℕ Global). o.items ++ bytes_of (all_written c.if-not-is_blank.client (lines_of more))) w.output-is
                 ∙ (ap (λ (v : RevivedState). w.act.new.output.items ++ bytes_of (all_written v (lines_of more))) w.client-is
                 ∙ written_line c.loop-rest.client w.act.new.client w.act.new.output.items before whole (lines_of all) (lines_of more) w.in-Some.read
-                (lines_with all line more (Some w.in-Some.read) is filled reads) w.in_ok-act.ensures.client w.in_ok-act.ensures.written c.loop-rest.invariant.written);
-            bad = sym (bad_with c.loop-rest.number all line more (Some w.in-Some.read) is filled reads) ∙ c.loop-rest.invariant.bad;
+                (read_with line_of all line more (Some w.in-Some.read) is filled reads) w.in_ok-act.ensures.client w.in_ok-act.ensures.written c.loop-rest.invariant.written);
+            bad = sym (bad_with line_of c.loop-rest.number all line more (Some w.in-Some.read) is filled reads) ∙ c.loop-rest.invariant.bad;
             number = omega (arith, c.loop-rest.invariant.number, c.first_line.ensures.shorter);
           }
       | else-not-is_blank w ↦
@@ -35,9 +36,9 @@ loop-rest-preserved c =
             written =
                 ap (λ (o : Vec ℕ Global). o.items ++ bytes_of (all_written c.if-not-is_blank.client (lines_of more))) w.output-is
                 ∙ (ap (λ (v : RevivedState). before ++ bytes_of (all_written v (lines_of more))) w.client-is
-                ∙ (ap (λ es. before ++ bytes_of (all_written c.loop-rest.client es)) (sym (lines_behind_blank all line more is blank))
+                ∙ (ap (λ es. before ++ bytes_of (all_written c.loop-rest.client es)) (sym (read_behind_blank line_of all line more is blank))
                 ∙ c.loop-rest.invariant.written));
-            bad = sym (bad_behind_blank c.loop-rest.number all line more is blank) ∙ c.loop-rest.invariant.bad;
+            bad = sym (bad_behind_blank line_of c.loop-rest.number all line more is blank) ∙ c.loop-rest.invariant.bad;
             number = omega (arith, c.loop-rest.invariant.number, c.first_line.ensures.shorter);
           }
     ]
