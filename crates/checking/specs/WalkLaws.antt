@@ -1,5 +1,5 @@
 -- Laws: A walk over lines goes on behind a blank line, and behind one that isn't blank.
-use Rattle.std.specs.Prelude.{◌≡◌, ℕ, suc, ◌+◌, List, [], ◌∷◌, Option, Bool, true, false, if◌then◌else◌}
+use Rattle.std.specs.Prelude.{◌≡◌, ℕ, suc, ◌+◌, List, ◌∷◌, Option, Bool, true, false, if◌then◌else◌}
 use Rattle.std.proofs.Common.{ap, ◌∙◌, arith}
 use Rattle.checking.specs.Input.{is_blank}
 use Rattle.checking.specs.Walk.{before_bad, read_to_bad, bad_unless, bad_from}

@@ -1,5 +1,4 @@
 pub mod Numbered
-pub mod Lines
 pub mod State
 pub mod Faults
 pub mod Asked

@@ -5,7 +5,7 @@ use Rattle.view_model.specs.Views.{View}
 use Rattle.ejson_value.specs.declared.key.Key.{Key}
 use Rattle.app_model.specs.App.{App}
 use Rattle.client_model.specs.Client.{Client, Subs, Call}
-use Rattle.client_core.specs.Lines.{shown}
+use Rattle.client_model.specs.Lines.{shown}
 
 -- a client with its name, and the application whose stubs it runs
 pub record Own : Type 0 where

@@ -10,7 +10,7 @@ ghost use Rattle.ejson_value.specs.View.{view as value_view};
 ghost use Rattle.stub_simulation.specs.Simulating.{simulation, IsSimulated};
 ghost use Rattle.client_core.specs.Asked.{Does, Calls, AreOf, IsEntered, IsSent, asked_for, called_by};
 ghost use Rattle.client_core.specs.State.{show_lines};
-ghost use Rattle.client_core.specs.Lines.{line_texts};
+ghost use Rattle.client_model.specs.Lines.{line_texts};
 
 use crate::calls::{Call, are_settled, call_at};
 use crate::fault::ClientFault;

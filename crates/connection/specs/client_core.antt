@@ -1,5 +1,4 @@
 -- What crates above name of `client_core`.
-pub use Rattle.connection_laws.specs.client_core.Lines
 pub use Rattle.connection_laws.specs.client_core.Asked
 pub use Rattle.connection_laws.specs.client_core.State
 pub use Rattle.connection_laws.specs.client_core.Taken

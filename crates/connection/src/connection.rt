@@ -3,7 +3,7 @@ ghost use Rattle.std.specs.Prelude.{◌≡◌, map, IfOk};
 ghost use Rattle.connection.specs.session_model.Subscriptions.{sub_named, cursor_of};
 ghost use Rattle.connection.specs.session_state.Subs.{as_live, observers_of};
 ghost use Rattle.connection.specs.session_state.Work.{running_from};
-ghost use Rattle.connection.specs.client_core.Lines.{line_texts};
+ghost use Rattle.client_model.specs.Lines.{line_texts};
 ghost use Rattle.connection.specs.client_core.State.{show_lines};
 ghost use Rattle.connection.specs.world_model.Lines.{line_text};
 ghost use Rattle.connection.specs.connection_laws.Connection.{new_connection};

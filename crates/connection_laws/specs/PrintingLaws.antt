@@ -1,17 +1,12 @@
 -- Laws: What a client has and what its session did, as lines: these are printed from what is kept.
-use Rattle.std.specs.Prelude.{◌≡◌, ℕ, suc, List, [], ◌∷◌, ◌++◌, length, map, take, drop, codes, decimal, Option, Some, None, refl}
+use Rattle.std.specs.Prelude.{◌≡◌, ℕ, List, [], ◌∷◌, ◌++◌, length, map, take, drop, codes, Option, refl}
 use Rattle.std.proofs.Common.{ap, ap₂, ◌∙◌}
 use Rattle.value_model.specs.Val.{Val, text}
 use Rattle.ddp_messages.specs.ServerMessage.{ServerMessage}
-use Rattle.program_steps.specs.Runs.{Outcome, done, failed}
 use Rattle.app_model.specs.App.{App}
 use Rattle.world_invariant_laws.specs.history_model.declared.entry.Entry.{Entry}
-use Rattle.world_invariant_laws.specs.history_model.Lines.{worded, doc_value}
-use Rattle.client_model.specs.declared.subs.SubState.{SubState}
-use Rattle.client_model.specs.declared.subs.SubState.TheVariants as sub_state
-use Rattle.client_model.specs.Client.{Sub, Call}
-use Rattle.client_model.specs.Asking.{outcome_in}
-use Rattle.client_core.specs.Lines as parts
+use Rattle.world_invariant_laws.specs.history_model.Lines.{worded}
+use Rattle.client_model.specs.Lines.{line_texts}
 use Rattle.client_core.specs.State.{show_lines}
 use Rattle.world_invariant_laws.specs.session_model.Texts.{server_text}
 use Rattle.world_invariant_laws.specs.session_model.Items.{Item}
@@ -24,7 +19,7 @@ use Rattle.session_laws.specs.session_journal_laws.declared.stored.Stored.{Store
 use Rattle.session_laws.specs.session_journal_laws.Stands.{items_of}
 use Rattle.session_laws.specs.Storing.{kept_as, shown_id}
 use Rattle.world_invariant_laws.specs.world_model.Store.{moments}
-use Rattle.world_invariant_laws.specs.world_model.Lines.{state_words, outcome_words, sub_value, method_values, show_values, Line, value_line, out_line, item_value, items_lines, journal_lines, texts_of}
+use Rattle.world_invariant_laws.specs.world_model.Lines.{show_values, Line, value_line, out_line, item_value, items_lines, journal_lines, texts_of}
 use Rattle.connection_laws.specs.Connection.{AConnection, as_conn, AreKeptOf, IsConnection}
 use Rattle.connection_laws.specs.Printing.{kept_journal, kept_lines, kept_value}
 
@@ -85,32 +80,7 @@ journal_is app name history x p =
 
 -- ---- what a client has
 
-same_state : (s : SubState) → parts.state_words s ≡ state_words s
-same_state sub_state.Waiting = refl
-same_state sub_state.Ready = refl
-same_state sub_state.Ended = refl
-same_state (sub_state.Refused code) = refl
-
-same_outcome : (o : Option Outcome) → parts.outcome_words o ≡ outcome_words o
-same_outcome None = refl
-same_outcome (Some (done None)) = refl
-same_outcome (Some (done (Some v))) = refl
-same_outcome (Some (failed fault)) = refl
-
-same_subs : (subs : List (List ℕ × Sub)) → map parts.sub_line subs ≡ map sub_value subs
-same_subs [] = refl
-same_subs (sub ∷ subs) = ap₂ (λ (words : List Val) (vs : List Val). worded (codes "sub") (text sub.0 ∷ words) ∷ vs) (same_state sub.1.state) (same_subs subs)
-
-same_methods : (n : ℕ) (calls : List Call) → parts.method_lines n calls ≡ method_values n calls
-same_methods n [] = refl
-same_methods n (call ∷ calls) = ap₂ (λ (words : List Val) (vs : List Val). worded (codes "method") (text (decimal n) ∷ words) ∷ vs)
-    (same_outcome (outcome_in (Some call))) (same_methods (suc n) calls)
-
 -- what the client prints are the lines of its name
 pub show_is : (app : App) (name : List ℕ) (history : List Entry) (x : AConnection) → IsConnection app name history x →
-    parts.line_texts (show_lines x.own) ≡ texts_of (show_values name (as_conn x).client)
-show_is app name history x p =
-    let c = x.own.client in
-    ap texts_of
-    (ap₂ (λ (subs methods : List Val). worded (codes "show") (text x.own.name ∷ []) ∷ (map doc_value c.documents.view ++ (subs ++ methods))) (same_subs c.subs) (same_methods 1 c.calls)
-    ∙ ap (λ (n : List ℕ). show_values n c) p.named)
+    line_texts (show_lines x.own) ≡ texts_of (show_values name (as_conn x).client)
+show_is app name history x p = ap (λ (n : List ℕ). texts_of (show_values n x.own.client)) p.named

@@ -1,5 +1,4 @@
 -- What crates above name of `client_core`.
-pub use Rattle.client_core.specs.Lines
 pub use Rattle.client_core.specs.Asked
 pub use Rattle.client_core.specs.State
 pub use Rattle.client_core.specs.Taken

@@ -4,7 +4,7 @@ ghost use Rattle.ejson_value.specs.declared.value.Value.{Value as AValue};
 ghost use Rattle.ejson_value.specs.View.{view};
 ghost use Rattle.app_model.specs.App.{App};
 ghost use Rattle.world_invariant_laws.specs.history_model.declared.entry.Entry.{Entry};
-ghost use Rattle.client_core.specs.Lines.{line_texts};
+ghost use Rattle.client_model.specs.Lines.{line_texts};
 ghost use Rattle.client_core.specs.State.{show_lines};
 ghost use Rattle.world_invariant_laws.specs.world_model.Store.{value_of};
 ghost use Rattle.world_invariant_laws.specs.world_model.Conn.{new_conn, state_in};

@@ -8,7 +8,7 @@ use Rattle.duct.specs.Polls.{has_closed}
 use Rattle.app_model.specs.App.{App}
 use Rattle.client_model.specs.Client.{new_client}
 use Rattle.client_model.specs.Asking.{is_connected, is_settled}
-use Rattle.client_core.specs.Lines.{line_texts}
+use Rattle.client_model.specs.Lines.{line_texts}
 use Rattle.client_core.specs.State.{Own, show_lines}
 use Rattle.client_script.specs.declared.line.Line.{Line}
 use Rattle.client_script.specs.declared.line.Line.TheVariants as line

@@ -2,7 +2,7 @@
 use Rattle.std.specs.Prelude.{◌≡◌, ℕ, List, ◌∷◌, Bool, true, false, Result, Ok, Err}
 use Rattle.client_model.specs.Taking.{told_text}
 use Rattle.client_model.specs.Asking.{is_connected, is_settled, can_sub, subscribed, can_unsub, unsubscribed, can_call}
-use Rattle.client_core.specs.Lines.{line_texts}
+use Rattle.client_model.specs.Lines.{line_texts}
 use Rattle.client_core.specs.State.{Own, show_lines}
 use Rattle.client_core.specs.Asked.{called_by}
 use Rattle.client_core.specs.declared.fault.ClientFault.{ClientFault}

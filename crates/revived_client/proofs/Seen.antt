@@ -7,7 +7,7 @@ use Rattle.client_model.specs.Client.{Client}
 use Rattle.client_model.specs.Taking.{told_text}
 use Rattle.client_model.specs.TakingLaws.{text_breaks}
 use Rattle.client_model.specs.Asking.{can_take, is_connected, is_settled}
-use Rattle.client_core.specs.Lines.{line_texts}
+use Rattle.client_model.specs.Lines.{line_texts}
 use Rattle.client_core.specs.State.{Own, show_lines}
 use Rattle.client_core.specs.declared.fault.ClientFault.{ClientFault}
 use Rattle.client_core.specs.declared.fault.ClientFault.TheVariants as fault

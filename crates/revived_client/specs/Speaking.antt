@@ -1,7 +1,7 @@
 -- A client that lives through several links, seen over one of them.
 use Rattle.std.specs.Prelude.{◌≡◌, ℕ, [], ◌∷◌, ◌&&◌, Option, Some, None, is_none, if◌then◌else◌}
 use Rattle.client_model.specs.Asking.{is_connected, is_settled}
-use Rattle.client_core.specs.Lines.{line_texts}
+use Rattle.client_model.specs.Lines.{line_texts}
 use Rattle.client_core.specs.State.{show_lines}
 use Rattle.client_script.specs.Speaking.{Look, Deed}
 use Rattle.client_script.specs.Speaking as deed

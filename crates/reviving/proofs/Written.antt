@@ -3,7 +3,7 @@ use Rattle.std.specs.Prelude.{◌≡◌, ◌++◌, ◌∷◌, [], ℕ, List, Res
 use Rattle.std.proofs.Common.{ap, ◌∙◌}
 use Rattle.value_model.specs.Val.{Val}
 use Rattle.checking.specs.Output.{bytes_of, value_bytes}
-use Rattle.client_core.specs.Lines.{line_texts}
+use Rattle.client_model.specs.Lines.{line_texts}
 use Rattle.reviving.specs.Run.{line_bytes}
 
 shown_lines : (vs : List Val) → line_bytes (line_texts vs) ≡ bytes_of vs

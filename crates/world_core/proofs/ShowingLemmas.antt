@@ -6,7 +6,7 @@ use Rattle.map_model.specs.Maps.{at}
 use Rattle.value_model.specs.Order.{text_cmp}
 use Rattle.world_core.specs.history_model.LimitLaws.{legal_within}
 use Rattle.world_core.specs.history_model.HistoryLaws.{held_entries}
-use Rattle.world_core.specs.client_core.Lines.{line_texts}
+use Rattle.client_model.specs.Lines.{line_texts}
 use Rattle.world_core.specs.client_core.State.{show_lines}
 use Rattle.world_core.specs.world_model.declared.events.Act.{Act}
 use Rattle.world_core.specs.world_model.declared.events.Event.{Event}

@@ -1,3 +1,2 @@
 -- What crates above name of `client_core`.
-pub use Rattle.connection.specs.client_core.Lines
 pub use Rattle.connection.specs.client_core.State

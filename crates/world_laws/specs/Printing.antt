@@ -1,7 +1,7 @@
 -- What an event prints of what is kept of a world.
 use Rattle.std.specs.Prelude.{◌≡◌, ℕ, List, [], ◌∷◌, map, false, Option, Some, None, option_map, option_and_then, refl}
 use Rattle.std.proofs.Common.{ap, sym, ◌∙◌}
-use Rattle.connection_laws.specs.client_core.Lines as parts
+use Rattle.client_model.specs.Lines.{line_texts}
 use Rattle.connection_laws.specs.client_core.State.{show_lines}
 use Rattle.headline.specs.world_model.declared.events.Act.{Act}
 use Rattle.headline.specs.world_model.declared.events.Act.TheVariants as act
@@ -80,7 +80,7 @@ pub nobody_printed : (x : AWorld) (name : List ℕ) (a : Ask) → connection_of 
 nobody_printed x name a is = ap (λ (o : Option Conn). idle_unless (can_ask_by a o)) (conn_is x name ∙ ap (option_map as_conn) is)
 
 pub shown : (x : AWorld) → IsWorld x → (name : List ℕ) (c : AConnection) → connection_of x name ≡ Some c →
-    lines_of (as_world x) (event.Show name) ≡ parts.line_texts (show_lines c.own)
+    lines_of (as_world x) (event.Show name) ≡ line_texts (show_lines c.own)
 shown x p name c is = ap (λ (o : Option Conn). texts_of (shown_values name o)) (conn_there x name c is)
     ∙ sym (show_is x.app name x.history c (client_is x p name c is).connection)
 

@@ -1,7 +1,7 @@
 //! What an event prints.
 ghost use Rattle.std.specs.Prelude.{◌≡◌, ℕ, List, [], ◌∷◌, map, Option, None, Some, false};
 ghost use Rattle.connection_laws.specs.client_core.State.{show_lines};
-ghost use Rattle.connection_laws.specs.client_core.Lines.{line_texts};
+ghost use Rattle.client_model.specs.Lines.{line_texts};
 ghost use Rattle.headline.specs.world_model.declared.events.Act.{Act as AnAct};
 ghost use Rattle.headline.specs.world_model.declared.events.Act.TheVariants as act;
 ghost use Rattle.headline.specs.world_model.declared.events.Answer.{Answer as AnAnswer};

@@ -1,14 +1,11 @@
 -- The lines that an event prints: each the EJSON text of a list, whose first element says what the line is.
-use Rattle.std.specs.Prelude.{ℕ, suc, List, [], ◌∷◌, ◌++◌, length, map, Bool, true, false, Option, Some, None, codes, decimal}
+use Rattle.std.specs.Prelude.{ℕ, List, [], ◌∷◌, ◌++◌, length, map, Bool, true, false, Option, Some, None, codes}
 use Rattle.value_model.specs.Val.{Val, text}
-use Rattle.program_steps.specs.Runs.{Outcome, done, failed}
 use Rattle.app_model.specs.App.{App}
 use Rattle.history_model.specs.declared.entry.Entry.{Entry}
-use Rattle.history_model.specs.Lines.{worded, number, doc_value, line_of, store_lines, history_lines}
-use Rattle.client_model.specs.declared.subs.SubState.{SubState}
-use Rattle.client_model.specs.declared.subs.SubState.TheVariants as sub_state
-use Rattle.client_model.specs.Client.{Sub, Call, Client}
-use Rattle.client_model.specs.Asking.{outcome_in}
+use Rattle.history_model.specs.Lines.{worded, number, line_of, store_lines, history_lines}
+use Rattle.client_model.specs.Client.{Client}
+use Rattle.client_model.specs.Lines.{shown}
 use Rattle.session_model.specs.Texts.{server_text}
 use Rattle.session_model.specs.Items.{Item, id_of}
 use Rattle.session_model.specs.Items as item
@@ -31,34 +28,9 @@ use Rattle.world_model.specs.Events.{act_by, refusal_of}
 
 -- ---- what a client has
 
--- what became of a subscription
-abbrev pub state_words : SubState → List Val
-state_words sub_state.Waiting = text (codes "waiting") ∷ []
-state_words sub_state.Ready = text (codes "ready") ∷ []
-state_words sub_state.Ended = text (codes "ended") ∷ []
-state_words (sub_state.Refused code) = text (codes "refused") ∷ text code ∷ []
-
-abbrev pub sub_value : List ℕ × Sub → Val
-sub_value sub = worded (codes "sub") (text sub.0 ∷ state_words sub.1.state)
-
--- and of a call
-abbrev pub outcome_words : Option Outcome → List Val
-outcome_words None = text (codes "waiting") ∷ []
-outcome_words (Some (done None)) = text (codes "done") ∷ []
-outcome_words (Some (done (Some v))) = text (codes "done") ∷ v ∷ []
-outcome_words (Some (failed fault)) = text (codes "failed") ∷ text fault.code ∷ text fault.reason ∷ []
-
-abbrev pub method_value : ℕ → Call → Val
-method_value n call = worded (codes "method") (text (decimal n) ∷ outcome_words (outcome_in (Some call)))
-
--- the calls, the first of which has this number
-abbrev pub method_values : ℕ → List Call → List Val
-method_values n [] = []
-method_values n (call ∷ calls) = method_value n call ∷ method_values (suc n) calls
-
 -- the documents that the client of this name shows, by key; its subscriptions by id; its calls by number
 abbrev pub show_values : List ℕ → Client → List Val
-show_values name c = worded (codes "show") (text name ∷ []) ∷ (map doc_value c.documents.view ++ (map sub_value c.subs ++ method_values 1 c.calls))
+show_values name c = shown name c.documents.view c.subs c.calls
 
 -- ---- what a session did
 

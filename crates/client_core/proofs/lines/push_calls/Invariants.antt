@@ -1,5 +1,5 @@
 use Rattle.std.proofs.Common.{◌≡◌, ◌++◌, suc, drop}
-use Rattle.client_core.specs.Lines.{method_lines, line_texts}
+use Rattle.client_model.specs.Lines.{method_lines, line_texts}
 use Rattle.client_core.proofs.lines.push_calls.Given as goal
 
 -- as many calls are told as the number says

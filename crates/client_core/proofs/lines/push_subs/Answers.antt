@@ -1,4 +1,4 @@
-use Rattle.client_core.specs.Lines.{sub_line}
+use Rattle.client_model.specs.Lines.{sub_line}
 use Rattle.client_core.proofs.Printed.{next_line}
 use Rattle.client_core.proofs.lines.push_subs.Goals as goal
 

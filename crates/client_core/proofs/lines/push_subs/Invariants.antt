@@ -1,5 +1,5 @@
 use Rattle.std.proofs.Common.{◌≡◌, ◌++◌, map}
-use Rattle.client_core.specs.Lines.{sub_line, line_texts}
+use Rattle.client_model.specs.Lines.{sub_line, line_texts}
 use Rattle.client_core.proofs.lines.push_subs.Given as goal
 
 abbrev pub invariant-loop-id : goal.invariant-loop-id
