@@ -1,6 +1,6 @@
 -- A message that is handled.
 use Rattle.std.proofs.Common.{◌≡◌, ℕ, ◌-◌, List, [], ◌∷◌, ◌++◌, length, map, Bool, true, false, cond, Option, Some, None, refl, ap, sym, subst, ◌∙◌, arith}
-use Rattle.std.specs.Prelude.{◌==◌, option_map, is_some, drop, Ok, Err}
+use Rattle.std.specs.Prelude.{option_map, is_some, drop, Ok, Err}
 use Rattle.std.proofs.lemmas.List.{length-drop, drop-map}
 use Rattle.merge_model.specs.Publishing.{Call}
 use Rattle.value_model.specs.Val.{Entries}
@@ -20,11 +20,11 @@ use Rattle.session_core.specs.session_model.Fits.{item_for, opened_by, closed_by
 use Rattle.session_core.specs.session_state.declared.own.Step.{Step}
 use Rattle.session_core.specs.session_state.declared.own.Step.TheVariants as step
 use Rattle.session_core.specs.session_state.Own.{as_state, stepped, started_by, observers_after as observers_stepped}
-use Rattle.session_core.specs.session_state.Subs.{observers_of, observers_without as without_stepped}
+use Rattle.session_core.specs.session_state.Subs.{observers_of}
 use Rattle.session_core.specs.declared.adding.Addition.{Addition}
 use Rattle.session_core.specs.Asked.{Carries}
 use Rattle.session_core.specs.session_laws.Session.{ASession, is_full}
-use Rattle.session_core.specs.session_laws.Observers.{observers_without}
+use Rattle.session_core.specs.session_model.Observers.{observers_without}
 use Rattle.session_core.specs.session_laws.Events.{HasDone, HasHandled, IsHandledAs, plain_call, observers_after}
 use Rattle.session_core.specs.declared.inner.Inner.{Inner}
 use Rattle.session_core.specs.Kept.{seen, IsKept}
@@ -79,18 +79,13 @@ gone_is (step.Close t) (item.close s message) c = ap (λ (n : ℕ). gone_by (ste
 gone_is (step.Handle id call) (item.call k message seed) c = refl
 gone_is s i c = absurd c
 
-same_without : (s : ℕ) (ls : List Live) (os : List (Option AnObserver)) → without_stepped s ls os ≡ observers_without s ls os
-same_without s [] os = refl
-same_without s (l ∷ ls) [] = refl
-same_without s (l ∷ ls) (o ∷ os) = ap (λ (xs : List (Option AnObserver)). cond (s == l.sub) xs (o ∷ xs)) (same_without s ls os)
-
 observers_are : (s : Step) (i : Item) → Carries s i → (ls : List Live) (os : List (Option AnObserver)) → observers_stepped s ls os ≡ observers_after i ls os
 observers_are step.Stay (item.same message) c ls os = refl
 observers_are step.Stay (item.nosub message fault) c ls os = refl
 observers_are step.Stay (item.unknown message) c ls os = refl
 observers_are step.Stay item.pong c ls os = refl
 observers_are (step.Open sub) (item.subscribe s message cursors) c ls os = ap (λ (o : Option AnObserver). os ++ o ∷ []) c
-observers_are (step.Close t) (item.close s message) c ls os = ap (λ (n : ℕ). without_stepped n ls os) c ∙ same_without s ls os
+observers_are (step.Close t) (item.close s message) c ls os = ap (λ (n : ℕ). observers_without n ls os) c
 observers_are (step.Handle id call) (item.call k message seed) c ls os = refl
 observers_are s i c ls os = absurd c
 

@@ -22,10 +22,10 @@ use Rattle.session_core.specs.session_model.Out.{ready}
 use Rattle.session_core.specs.session_journal_laws.declared.stored.Stored.TheVariants as stored
 use Rattle.session_core.specs.session_state.declared.own.Step.TheVariants as step
 use Rattle.session_core.specs.session_state.Own.{as_state, stepped, observers_after}
-use Rattle.session_core.specs.session_state.Subs.{observers_of, live_of, observer_at as observer_kept, observers_with as kept_with}
+use Rattle.session_core.specs.session_state.Subs.{observers_of, live_of}
 use Rattle.session_core.specs.declared.adding.Addition.{Addition}
 use Rattle.session_core.specs.session_laws.Session.{ASession, is_full, is_at_work, can_load, place_on, place_after}
-use Rattle.session_core.specs.session_laws.Observers.{observer_at, observers_with}
+use Rattle.session_core.specs.session_model.Observers.{observer_at, observers_with}
 use Rattle.session_core.specs.session_laws.LoadingLaws.{advanced_is, with_same}
 use Rattle.session_core.specs.session_laws.Events.{HasLoaded, HasAdvanced, HasFed, Tells, observer_of}
 use Rattle.session_core.specs.declared.inner.Inner.{Inner}
@@ -86,37 +86,32 @@ does_advance st sub count place e = by (place_went (cursor_of sub st.subs) count
 
 -- ---- observers
 
-with_loaded : (s place : ℕ) (o : Option AnObserver) (ls : List Live) (os : List (Option AnObserver)) → kept_with s o (loaded s place ls) os ≡ observers_with s o ls os
+with_loaded : (s place : ℕ) (o : Option AnObserver) (ls : List Live) (os : List (Option AnObserver)) → observers_with s o (loaded s place ls) os ≡ observers_with s o ls os
 with_loaded s place o [] os = refl
-with_loaded s place o (l ∷ ls) [] = elim (s == l.sub) as (λ b. kept_with s o (cond b (record l { cursor = Some place } ∷ ls) (l ∷ loaded s place ls)) [] ≡ []) [ true ↦ refl | false ↦ refl ]
-with_loaded s place o (l ∷ ls) (x ∷ os) = elim (s == l.sub) as (λ b. s == l.sub ≡ b → kept_with s o (cond b (record l { cursor = Some place } ∷ ls) (l ∷ loaded s place ls)) (x ∷ os) ≡ cond b (o ∷ os) (x ∷ observers_with s o ls os)) [
-  | true ↦ λ is. ap (λ b. cond b (o ∷ os) (x ∷ kept_with s o ls os)) is
-  | false ↦ λ is. ap (λ b. cond b (o ∷ os) (x ∷ kept_with s o (loaded s place ls) os)) is ∙ ap (λ (xs : List (Option AnObserver)). x ∷ xs) (with_loaded s place o ls os)
+with_loaded s place o (l ∷ ls) [] = elim (s == l.sub) as (λ b. observers_with s o (cond b (record l { cursor = Some place } ∷ ls) (l ∷ loaded s place ls)) [] ≡ []) [ true ↦ refl | false ↦ refl ]
+with_loaded s place o (l ∷ ls) (x ∷ os) = elim (s == l.sub) as (λ b. s == l.sub ≡ b → observers_with s o (cond b (record l { cursor = Some place } ∷ ls) (l ∷ loaded s place ls)) (x ∷ os) ≡ cond b (o ∷ os) (x ∷ observers_with s o ls os)) [
+  | true ↦ λ is. ap (λ b. cond b (o ∷ os) (x ∷ observers_with s o ls os)) is
+  | false ↦ λ is. ap (λ b. cond b (o ∷ os) (x ∷ observers_with s o (loaded s place ls) os)) is ∙ ap (λ (xs : List (Option AnObserver)). x ∷ xs) (with_loaded s place o ls os)
 ] refl
 
-with_advanced : (s count : ℕ) (o : Option AnObserver) (ls : List Live) (os : List (Option AnObserver)) → kept_with s o (advanced s count ls) os ≡ observers_with s o ls os
+with_advanced : (s count : ℕ) (o : Option AnObserver) (ls : List Live) (os : List (Option AnObserver)) → observers_with s o (advanced s count ls) os ≡ observers_with s o ls os
 with_advanced s count o [] os = refl
-with_advanced s count o (l ∷ ls) [] = elim (s == l.sub) as (λ b. kept_with s o (cond b (record l { cursor = moved count l.cursor } ∷ ls) (l ∷ advanced s count ls)) [] ≡ []) [ true ↦ refl | false ↦ refl ]
-with_advanced s count o (l ∷ ls) (x ∷ os) = elim (s == l.sub) as (λ b. s == l.sub ≡ b → kept_with s o (cond b (record l { cursor = moved count l.cursor } ∷ ls) (l ∷ advanced s count ls)) (x ∷ os) ≡ cond b (o ∷ os) (x ∷ observers_with s o ls os)) [
-  | true ↦ λ is. ap (λ b. cond b (o ∷ os) (x ∷ kept_with s o ls os)) is
-  | false ↦ λ is. ap (λ b. cond b (o ∷ os) (x ∷ kept_with s o (advanced s count ls) os)) is ∙ ap (λ (xs : List (Option AnObserver)). x ∷ xs) (with_advanced s count o ls os)
+with_advanced s count o (l ∷ ls) [] = elim (s == l.sub) as (λ b. observers_with s o (cond b (record l { cursor = moved count l.cursor } ∷ ls) (l ∷ advanced s count ls)) [] ≡ []) [ true ↦ refl | false ↦ refl ]
+with_advanced s count o (l ∷ ls) (x ∷ os) = elim (s == l.sub) as (λ b. s == l.sub ≡ b → observers_with s o (cond b (record l { cursor = moved count l.cursor } ∷ ls) (l ∷ advanced s count ls)) (x ∷ os) ≡ cond b (o ∷ os) (x ∷ observers_with s o ls os)) [
+  | true ↦ λ is. ap (λ b. cond b (o ∷ os) (x ∷ observers_with s o ls os)) is
+  | false ↦ λ is. ap (λ b. cond b (o ∷ os) (x ∷ observers_with s o (advanced s count ls) os)) is ∙ ap (λ (xs : List (Option AnObserver)). x ∷ xs) (with_advanced s count o ls os)
 ] refl
 
-same_at : (s : ℕ) (ls : List Live) (os : List (Option AnObserver)) → observer_kept s ls os ≡ observer_at s ls os
-same_at s [] os = refl
-same_at s (l ∷ ls) [] = refl
-same_at s (l ∷ ls) (o ∷ os) = ap (λ (x : Option AnObserver). cond (s == l.sub) o x) (same_at s ls os)
-
-at_advanced : (s count : ℕ) (ls : List Live) (os : List (Option AnObserver)) → observer_kept s (advanced s count ls) os ≡ observer_at s ls os
+at_advanced : (s count : ℕ) (ls : List Live) (os : List (Option AnObserver)) → observer_at s (advanced s count ls) os ≡ observer_at s ls os
 at_advanced s count [] os = refl
-at_advanced s count (l ∷ ls) [] = elim (s == l.sub) as (λ b. observer_kept s (cond b (record l { cursor = moved count l.cursor } ∷ ls) (l ∷ advanced s count ls)) [] ≡ None) [ true ↦ refl | false ↦ refl ]
-at_advanced s count (l ∷ ls) (x ∷ os) = elim (s == l.sub) as (λ b. s == l.sub ≡ b → observer_kept s (cond b (record l { cursor = moved count l.cursor } ∷ ls) (l ∷ advanced s count ls)) (x ∷ os) ≡ cond b x (observer_at s ls os)) [
-  | true ↦ λ is. ap (λ b. cond b x (observer_kept s ls os)) is
-  | false ↦ λ is. ap (λ b. cond b x (observer_kept s (advanced s count ls) os)) is ∙ at_advanced s count ls os
+at_advanced s count (l ∷ ls) [] = elim (s == l.sub) as (λ b. observer_at {A = AnObserver} s (cond b (record l { cursor = moved count l.cursor } ∷ ls) (l ∷ advanced s count ls)) [] ≡ None) [ true ↦ refl | false ↦ refl ]
+at_advanced s count (l ∷ ls) (x ∷ os) = elim (s == l.sub) as (λ b. s == l.sub ≡ b → observer_at s (cond b (record l { cursor = moved count l.cursor } ∷ ls) (l ∷ advanced s count ls)) (x ∷ os) ≡ cond b x (observer_at s ls os)) [
+  | true ↦ λ is. ap (λ b. cond b x (observer_at s ls os)) is
+  | false ↦ λ is. ap (λ b. cond b x (observer_at s (advanced s count ls) os)) is ∙ at_advanced s count ls os
 ] refl
 
-pub observer_is : (sub : ℕ) (a : Inner) → observer_kept sub (as_state a.parts.own).subs (observers_of a.parts.own.subs.items) ≡ observer_of sub (seen a)
-observer_is sub a = same_at sub (as_state a.parts.own).subs (observers_of a.parts.own.subs.items)
+pub observer_is : (sub : ℕ) (a : Inner) → observer_at sub (as_state a.parts.own).subs (observers_of a.parts.own.subs.items) ≡ observer_of sub (seen a)
+observer_is sub a = refl
 
 -- ---- what is kept
 
@@ -134,7 +129,7 @@ module _ (sub place : ℕ) (a : Addition) (old mid new : Inner) (step : a.step �
 
   pub has_loaded : (rows : Rows) (answer : List Publish) (o : AnObserver) (l : Live) (d : IsAddedTo a (apply sub (news_of answer)) old mid) (m : HasMoved mid new) → HasStayed mid new → live_of sub (as_state old.parts.own).subs ≡ Some l →
       a.item ≡ stored.Load sub place → a.id ≡ None → a.words.items ≡ server_text (ready l.id) ∷ [] → IsQuery l.cursors rows answer → cursors_of o ≡ l.cursors → StandsAt o rows →
-      observers_of new.parts.own.subs.items ≡ kept_with sub (Some o) (as_state mid.parts.own).subs (observers_of mid.parts.own.subs.items) → HasLoaded sub place rows (seen old) (seen new)
+      observers_of new.parts.own.subs.items ≡ observers_with sub (Some o) (as_state mid.parts.own).subs (observers_of mid.parts.own.subs.items) → HasLoaded sub place rows (seen old) (seen new)
   has_loaded rows answer o l d m s live item id words query cursors stands watch =
       let subs = (as_state old.parts.own).subs in
       let mine = of_live (λ (x : Live). x.cursors) [] sub subs l live in
@@ -146,7 +141,7 @@ module _ (sub place : ℕ) (a : Addition) (old mid new : Inner) (step : a.step �
         observer = o;
         cursors = cursors ∙ sym mine;
         stands = stands;
-        observers = watch ∙ (ap₂ (kept_with sub (Some o)) (ap (λ (st : State). st.subs) d.gained.own ∙ ap (λ x. (stepped x (as_state old.parts.own)).subs) step) (observers_mid (apply sub (news_of answer)) d) ∙ with_loaded sub place (Some o) subs (seen old).observers);
+        observers = watch ∙ (ap₂ (observers_with sub (Some o)) (ap (λ (st : State). st.subs) d.gained.own ∙ ap (λ x. (stepped x (as_state old.parts.own)).subs) step) (observers_mid (apply sub (news_of answer)) d) ∙ with_loaded sub place (Some o) subs (seen old).observers);
       }
 
   -- ---- it goes on
@@ -166,10 +161,10 @@ module _ (sub count : ℕ) (changes : List Change) (news : List Publish) (old : 
   subs_mid = ap (λ (st : State). st.subs) f.done.added.own
 
   -- the observer is the one that it was
-  pub observer_stays : observer_kept sub (as_state mid.parts.own).subs (observers_of mid.parts.own.subs.items) ≡ observer_of sub old
-  observer_stays = ap₂ (observer_kept sub) subs_mid f.observers ∙ at_advanced sub count old.carried.own.subs old.observers
+  pub observer_stays : observer_at sub (as_state mid.parts.own).subs (observers_of mid.parts.own.subs.items) ≡ observer_of sub old
+  observer_stays = ap₂ (observer_at sub) subs_mid f.observers ∙ at_advanced sub count old.carried.own.subs old.observers
 
-  pub plan_is : (plan : Option APlan) → IsObserved (observer_of sub old) changes news plan → IfSome plan (λ p. IfSome (observer_kept sub (as_state mid.parts.own).subs (observers_of mid.parts.own.subs.items)) (λ o. IsPlanOf o p))
+  pub plan_is : (plan : Option APlan) → IsObserved (observer_of sub old) changes news plan → IfSome plan (λ p. IfSome (observer_at sub (as_state mid.parts.own).subs (observers_of mid.parts.own.subs.items)) (λ o. IsPlanOf o p))
   plan_is None h = tt
   plan_is (Some p) h = subst (λ (x : Option AnObserver). IfSome x (λ o. IsPlanOf o p)) (sym observer_stays) (by (observer_of sub old) h)
     where
@@ -199,8 +194,8 @@ module _ (sub count : ℕ) (changes : List Change) (news : List Publish) (old : 
     p,
     (
       told_by (observer_of sub old) p h,
-      watch ∙ (ap₂ (kept_with sub (option_map (λ (o : AnObserver). carried o p) (observer_kept sub (as_state mid.parts.own).subs (observers_of mid.parts.own.subs.items)))) subs_mid f.observers
-          ∙ (with_advanced sub count (option_map (λ (o : AnObserver). carried o p) (observer_kept sub (as_state mid.parts.own).subs (observers_of mid.parts.own.subs.items))) old.carried.own.subs old.observers
+      watch ∙ (ap₂ (observers_with sub (option_map (λ (o : AnObserver). carried o p) (observer_at sub (as_state mid.parts.own).subs (observers_of mid.parts.own.subs.items)))) subs_mid f.observers
+          ∙ (with_advanced sub count (option_map (λ (o : AnObserver). carried o p) (observer_at sub (as_state mid.parts.own).subs (observers_of mid.parts.own.subs.items))) old.carried.own.subs old.observers
           ∙ ap (λ (x : Option AnObserver). observers_with sub (option_map (λ (o : AnObserver). carried o p) x) old.carried.own.subs old.observers) observer_stays)),
     ),
   )

@@ -4,7 +4,7 @@ use Rattle.ejson_value.specs.declared.change.Change.{Change}
 use Rattle.ejson_value.specs.declared.change.Publish.{Publish}
 use Rattle.session_core.specs.live_observer.Observing.{AnObserver, APlan, IsPlanOf, carried}
 use Rattle.session_core.specs.session_model.Subscriptions.{Live}
-use Rattle.session_core.specs.session_state.Subs.{observer_at, observers_with}
+use Rattle.session_core.specs.session_model.Observers.{observer_at, observers_with}
 use Rattle.session_core.specs.session_laws.Events.{Tells}
 
 -- where there is an observer, it tells these news of the changes, and the plan is its own

@@ -4,7 +4,6 @@ pub use Rattle.session_laws.specs.Events
 pub use Rattle.session_laws.specs.Keeping
 pub use Rattle.session_laws.specs.Loading
 pub use Rattle.session_laws.specs.LoadingLaws
-pub use Rattle.session_laws.specs.Observers
 pub use Rattle.session_laws.specs.Session
 pub use Rattle.session_laws.specs.Showing
 pub use Rattle.session_laws.specs.Storing

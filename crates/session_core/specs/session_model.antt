@@ -3,6 +3,7 @@ pub use Rattle.session_laws.specs.session_model.Counting
 pub use Rattle.session_laws.specs.session_model.Fits
 pub use Rattle.session_laws.specs.session_model.Items
 pub use Rattle.session_laws.specs.session_model.Methods
+pub use Rattle.session_laws.specs.session_model.Observers
 pub use Rattle.session_laws.specs.session_model.Out
 pub use Rattle.session_laws.specs.session_model.Publication
 pub use Rattle.session_laws.specs.session_model.Shown

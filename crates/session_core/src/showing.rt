@@ -5,7 +5,8 @@ ghost use Rattle.session_core.specs.live_observer.Observing.{cursors_of, StandsA
 ghost use Rattle.session_core.specs.session_model.Out.{ready};
 ghost use Rattle.session_core.specs.session_model.Texts.{server_text};
 ghost use Rattle.session_core.specs.session_state.Own.{as_state};
-ghost use Rattle.session_core.specs.session_state.Subs.{observers_of, observer_at};
+ghost use Rattle.session_core.specs.session_model.Observers.{observer_at};
+ghost use Rattle.session_core.specs.session_state.Subs.{observers_of};
 ghost use Rattle.session_core.specs.session_laws.Session.{can_load, can_advance, place_on, place_after, HadRoom};
 ghost use Rattle.session_core.specs.session_laws.Events.{HasLoaded, HasAdvanced, HasFed, Loads, Advances, Feeds, observer_of};
 ghost use Rattle.session_core.specs.session_laws.Showing.{StandsAnywhere};

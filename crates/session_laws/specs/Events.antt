@@ -29,7 +29,7 @@ use Rattle.session_model.specs.Fits.{item_for, IsRefusedAt}
 use Rattle.session_laws.specs.declared.fault.EventFault.{EventFault}
 use Rattle.session_laws.specs.declared.fault.EventFault.TheVariants as fault
 use Rattle.session_laws.specs.Session.{ASession, is_full, is_crowded, is_at_work, can_handle, can_load, can_advance, can_learn, can_refuse, IsCause, HadRoom, dropped}
-use Rattle.session_laws.specs.Observers.{observers_without, observer_at, observers_with}
+use Rattle.session_model.specs.Observers.{observers_without, observer_at, observers_with}
 use Rattle.session_laws.specs.Adding.{HasAdded}
 use Rattle.session_laws.specs.Storing.{kept_as, shown_id}
 use Rattle.session_laws.specs.Meaning.{Means}

@@ -26,7 +26,7 @@ use Rattle.session_journal_laws.specs.Resolved.{resolved, called, seed_in, messa
 use Rattle.session_journal_laws.specs.Stands.{items_of}
 use Rattle.session_journal_laws.specs.RelationKeeping.{shows_end}
 use Rattle.session_journal_laws.specs.RelationEvents.{shows_idle, later_stands}
-use Rattle.session_laws.specs.Observers.{observers_without}
+use Rattle.session_model.specs.Observers.{observers_without}
 use Rattle.session_laws.specs.Storing.{kept_as}
 use Rattle.session_laws.specs.Session.{ASession}
 use Rattle.session_laws.specs.Meaning.{is_request, AreFrom, AreOpen, IsWatched, AreWatched}

@@ -1,6 +1,5 @@
 pub mod Session
 pub mod Storing
-pub mod Observers
 pub mod Adding
 pub mod Meaning
 pub mod Events

@@ -9,7 +9,7 @@ use Rattle.session_model.specs.Publication.{queried}
 use Rattle.session_model.specs.Subscriptions.{Live, cursor_of, may_load, loaded, moved, advanced}
 use Rattle.session_model.specs.Moments.{Moment, rows_at}
 use Rattle.session_model.specs.Shown.{shown_at, shown_in}
-use Rattle.session_laws.specs.Observers.{observer_at, observers_with}
+use Rattle.session_model.specs.Observers.{observer_at, observers_with}
 use Rattle.session_laws.specs.Meaning.{IsWatched, AreWatched}
 use Rattle.session_laws.specs.Loading.{IsWatchingAt, cursors_in}
 

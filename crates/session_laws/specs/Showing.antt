@@ -25,7 +25,7 @@ use Rattle.session_model.specs.Fits.{MayAdvance}
 use Rattle.session_journal_laws.specs.Stands.{items_of}
 use Rattle.session_journal_laws.specs.RelationKeeping.{shows_news}
 use Rattle.session_laws.specs.Session.{ASession, is_at_work, place_on, can_load, can_advance}
-use Rattle.session_laws.specs.Observers.{observers_with}
+use Rattle.session_model.specs.Observers.{observers_with}
 use Rattle.session_laws.specs.Meaning.{AreWatched, Means}
 use Rattle.session_laws.specs.Events.{HasDone, Waits, cursors_at, observer_of, HasLoaded, KeepsLoading, Tells, HasAdvanced, IsBatch, KeepsAdvancing, HasFed, IsFeed, KeepsFeeding}
 use Rattle.session_laws.specs.Added.{IsTextless, added_keeps}

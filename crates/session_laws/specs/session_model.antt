@@ -3,6 +3,7 @@ pub use Rattle.session_model.specs.Counting
 pub use Rattle.session_model.specs.Fits
 pub use Rattle.session_model.specs.Items
 pub use Rattle.session_model.specs.Methods
+pub use Rattle.session_model.specs.Observers
 pub use Rattle.session_model.specs.Out
 pub use Rattle.session_model.specs.Publication
 pub use Rattle.session_model.specs.Shown

@@ -3,6 +3,7 @@ pub mod Publication
 pub mod Items
 pub mod Taking
 pub mod Subscriptions
+pub mod Observers
 pub mod Methods
 pub mod State
 pub mod Moments

@@ -5,7 +5,8 @@ use Rattle.std.proofs.lemmas.Option.{none-some, same_Some}
 use Rattle.live_observer.specs.Observing.{AnObserver}
 use Rattle.session_model.specs.Subscriptions.{Live, loaded, closed}
 use Rattle.session_state.specs.declared.subs.Sub.{Sub}
-use Rattle.session_state.specs.Subs.{as_live, place_from, live_of, placed_at, observers_of, observers_without, observer_in, observer_at, observers_with}
+use Rattle.session_model.specs.Observers.{observers_without, observer_at, observers_with}
+use Rattle.session_state.specs.Subs.{as_live, place_from, live_of, placed_at, observers_of, observer_in}
 
 -- those that stay
 pub closed_is : (s : ℕ) (subs : List Sub) → map as_live (filter (λ (x : Sub). not (s == x.sub)) subs) ≡ closed s (map as_live subs)

@@ -10,7 +10,8 @@ use Rattle.session_state.specs.declared.own.Call.{Call}
 use Rattle.session_state.specs.declared.kept.Own.{Own}
 use Rattle.session_state.specs.declared.own.Step.{Step}
 use Rattle.session_state.specs.declared.own.Step.TheVariants as step
-use Rattle.session_state.specs.Subs.{as_live, observers_of, observers_without}
+use Rattle.session_model.specs.Observers.{observers_without}
+use Rattle.session_state.specs.Subs.{as_live, observers_of}
 use Rattle.session_state.specs.Calls.{as_method}
 
 abbrev pub as_blocking : Call → Blocking

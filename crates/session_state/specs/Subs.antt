@@ -34,26 +34,8 @@ placed_at (suc n) place (l ∷ ls) = l ∷ placed_at n place ls
 abbrev pub observers_of : List Sub → List (Option AnObserver)
 observers_of subs = map (λ (s : Sub). s.observer) subs
 
--- those of the subscriptions that stay once those with a number are closed
-abbrev pub observers_without : ℕ → List Live → List (Option AnObserver) → List (Option AnObserver)
-observers_without s [] os = []
-observers_without s (l ∷ ls) [] = []
-observers_without s (l ∷ ls) (o ∷ os) = if s == l.sub then observers_without s ls os else o ∷ observers_without s ls os
-
 -- that at a place
 abbrev pub observer_in : ℕ → List (Option AnObserver) → Option AnObserver
 observer_in n [] = None
 observer_in zero (o ∷ os) = o
 observer_in (suc n) (o ∷ os) = observer_in n os
-
--- that of the first subscription with a number
-abbrev pub observer_at : ℕ → List Live → List (Option AnObserver) → Option AnObserver
-observer_at s [] os = None
-observer_at s (l ∷ ls) [] = None
-observer_at s (l ∷ ls) (o ∷ os) = if s == l.sub then o else observer_at s ls os
-
--- it has this one
-abbrev pub observers_with : ℕ → Option AnObserver → List Live → List (Option AnObserver) → List (Option AnObserver)
-observers_with s new [] os = os
-observers_with s new (l ∷ ls) [] = []
-observers_with s new (l ∷ ls) (o ∷ os) = if s == l.sub then new ∷ os else o ∷ observers_with s new ls os

@@ -6,7 +6,8 @@ ghost use Rattle.session_model.specs.Methods.{freed};
 ghost use Rattle.session_journal_laws.specs.Stands.{fired_state};
 ghost use Rattle.session_state.specs.declared.own.Step.TheVariants as step;
 ghost use Rattle.session_state.specs.Own.{as_state, as_blocking, stepped, turned_state, started_by, ended_by, told_with, watch_after, CanStep, HasRoom, SameOwn, max_items};
-ghost use Rattle.session_state.specs.Subs.{observers_of, observer_at, observers_with};
+ghost use Rattle.session_model.specs.Observers.{observer_at, observers_with};
+ghost use Rattle.session_state.specs.Subs.{observers_of};
 ghost use Rattle.session_state.specs.Calls.{as_phase, has_refused, passed_by};
 ghost use Rattle.session_state.specs.Progress.{progress_of};
 

@@ -2,7 +2,8 @@
 ghost use Rattle.std.specs.Prelude.{◌≡◌, map, Some, IfSome, option_map, option_and_then, slice_set};
 ghost use Rattle.live_observer.specs.Observing.{IsPlanOf, carried};
 ghost use Rattle.session_model.specs.Subscriptions.{is_crowded, sub_named, cursor_of, may_load, loaded, closed};
-ghost use Rattle.session_state.specs.Subs.{as_live, place_in, live_of, placed_at, observers_of, observers_without, observer_in, observer_at, observers_with};
+ghost use Rattle.session_model.specs.Observers.{observers_without, observer_at, observers_with};
+ghost use Rattle.session_state.specs.Subs.{as_live, place_in, live_of, placed_at, observers_of, observer_in};
 
 use ejson_value::{Items, Text};
 use live_observer::{Observer, Plan};

@@ -12,7 +12,8 @@ use Rattle.connection.specs.session_model.Subscriptions.{cursor_of}
 use Rattle.connection.specs.session_laws.Session.{ASession}
 use Rattle.connection.specs.session_laws.Events.{IsFeed}
 use Rattle.connection.specs.session_state.declared.subs.Sub.{Sub}
-use Rattle.connection.specs.session_state.Subs.{as_live, live_of, observers_of, observer_at}
+use Rattle.connection.specs.session_model.Observers.{observer_at}
+use Rattle.connection.specs.session_state.Subs.{as_live, live_of, observers_of}
 use Rattle.connection.specs.world_model.declared.events.Act.TheVariants as act
 use Rattle.connection.specs.world_model.declared.events.Answer.{Answer}
 use Rattle.connection.specs.world_model.Store.{moments}

@@ -27,7 +27,8 @@ use Rattle.connection_laws.specs.session_journal_laws.PublicationLaws.{sorted_qu
 use Rattle.connection_laws.specs.session_journal_laws.Resolved.{cursors_in}
 use Rattle.connection_laws.specs.session_journal_laws.Stands.{items_of}
 use Rattle.session_state.specs.declared.subs.Sub.{Sub}
-use Rattle.session_state.specs.Subs.{as_live, live_of, observers_of, observer_at}
+use Rattle.session_core.specs.session_model.Observers.{observer_at}
+use Rattle.session_state.specs.Subs.{as_live, live_of, observers_of}
 use Rattle.connection_laws.specs.session_laws.Session.{ASession}
 use Rattle.connection_laws.specs.session_laws.Meaning.{IsWatched, AreWatched, Means}
 use Rattle.connection_laws.specs.session_laws.Differences.{sorted_renewed, renewed_at}

@@ -8,7 +8,8 @@ use Rattle.connection_laws.specs.session_model.Publication.{making}
 use Rattle.connection_laws.specs.session_model.Subscriptions.{Live}
 use Rattle.connection_laws.specs.session_journal_laws.Resolved.{cursors_in}
 use Rattle.session_state.specs.declared.subs.Sub.{Sub}
-use Rattle.session_state.specs.Subs.{as_live, live_of, observers_of, observer_at}
+use Rattle.session_core.specs.session_model.Observers.{observer_at}
+use Rattle.session_state.specs.Subs.{as_live, live_of, observers_of}
 use Rattle.connection_laws.specs.session_laws.Session.{ASession}
 use Rattle.multiplexer.specs.Telling.{CursorsAt, IsSource}
 

@@ -1,7 +1,8 @@
 use Rattle.std.proofs.Common.{map, Option, option_map, ap, sym, subst, ◌∙◌, arith}
 use Rattle.std.specs.Prelude.{IfSome, slice_set}
 use Rattle.live_observer.specs.Observing.{AnObserver, IsPlanOf, carried}
-use Rattle.session_state.specs.Subs.{as_live, observers_of, observer_at}
+use Rattle.session_model.specs.Observers.{observer_at}
+use Rattle.session_state.specs.Subs.{as_live, observers_of}
 use Rattle.session_state.proofs.Places.{seen_in, with_at, with_none}
 use Rattle.session_state.proofs.subs.commit.Goals as goal
 
