@@ -14,7 +14,8 @@ use Rattle.ejson_value.specs.ChangeLaws.{AllFit, HaveDistinctKeys}
 use Rattle.ejson_value.specs.Rows.{Rows}
 use Rattle.program_model.specs.Steps.{Stepped}
 use Rattle.stub_simulation.specs.declared.simulation.Simulated.{Simulated}
-use Rattle.stub_simulation.specs.Simulating.{simulation, each_once}
+use Rattle.program_model.specs.Touched.{each_once}
+use Rattle.stub_simulation.specs.Simulating.{simulation}
 use Rattle.client_model.specs.declared.subs.SubState.TheVariants as state
 use Rattle.client_model.specs.Client.{Client}
 use Rattle.client_model.specs.Asking.{can_call, seed_of, called}

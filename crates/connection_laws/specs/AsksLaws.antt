@@ -1,24 +1,20 @@
 -- Laws: What a client is asked for from outside.
-use Rattle.std.specs.Prelude.{◌≡◌, ℕ, List, [], ◌∷◌, Bool, true, false, not, ◌&&◌, Result, Ok, Err, refl}
-use Rattle.std.specs.BTreeSet.{insert_key}
+use Rattle.std.specs.Prelude.{◌≡◌, ℕ, List, Bool, true, false, not, ◌&&◌, Result, Ok, Err, refl}
 use Rattle.std.proofs.Common.{ap, sym, subst, ◌∙◌}
 use Rattle.value_model.specs.Val.{Val}
-use Rattle.ejson_value.specs.declared.key.Key.{Key}
-use Rattle.ejson_value.specs.Key.{key_cmp}
 use Rattle.app_model.specs.App.{App}
 use Rattle.world_invariant_laws.specs.history_model.declared.entry.Entry.{Entry}
-use Rattle.stub_simulation.specs.Simulating as stub
 use Rattle.client_model.specs.Client.{Client}
-use Rattle.client_model.specs.Asking.{can_sub, subscribed, can_unsub, unsubscribed, can_call, called, can_send, with_text}
+use Rattle.client_model.specs.Asking.{can_sub, subscribed, can_unsub, unsubscribed, can_call, can_send, with_text}
 use Rattle.client_core.specs.declared.fault.ClientFault.{ClientFault}
 use Rattle.client_core.specs.declared.fault.ClientFault.TheVariants as fault
 use Rattle.client_core.specs.State.{Own}
-use Rattle.client_core.specs.Asked.{Does, Calls, simulation_of, called_by}
+use Rattle.client_core.specs.Asked.{Does, Calls, called_by}
 use Rattle.session_laws.specs.Session.{ASession}
 use Rattle.session_laws.specs.Meaning.{Means}
 use Rattle.session_laws.specs.Events.{Closes}
 use Rattle.world_invariant_laws.specs.world_model.Store.{moments}
-use Rattle.world_invariant_laws.specs.world_model.Asks.{Ask, can_ask, keys_put, calls, asked}
+use Rattle.world_invariant_laws.specs.world_model.Asks.{Ask, can_ask, calls}
 use Rattle.world_invariant_laws.specs.world_model.Asks as ask
 use Rattle.connection_laws.specs.Connection.{AConnection, as_conn, IsConnection}
 use Rattle.connection_laws.specs.Acting.{with_own, with_raw, gone}
@@ -32,11 +28,6 @@ gone_asked old (ask.unsubscribe id) e = ap (λ d. not d && can_unsub id old.own.
 gone_asked old (ask.call name params) e = ap (λ d. not d && can_call old.own.client) e
 gone_asked old (ask.raw t) e = ap (λ d. not d && can_send old.own.client) e
 gone_asked old ask.drop e = ap not e
-
--- the keys that a stub touches
-same_put : (keys more : List Key) → stub.keys_put keys more ≡ keys_put keys more
-same_put keys [] = refl
-same_put keys (key ∷ more) = same_put (insert_key key_cmp keys key) more
 
 module _ (app : App) (name : List ℕ) (history : List Entry) (old : AConnection) (p : IsConnection app name history old) (there : old.is_dropped ≡ false) where
   may : (b : Bool) → (not old.is_dropped && b) ≡ b
@@ -76,10 +67,7 @@ module _ (app : App) (name : List ℕ) (history : List Entry) (old : AConnection
 
     -- what the call's stub makes of the view is the same
     call_is : (method : List ℕ) (params : List Val) → (called_by method params old.own).client ≡ calls app method params old.own.client
-    call_is method params =
-        ap (λ (keys : List Key). called method params (simulation_of method params old.own).rows keys old.own.client)
-        (same_put [] (simulation_of method params old.own).touched)
-        ∙ ap (λ (a : App). calls a method params old.own.client) p.stubs
+    call_is method params = ap (λ (a : App). calls a method params old.own.client) p.stubs
 
     pub call_makes : (method : List ℕ) (params : List Val) (result : Result ℕ ClientFault) → Calls method params old.own own result →
         MakesAsked app name history (ask.call method params) old (with_own own old) result

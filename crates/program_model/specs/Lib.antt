@@ -2,6 +2,7 @@ pub mod Faults
 pub mod Guarded
 pub mod Run
 pub mod Steps
+pub mod Touched
 pub mod Kept
 pub mod RunLaws
 pub mod StepLaws

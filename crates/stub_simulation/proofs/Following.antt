@@ -26,7 +26,8 @@ use Rattle.program_run.specs.Progress.{Progress, run_of, left_of}
 use Rattle.program_run.specs.Planned.{stepped_as}
 use Rattle.stub_simulation.specs.declared.draft.Draft.{Draft}
 use Rattle.stub_simulation.specs.declared.fitting.Totals.{Totals}
-use Rattle.stub_simulation.specs.Simulating.{keys_put, each_once, changed_keys, change_at}
+use Rattle.program_model.specs.Touched.{keys_put, each_once}
+use Rattle.stub_simulation.specs.Simulating.{changed_keys, change_at}
 use Rattle.stub_simulation.specs.Drafts.{shown, shown_by, IsWithin, IsWindow, old_count, new_count, is_taken, new_ids, AreTotals, IsTaken, IsFollowedIf, IsFollowed, IsLeftBy, IsDraft}
 use Rattle.stub_simulation.proofs.Overlay.{sorted_shown, at_shown, none_shown, changed_shown, changed_within, Within}
 use Rattle.stub_simulation.proofs.Windows.{Alike, Becomes, totalled, step_becomes, step_made}

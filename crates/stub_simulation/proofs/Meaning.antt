@@ -25,7 +25,8 @@ use Rattle.program_model.specs.Run.{Run}
 use Rattle.program_model.specs.Steps.{Stepped, unchanged}
 use Rattle.program_model.specs.Kept.{LeadsOn}
 use Rattle.stub_simulation.specs.declared.simulation.Simulated.{Simulated}
-use Rattle.stub_simulation.specs.Simulating.{keys_put, each_once, changed_keys, change_at, IsSimulated}
+use Rattle.program_model.specs.Touched.{keys_put, each_once}
+use Rattle.stub_simulation.specs.Simulating.{changed_keys, change_at, IsSimulated}
 use Rattle.stub_simulation.proofs.KeyRows.{bare, bare_keys, bare_put, sorted_put}
 
 pub sorted_all : (keys ks : List Key) → IsStrictlySortedBy key_cmp keys → IsStrictlySortedBy key_cmp (keys_put keys ks)

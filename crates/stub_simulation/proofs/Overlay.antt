@@ -22,7 +22,8 @@ use Rattle.ejson_value.specs.Changes.{changes_of}
 use Rattle.selector_match.specs.Query.{Query}
 use Rattle.selector_match.specs.Holds.{holds}
 use Rattle.collection_store.specs.Applied.{matching}
-use Rattle.stub_simulation.specs.Simulating.{keys_put, changed_keys}
+use Rattle.program_model.specs.Touched.{keys_put}
+use Rattle.stub_simulation.specs.Simulating.{changed_keys}
 use Rattle.stub_simulation.specs.Drafts.{shown, all_put}
 use Rattle.stub_simulation.proofs.Meaning.{among_put}
 

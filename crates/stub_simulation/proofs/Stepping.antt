@@ -13,7 +13,7 @@ use Rattle.ejson_value.specs.Rows.{Rows}
 use Rattle.program_model.specs.Run.{Run, begun}
 use Rattle.program_model.specs.Steps.{Setting, Stepped, stepped_by, further, all_stepped, unchanged, whole_run}
 use Rattle.program_run.specs.Progress.{Progress, run_of, left_of}
-use Rattle.stub_simulation.specs.Simulating.{keys_put}
+use Rattle.program_model.specs.Touched.{keys_put}
 
 pub keys_put-append : (keys xs ys : List Key) → keys_put keys (xs ++ ys) ≡ keys_put (keys_put keys xs) ys
 keys_put-append keys [] ys = refl

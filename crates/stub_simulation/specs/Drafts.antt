@@ -26,7 +26,8 @@ use Rattle.program_run.specs.Progress.{Progress, run_of}
 use Rattle.program_run.specs.Planned.{stepped_as}
 use Rattle.stub_simulation.specs.declared.draft.Draft.{Draft}
 use Rattle.stub_simulation.specs.declared.fitting.Totals.{Totals}
-use Rattle.stub_simulation.specs.Simulating.{keys_put, each_once, changed_keys}
+use Rattle.program_model.specs.Touched.{keys_put, each_once}
+use Rattle.stub_simulation.specs.Simulating.{changed_keys}
 
 -- the view, with what is left at the keys that were changed
 abbrev pub shown : Rows → List Key → Rows → Rows

@@ -1,8 +1,7 @@
 -- What the simulation of a method does to a client's view of the documents (Meteor's guide, "Methods", "Optimistic UI").
-use Rattle.std.specs.Prelude.{◌≡◌, true, ℕ, List, [], ◌∷◌, map, All}
+use Rattle.std.specs.Prelude.{◌≡◌, true, ℕ, List, map, All}
 use Rattle.std.specs.List.{list_any}
 use Rattle.std.specs.Ordering.{eq_by_cmp}
-use Rattle.std.specs.BTreeSet.{insert_key}
 use Rattle.map_model.specs.Maps.{at}
 use Rattle.map_model.specs.Changes.{changed}
 use Rattle.value_model.specs.Val.{Val}
@@ -14,16 +13,8 @@ use Rattle.ejson_value.specs.Changes.{changes_of}
 use Rattle.ejson_value.specs.ChangeLaws.{AllFit, HaveDistinctKeys}
 use Rattle.app_model.specs.App.{App, method}
 use Rattle.program_model.specs.Steps.{Stepped, simulated}
+use Rattle.program_model.specs.Touched.{each_once}
 use Rattle.stub_simulation.specs.declared.simulation.Simulated.{Simulated}
-
--- the keys with others put among them
-abbrev pub keys_put : List Key → List Key → List Key
-keys_put keys [] = keys
-keys_put keys (key ∷ more) = keys_put (insert_key key_cmp keys key) more
-
--- each of the keys once, rising
-abbrev pub each_once : List Key → List Key
-each_once keys = keys_put [] keys
 
 abbrev pub changed_keys : List Change → List Key
 changed_keys changes = map (λ (c : Change). c.key) changes

@@ -8,7 +8,8 @@ ghost use Rattle.map_model.specs.Changes.{changed};
 ghost use Rattle.ejson_value.specs.declared.key.Key.{Key};
 ghost use Rattle.ejson_value.specs.Key.{key_cmp};
 ghost use Rattle.ejson_value.specs.Changes.{changes_of};
-ghost use Rattle.stub_simulation.specs.Simulating.{keys_put, changed_keys};
+ghost use Rattle.program_model.specs.Touched.{keys_put};
+ghost use Rattle.stub_simulation.specs.Simulating.{changed_keys};
 ghost use Rattle.stub_simulation.specs.Drafts.{shown_by, is_changed, IsWithin, new_ids};
 
 use crate::fitting::Totals;

@@ -1,6 +1,7 @@
 //! Which documents the steps of a simulation change and touch.
 ghost use Rattle.std.specs.Prelude.{◌≡◌, [], OnOk};
-ghost use Rattle.stub_simulation.specs.Simulating.{keys_put, changed_keys};
+ghost use Rattle.program_model.specs.Touched.{keys_put};
+ghost use Rattle.stub_simulation.specs.Simulating.{changed_keys};
 
 use crate::key_set::KeySet;
 use ejson_value::{Change, Key, Mem};

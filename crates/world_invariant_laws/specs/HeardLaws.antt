@@ -25,7 +25,8 @@ use Rattle.world_model.specs.session_model.Data.{data_in, data_of}
 use Rattle.session_journal_laws.specs.Taken.{data_of-append, all_taken-append}
 use Rattle.world_model.specs.Conn.{Conn}
 use Rattle.world_model.specs.Acts.{goes_up, sends, takes}
-use Rattle.world_model.specs.Asks.{Ask, stub_run, each_once, asked}
+use Rattle.world_model.specs.program_model.Touched.{each_once}
+use Rattle.world_model.specs.Asks.{Ask, stub_run, asked}
 use Rattle.world_model.specs.Asks as ask
 use Rattle.world_invariant_laws.specs.StubsLaws.{stub_sorted, stub_alone}
 use Rattle.world_invariant_laws.specs.Heard.{HasClient, HasHeard, IsHeard}

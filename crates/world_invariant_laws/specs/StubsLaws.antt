@@ -24,7 +24,8 @@ use Rattle.world_model.specs.program_model.StepLaws.{simulated_leads, sorted_led
 use Rattle.app_model.specs.App.{App, method}
 use Rattle.client_model.specs.Client.{Client}
 use Rattle.client_model.specs.Asking.{seed_of}
-use Rattle.world_model.specs.Asks.{keys_put, each_once, stub_run}
+use Rattle.world_model.specs.program_model.Touched.{keys_put, each_once}
+use Rattle.world_model.specs.Asks.{stub_run}
 use Rattle.world_invariant_laws.specs.Stubs.{has}
 
 or_right : (a b : Bool) → b ≡ true → (a || b) ≡ true

@@ -1,10 +1,8 @@
 -- What is asked of a client from outside: to subscribe, to end a subscription, to call a method, to send a text as it stands, and to be gone.
-use Rattle.std.specs.Prelude.{ℕ, suc, List, [], ◌∷◌, length, Bool, true, not, ◌&&◌}
-use Rattle.std.specs.BTreeSet.{insert_key}
+use Rattle.std.specs.Prelude.{ℕ, suc, List, length, Bool, true, not, ◌&&◌}
 use Rattle.value_model.specs.Val.{Val}
-use Rattle.ejson_value.specs.declared.key.Key.{Key}
-use Rattle.ejson_value.specs.Key.{key_cmp}
 use Rattle.program_model.specs.Steps.{Stepped, simulated}
+use Rattle.program_model.specs.Touched.{each_once}
 use Rattle.app_model.specs.App.{App, method}
 use Rattle.client_model.specs.Client.{Client}
 use Rattle.client_model.specs.Asking.{can_sub, subscribed, can_unsub, unsubscribed, can_call, seed_of, called, can_send, with_text}
@@ -29,14 +27,6 @@ can_ask c (raw t) = not c.is_dropped && can_send c.client
 can_ask c drop = not c.is_dropped
 
 -- ---- calls
-
-abbrev pub keys_put : List Key → List Key → List Key
-keys_put keys [] = keys
-keys_put keys (key ∷ more) = keys_put (insert_key key_cmp keys key) more
-
--- each of the keys once, rising
-abbrev pub each_once : List Key → List Key
-each_once keys = keys_put [] keys
 
 -- what the stub of the method makes of what the client shows: nothing where the method has none
 abbrev pub stub_run : App → List ℕ → List Val → Client → Stepped

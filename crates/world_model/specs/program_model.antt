@@ -5,4 +5,5 @@ pub use Rattle.program_model.specs.Run
 pub use Rattle.program_model.specs.RunLaws
 pub use Rattle.program_model.specs.StepLaws
 pub use Rattle.program_model.specs.Steps
+pub use Rattle.program_model.specs.Touched
 pub use Rattle.program_model.specs.declared

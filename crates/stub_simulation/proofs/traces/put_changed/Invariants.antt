@@ -1,5 +1,6 @@
 use Rattle.std.proofs.Common.{◌≡◌, drop}
-use Rattle.stub_simulation.specs.Simulating.{keys_put, changed_keys}
+use Rattle.program_model.specs.Touched.{keys_put}
+use Rattle.stub_simulation.specs.Simulating.{changed_keys}
 use Rattle.stub_simulation.proofs.traces.put_changed.Given as goal
 
 abbrev pub invariant-loop-change : goal.invariant-loop-change

@@ -1,5 +1,5 @@
 use Rattle.std.proofs.Common.{◌≡◌, drop}
-use Rattle.stub_simulation.specs.Simulating.{keys_put}
+use Rattle.program_model.specs.Touched.{keys_put}
 use Rattle.stub_simulation.proofs.traces.put_keys.Given as goal
 
 abbrev pub invariant-loop-key : goal.invariant-loop-key
