@@ -1,5 +1,4 @@
 mod Listing
 mod Holding
-mod Found
 mod States
 mod InPlace

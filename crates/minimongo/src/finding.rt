@@ -3,7 +3,9 @@ ghost use Rattle.std.specs.Prelude.{◌≡◌, ◌++◌, ◌∷◌, [], Some, If
 ghost use Rattle.map_model.specs.Maps.{at};
 ghost use Rattle.ejson_value.specs.Key.{key_cmp, key_of};
 ghost use Rattle.ejson_value.specs.Changes.{news_of};
-ghost use Rattle.minimongo.specs.Finding.{matching, published, if_held};
+ghost use Rattle.collection_store.specs.Applied.{matching};
+ghost use Rattle.collection_store.specs.Finding.{if_held};
+ghost use Rattle.minimongo.specs.Finding.{published};
 
 use ejson_value::{Contents, Doc, Key, Mem, Publish, Publishes, Text};
 use selector_match::{Selector, holds};

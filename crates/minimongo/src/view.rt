@@ -15,7 +15,8 @@ ghost use Rattle.ejson_value.specs.Changes.{changes_of, news_of};
 ghost use Rattle.ejson_value.specs.ChangeLaws.{HaveDistinctKeys};
 ghost use Rattle.collection_store.specs.Limits.{bytes_of};
 ghost use Rattle.minimongo.specs.Faults.{IsFitting};
-ghost use Rattle.minimongo.specs.Finding.{matching, published};
+ghost use Rattle.collection_store.specs.Applied.{matching};
+ghost use Rattle.minimongo.specs.Finding.{published};
 
 use crate::fault::ViewFault;
 use crate::finding::find;

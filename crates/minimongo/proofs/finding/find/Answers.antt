@@ -2,7 +2,7 @@ use Rattle.std.specs.Prelude.{IfOk}
 use Rattle.std.proofs.Common.{◌≡◌, sym, subst}
 use Rattle.ejson_value.specs.Changes.{news_of}
 use Rattle.minimongo.specs.Finding.{published}
-use Rattle.minimongo.proofs.Found.{named_matching}
+use Rattle.collection_store.proofs.Named.{named_matching}
 use Rattle.minimongo.proofs.finding.find.Goals as goal
 
 pub returns-in-Some : goal.returns-in-Some
