@@ -1,5 +1,5 @@
 -- What a step comes to before anything is written: a plan, which a store and the run then carry out.
-use Rattle.std.specs.Prelude.{◌≡◌, ℕ, ℤ, List, [], ◌∷◌, ◌++◌, true, Option, None, Some, Result, Ok, Err, if◌then◌else◌}
+use Rattle.std.specs.Prelude.{◌≡◌, ℕ, suc, ℤ, List, [], ◌∷◌, ◌++◌, drop, true, Option, None, Some, Result, Ok, Err, if◌then◌else◌}
 use Rattle.value_model.specs.Val.{Val, int, text}
 use Rattle.ejson_value.specs.Rows.{Rows}
 use Rattle.ejson_value.specs.declared.fault.Fault.{Fault}
@@ -19,7 +19,7 @@ use Rattle.program_run.specs.declared.plan.Ids.{Ids}
 use Rattle.program_run.specs.declared.plan.Plan.{Plan}
 use Rattle.program_run.specs.declared.plan.Plan.TheVariants as plan
 use Rattle.program_run.specs.declared.run.Effect.{Effect}
-use Rattle.program_run.specs.Progress.{Progress, with_left}
+use Rattle.program_run.specs.Progress.{Progress, with_left, run_of}
 
 -- the rules of an application; where there is none, no collection has any
 abbrev pub rules_of : Option App → List ℕ → Option Rules
@@ -33,6 +33,14 @@ setting_of app store room = record { collections = store.names; rules = rules_of
 -- what a step left, with the run that it led to
 abbrev pub stepped_as : Rows → Effect → Run → Stepped
 stepped_as rows effect run = record { rows = rows; changes = effect.changes; touched = effect.touched; run = run }
+
+-- the run of a program of these steps behind the next one
+abbrev pub run_behind : List ProgramStep → Progress → Run
+run_behind steps p = with_left p (drop (suc p.next) steps)
+
+-- a step that is to leave this left these rows and this run, with this effect
+abbrev pub IsStepMade : Stepped → List ProgramStep → Rows → Progress → Effect → Type 0
+IsStepMade wanted steps rows p effect = wanted ≡ stepped_as rows effect (run_of steps p)
 
 -- what the answer to an operation leaves, where the run goes on as `next`
 abbrev pub answered_as : Rows → Run → (Applied → Run) → Result Reply Fault → Stepped

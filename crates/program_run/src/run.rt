@@ -9,7 +9,7 @@ ghost use Rattle.program_steps.specs.Runs.{done, outcome_view};
 ghost use Rattle.program_model.specs.Run.{Run as ARun, begun, gone_on, ended};
 ghost use Rattle.program_model.specs.Steps.{by_answer, stepped};
 ghost use Rattle.program_run.specs.Progress.{with_left, run_of};
-ghost use Rattle.program_run.specs.Planned.{setting_of, stepped_as, answered_as, with_ids, progress_with, planned, inserted_id, IsAnswer};
+ghost use Rattle.program_run.specs.Planned.{setting_of, run_behind, IsStepMade, answered_as, with_ids, progress_with, planned, inserted_id, IsAnswer};
 
 use crate::errors::fault_of;
 use crate::plan::{Ids, Plan};
@@ -238,7 +238,7 @@ impl Run {
     fn go_on(&mut self, steps: &[ProgramStep]) -> Option<Outcome>
         requires left { self.old.next < length steps.now }
         requires goes_on { self.old.outcome ≡ None }
-        ensures goes { run_of steps.now self.new ≡ gone_on (with_left self.old (drop (suc self.old.next) steps.now)) }
+        ensures goes { run_of steps.now self.new ≡ gone_on (run_behind steps.now self.old) }
         ensures told { option_map outcome_view result ≡ self.new.outcome }
     {
         self.next += 1;
@@ -250,7 +250,7 @@ impl Run {
     fn pass(&mut self, alloc: Global, steps: &[ProgramStep]) -> Effect
         requires left { self.old.next < length steps.now }
         requires goes_on { self.old.outcome ≡ None }
-        ensures goes { run_of steps.now self.new ≡ gone_on (with_left self.old (drop (suc self.old.next) steps.now)) }
+        ensures goes { run_of steps.now self.new ≡ gone_on (run_behind steps.now self.old) }
         ensures nothing { (result.changes ≡ []) × (result.touched ≡ []) }
         ensures told { option_map outcome_view result.outcome ≡ self.new.outcome }
     {
@@ -318,7 +318,7 @@ impl Run {
     ) -> Result<Effect, Mem>
         requires left { self.old.next < length steps.now }
         requires goes_on { self.old.outcome ≡ None }
-        ensures does { IfOk result (λ effect. by_answer store.old.rows (with_left self.old (drop (suc self.old.next) steps.now)) (applied store.old.names store.old.rows op room) (λ a. gone_on (with_ids ids (with_left self.old (drop (suc self.old.next) steps.now)))) ≡ stepped_as store.new.rows effect (run_of steps.now self.new)) }
+        ensures does { IfOk result (IsStepMade (by_answer store.old.rows (run_behind steps.now self.old) (applied store.old.names store.old.rows op room) (λ a. gone_on (with_ids ids (run_behind steps.now self.old)))) steps.now store.new.rows self.new) }
         ensures told { IfOk result (λ effect. option_map outcome_view effect.outcome ≡ self.new.outcome) }
         ensures names { store.new.names ≡ store.old.names }
         ensures run { OnErr result (self.new ≡ self.old) }
@@ -343,7 +343,7 @@ impl Run {
         store: &mut Store,
         room: u64,
     ) -> Result<Effect, Mem>
-        ensures does { IfOk result (λ effect. (steps left : List AStep) → by_answer store.old.rows (with_left self.old left) (applied store.old.names store.old.rows op room) (λ a. ended (done (Some a.answer)) (with_ids ids (with_left self.old left))) ≡ stepped_as store.new.rows effect (run_of steps self.new)) }
+        ensures does { IfOk result (λ effect. (steps left : List AStep) → IsStepMade (by_answer store.old.rows (with_left self.old left) (applied store.old.names store.old.rows op room) (λ a. ended (done (Some a.answer)) (with_ids ids (with_left self.old left)))) steps store.new.rows self.new effect) }
         ensures told { IfOk result (λ effect. option_map outcome_view effect.outcome ≡ self.new.outcome) }
         ensures names { store.new.names ≡ store.old.names }
         ensures run { OnErr result (self.new ≡ self.old) }
@@ -375,7 +375,7 @@ impl Run {
     ) -> Result<Effect, Mem>
         requires left { self.old.next < length steps.now }
         requires goes_on { self.old.outcome ≡ None }
-        ensures does { IfOk result (λ effect. (app : Option AnApp) → planned (setting_of app store.old room) store.old.rows (with_left self.old (drop (suc self.old.next) steps.now)) plan ≡ stepped_as store.new.rows effect (run_of steps.now self.new)) }
+        ensures does { IfOk result (λ effect. (app : Option AnApp) → IsStepMade (planned (setting_of app store.old room) store.old.rows (run_behind steps.now self.old) plan) steps.now store.new.rows self.new effect) }
         ensures told { IfOk result (λ effect. option_map outcome_view effect.outcome ≡ self.new.outcome) }
         ensures names { store.new.names ≡ store.old.names }
         ensures run { OnErr result (self.new ≡ self.old) }
@@ -405,7 +405,7 @@ impl Run {
         store: &mut Store,
         room: u64,
     ) -> Result<Effect, Mem>
-        ensures does { IfOk result (λ effect. stepped (setting_of (option_copied app.entry) store.old room) store.old.rows (run_of steps.now self.old) ≡ stepped_as store.new.rows effect (run_of steps.now self.new)) }
+        ensures does { IfOk result (IsStepMade (stepped (setting_of (option_copied app.entry) store.old room) store.old.rows (run_of steps.now self.old)) steps.now store.new.rows self.new) }
         ensures told { IfOk result (λ effect. option_map outcome_view effect.outcome ≡ self.new.outcome) }
         ensures names { store.new.names ≡ store.old.names }
         ensures run { OnErr result (self.new ≡ self.old) }

@@ -1,10 +1,10 @@
 -- What a subscription's observer tells of changes.
-use Rattle.std.specs.Prelude.{ℕ, List, Option, None, Some, option_map}
+use Rattle.std.specs.Prelude.{ℕ, List, Option, None, Some}
 use Rattle.ejson_value.specs.declared.change.Change.{Change}
 use Rattle.ejson_value.specs.declared.change.Publish.{Publish}
 use Rattle.session_core.specs.live_observer.Observing.{AnObserver, APlan, IsPlanOf, carried}
 use Rattle.session_core.specs.session_model.Subscriptions.{Live}
-use Rattle.session_core.specs.session_model.Observers.{observer_at, observers_with}
+use Rattle.session_core.specs.session_model.Observers.{observers_changed}
 use Rattle.session_core.specs.session_laws.Events.{Tells}
 
 -- where there is an observer, it tells these news of the changes, and the plan is its own
@@ -17,4 +17,4 @@ IsObserved (Some o) changes news (Some plan) = IsPlanOf o plan × Tells changes 
 -- the observers once the plan of a subscription's is carried out
 abbrev pub committed : ℕ → Option APlan → List Live → List (Option AnObserver) → List (Option AnObserver)
 committed sub None ls os = os
-committed sub (Some plan) ls os = observers_with sub (option_map (λ (o : AnObserver). carried o plan) (observer_at sub ls os)) ls os
+committed sub (Some plan) ls os = observers_changed sub (λ (o : AnObserver). carried o plan) ls os

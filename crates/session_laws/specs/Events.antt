@@ -29,7 +29,7 @@ use Rattle.session_model.specs.Fits.{item_for, IsRefusedAt}
 use Rattle.session_laws.specs.declared.fault.EventFault.{EventFault}
 use Rattle.session_laws.specs.declared.fault.EventFault.TheVariants as fault
 use Rattle.session_laws.specs.Session.{ASession, is_full, is_crowded, is_at_work, can_handle, can_load, can_advance, can_learn, can_refuse, IsCause, HadRoom, dropped}
-use Rattle.session_model.specs.Observers.{observers_without, observer_at, observers_with}
+use Rattle.session_model.specs.Observers.{observers_without, observer_at, observers_with, observers_changed}
 use Rattle.session_laws.specs.Adding.{HasAdded}
 use Rattle.session_laws.specs.Storing.{kept_as, shown_id}
 use Rattle.session_laws.specs.Meaning.{Means}
@@ -191,7 +191,7 @@ pub record HasAdvanced (sub count : ℕ) (changes : List Change) (old new : ASes
   pub told : IfSome (observer_of sub old) (Tells changes news plan)
   pub done : HasDone 0 (item.advance sub count) (apply sub (news_of news)) old new
   pub waits : Waits old new
-  pub observers : new.observers ≡ observers_with sub (option_map (λ (o : AnObserver). carried o plan) (observer_of sub old)) old.carried.own.subs old.observers
+  pub observers : new.observers ≡ observers_changed sub (λ (o : AnObserver). carried o plan) old.carried.own.subs old.observers
 
 -- the entries behind the first `start`, so many of them, begin at this place of the store, and their changes lead on to a later one
 pub record IsBatch (C : List Moment) (place : Option ℕ) (start count : ℕ) (changes : List Change) : Type 0 where

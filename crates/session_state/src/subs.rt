@@ -2,7 +2,7 @@
 ghost use Rattle.std.specs.Prelude.{◌≡◌, map, Some, IfSome, option_map, option_and_then, slice_set};
 ghost use Rattle.live_observer.specs.Observing.{IsPlanOf, carried};
 ghost use Rattle.session_model.specs.Subscriptions.{is_crowded, sub_named, cursor_of, may_load, loaded, closed};
-ghost use Rattle.session_model.specs.Observers.{observers_without, observer_at, observers_with};
+ghost use Rattle.session_model.specs.Observers.{observers_without, observer_at, observers_with, observers_changed};
 ghost use Rattle.session_state.specs.Subs.{as_live, place_in, live_of, placed_at, observers_of, observer_in};
 
 use ejson_value::{Items, Text};
@@ -138,8 +138,7 @@ fn commit_at(subs: &mut Vec<Sub>, place: usize, plan: Plan)
 pub(crate) fn commit(subs: &mut Vec<Sub>, number: u64, plan: Plan)
     requires { IfSome (observer_at number (map as_live subs.old.items) (observers_of subs.old.items)) (λ o. IsPlanOf o plan) }
     ensures same { map as_live subs.new.items ≡ map as_live subs.old.items }
-    ensures observers { observers_of subs.new.items ≡ observers_with number (option_map (λ o. carried o plan) (observer_at number (map as_live subs.old.items) (observers_of subs.old.items)))
-        (map as_live subs.old.items) (observers_of subs.old.items) }
+    ensures observers { observers_of subs.new.items ≡ observers_changed number (λ o. carried o plan) (map as_live subs.old.items) (observers_of subs.old.items) }
 {
     if let Some(place) = place_of(subs.as_slice(), number) {
         commit_at(subs, place, plan);

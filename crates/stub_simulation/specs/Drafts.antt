@@ -23,7 +23,7 @@ use Rattle.program_model.specs.Run.{if_ok}
 use Rattle.program_model.specs.Steps.{Stepped, stepped, client_setting}
 use Rattle.program_run.specs.declared.run.Effect.{Effect}
 use Rattle.program_run.specs.Progress.{Progress, run_of}
-use Rattle.program_run.specs.Planned.{stepped_as}
+use Rattle.program_run.specs.Planned.{IsStepMade}
 use Rattle.stub_simulation.specs.declared.draft.Draft.{Draft}
 use Rattle.stub_simulation.specs.declared.fitting.Totals.{Totals}
 use Rattle.program_model.specs.Touched.{keys_put, each_once}
@@ -72,7 +72,7 @@ pub record IsMade (names : List (List ℕ)) (params : List Val) (steps : List Pr
   pub window : Rows
   pub looks : IsWindow params draft.made (shown_by view draft) s window
   pub left : Rows
-  pub does : stepped (client_setting names) window (run_of steps run) ≡ stepped_as left effect (run_of steps next)
+  pub does : IsStepMade (stepped (client_setting names) window (run_of steps run)) steps left next effect
   pub told : option_map outcome_view effect.outcome ≡ next.outcome
 
 -- ---- whether it is taken
@@ -150,3 +150,8 @@ pub record IsDraft (view : Rows) (params : List Val) (steps : List ProgramStep) 
   pub bytes : draft.totals.bytes ≡ bytes_of stepped.rows
   pub going : draft.is_over ≡ false → GoesOn params steps stepped progress draft
   pub over : draft.is_over ≡ true → stepped.run.left ≡ []
+
+-- where the run and the draft stood for what was made so far, they stand then for what this makes of it
+abbrev pub CarriesOn : Rows → List Val → List ProgramStep → (Stepped → Stepped) → Progress → Draft → Progress → Draft → Type 0
+CarriesOn view params steps goes run draft next new =
+    (so_far : Stepped) → IsDraft view params steps so_far run draft → IsDraft view params steps (goes so_far) next new

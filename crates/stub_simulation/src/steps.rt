@@ -3,10 +3,10 @@ ghost use Rattle.std.specs.Prelude.{◌≡◌, ◌∷◌, [], List, false, optio
 ghost use Rattle.ejson_value.specs.Rows.{Rows};
 ghost use Rattle.program_steps.specs.declared.step.ProgramStep.{ProgramStep as AStep};
 ghost use Rattle.program_steps.specs.Runs.{outcome_view};
-ghost use Rattle.program_model.specs.Steps.{Stepped, client_setting, stepped, further, all_stepped};
+ghost use Rattle.program_model.specs.Steps.{client_setting, stepped, further, all_stepped};
 ghost use Rattle.program_run.specs.Progress.{run_of};
-ghost use Rattle.program_run.specs.Planned.{stepped_as};
-ghost use Rattle.stub_simulation.specs.Drafts.{IsWithin, IsDraft, IsMade, IsFollowed};
+ghost use Rattle.program_run.specs.Planned.{IsStepMade};
+ghost use Rattle.stub_simulation.specs.Drafts.{IsWithin, IsMade, IsFollowed, CarriesOn};
 
 use crate::draft::Draft;
 use crate::fitting::is_taken;
@@ -45,7 +45,7 @@ fn next_step<'a>(steps: &'a [ProgramStep], run: &Run) -> Option<&'a ProgramStep>
 
 // Makes the next step over these documents alone.
 fn made_over(call: &StubCall, run: &mut Run, window: Contents) -> Result<Effect, Mem>
-    ensures does { IfOk result (λ effect. (left : Rows) × (stepped (client_setting call.now.names.now) window (run_of call.now.steps.now run.old) ≡ stepped_as left effect (run_of call.now.steps.now run.new))) }
+    ensures does { IfOk result (λ effect. (left : Rows) × IsStepMade (stepped (client_setting call.now.names.now) window (run_of call.now.steps.now run.old)) call.now.steps.now left run.new effect) }
     ensures told { IfOk result (λ effect. option_map outcome_view effect.outcome ≡ run.new.outcome) }
 {
     let mut store = Store::over(call.alloc, call.names, window)?;
@@ -85,7 +85,7 @@ fn make(call: &StubCall, run: &mut Run, draft: &mut Draft, step: &ProgramStep) -
     requires next { (rest : List AStep) × ((run_of call.now.steps.now run.old).left ≡ step.now ∷ rest) }
     requires within { IsWithin draft.old }
     ensures within { OnOk result (IsWithin draft.new) }
-    ensures left { OnOk result ((so_far : Stepped) → draft.old.is_over ≡ false → IsDraft call.now.view.now call.now.params.now call.now.steps.now so_far run.old draft.old → IsDraft call.now.view.now call.now.params.now call.now.steps.now (further (client_setting call.now.names.now) so_far) run.new draft.new) }
+    ensures left { OnOk result (draft.old.is_over ≡ false → CarriesOn call.now.view.now call.now.params.now call.now.steps.now (further (client_setting call.now.names.now)) run.old draft.old run.new draft.new) }
 {
     call.view.known();
     draft.left.known();
@@ -98,7 +98,7 @@ fn make(call: &StubCall, run: &mut Run, draft: &mut Draft, step: &ProgramStep) -
 fn make_step(call: &StubCall, run: &mut Run, draft: &mut Draft) -> Result<(), Mem>
     requires { IsWithin draft.old }
     ensures within { OnOk result (IsWithin draft.new) }
-    ensures left { OnOk result ((so_far : Stepped) → draft.old.is_over ≡ false → IsDraft call.now.view.now call.now.params.now call.now.steps.now so_far run.old draft.old → IsDraft call.now.view.now call.now.params.now call.now.steps.now (further (client_setting call.now.names.now) so_far) run.new draft.new) }
+    ensures left { OnOk result (draft.old.is_over ≡ false → CarriesOn call.now.view.now call.now.params.now call.now.steps.now (further (client_setting call.now.names.now)) run.old draft.old run.new draft.new) }
 {
     match next_step(call.steps, run) {
         None => {
@@ -112,7 +112,7 @@ fn make_step(call: &StubCall, run: &mut Run, draft: &mut Draft) -> Result<(), Me
 /// As many steps as there are, up to the stub's end.
 pub(crate) fn make_steps(call: &StubCall, run: &mut Run, draft: &mut Draft) -> Result<(), Mem>
     requires { IsWithin draft.old }
-    ensures { OnOk result ((so_far : Stepped) → IsDraft call.now.view.now call.now.params.now call.now.steps.now so_far run.old draft.old → IsDraft call.now.view.now call.now.params.now call.now.steps.now (all_stepped (client_setting call.now.names.now) call.now.steps.now so_far) run.new draft.new) }
+    ensures { OnOk result (CarriesOn call.now.view.now call.now.params.now call.now.steps.now (all_stepped (client_setting call.now.names.now) call.now.steps.now) run.old draft.old run.new draft.new) }
 {
     for _step in call.steps {
         if draft.is_over {

@@ -21,7 +21,7 @@ loop-step-preserved c =
       left = λ so_far w.
           let mid = inv.left so_far w in (
             further (client_setting call.names.now) mid.0,
-            c.in_ok-make_step.ensures.left mid.0 c.if-draft.false mid.1,
+            c.in_ok-make_step.ensures.left c.if-draft.false mid.0 mid.1,
             sym (next_made (client_setting call.names.now) steps c.loop-step._step-index mid.0 c.loop-step-test.true) ∙ mid.2,
           );
     }
