@@ -1,12 +1,12 @@
 //! Data messages: what a client is told of documents.
-ghost use Rattle.std.specs.Prelude.{◌≡◌, option_map, IfOk};
+ghost use Rattle.std.specs.Prelude.{◌≡◌, Some, IfOk};
 ghost use Rattle.map_model.specs.Differences.{between, changed_unless_same, new_fields, cleared};
 ghost use Rattle.merge_model.specs.Kept.{merged_doc, merged_fields};
 ghost use Rattle.value_model.specs.Order.{text_cmp};
-ghost use Rattle.ejson_value.specs.Messages.{said};
 ghost use Rattle.kept_document.specs.declared.held.Change.TheVariants.{Part};
 ghost use Rattle.kept_document.specs.Held.{same_value};
 ghost use Rattle.kept_document.specs.Changes.{IsFor, with_change};
+ghost use Rattle.kept_document.specs.Saying.{Says};
 
 use crate::differences::difference;
 use crate::held::{Change, Held};
@@ -16,8 +16,7 @@ use std::alloc::Global;
 
 // The message, unless there is nothing to say.
 fn unless_same(key: &Key, fields: Doc, cleared: Names) -> Result<Option<DataMsg>, Mem>
-    ensures { IfOk result (λ message. option_map said message ≡ option_map (λ step. (key.now, step))
-        (changed_unless_same text_cmp same_value fields cleared)) }
+    ensures { IfOk result (Says key.now (changed_unless_same text_cmp same_value fields cleared)) }
 {
     if fields.is_empty() && cleared.is_empty() {
         return Ok(None);
@@ -32,9 +31,7 @@ fn unless_same(key: &Key, fields: Doc, cleared: Names) -> Result<Option<DataMsg>
 
 // The message about a document that the client saw so before and sees so afterwards.
 fn changed(alloc: Global, key: &Key, before: &Doc, after: &Doc) -> Result<Option<DataMsg>, Mem>
-    ensures { IfOk result (λ message. option_map said message ≡ option_map (λ step. (key.now, step))
-        (changed_unless_same text_cmp same_value
-        (new_fields text_cmp same_value before.now after.now) (cleared text_cmp same_value before.now after.now))) }
+    ensures { IfOk result (Says key.now (between text_cmp same_value (Some before.now) (Some after.now))) }
 {
     let (fields, names) = difference(alloc, before, after)?;
     unless_same(key, fields, names)
@@ -42,10 +39,7 @@ fn changed(alloc: Global, key: &Key, before: &Doc, after: &Doc) -> Result<Option
 
 // The message about a document that somebody publishes before and afterwards.
 fn changed_whole(alloc: Global, key: &Key, old: &Held, new: &Held) -> Result<Option<DataMsg>, Mem>
-    ensures { IfOk result (λ message. option_map said message ≡ option_map (λ step. (key.now, step))
-        (changed_unless_same text_cmp same_value
-        (new_fields text_cmp same_value (merged_fields old.now.fields) (merged_fields new.now.fields))
-        (cleared text_cmp same_value (merged_fields old.now.fields) (merged_fields new.now.fields)))) }
+    ensures { IfOk result (Says key.now (between text_cmp same_value (Some (merged_fields old.now.fields)) (Some (merged_fields new.now.fields)))) }
 {
     match (old.plain(), new.plain()) {
         (Some(before), Some(after)) => changed(alloc, key, before, after),
@@ -59,8 +53,7 @@ fn changed_whole(alloc: Global, key: &Key, old: &Held, new: &Held) -> Result<Opt
 
 // The message about a document after all that is kept of it has changed.
 fn told_whole(alloc: Global, key: &Key, old: &Held, new: &Held) -> Result<Option<DataMsg>, Mem>
-    ensures { IfOk result (λ message. option_map said message ≡ option_map (λ step. (key.now, step))
-        (between text_cmp same_value (merged_doc old.now) (merged_doc new.now))) }
+    ensures { IfOk result (Says key.now (between text_cmp same_value (merged_doc old.now) (merged_doc new.now))) }
 {
     match (old.is_published(), new.is_published()) {
         (false, false) => Ok(None),
@@ -101,8 +94,7 @@ fn cleared_by_part(alloc: Global, old: &Shared, part: &Shared) -> Result<Names, 
 
 // The message about a document after the claims on some of its fields have changed.
 fn told_part(alloc: Global, key: &Key, old: &Shared, part: &Shared) -> Result<Option<DataMsg>, Mem>
-    ensures { IfOk result (λ message. option_map said message ≡ option_map (λ step. (key.now, step))
-        (between text_cmp same_value (merged_doc old.now) (merged_doc (with_change old.now (Part part.now))))) }
+    ensures { IfOk result (Says key.now (between text_cmp same_value (merged_doc old.now) (merged_doc (with_change old.now (Part part.now))))) }
 {
     old.known();
     part.known();
@@ -114,8 +106,7 @@ fn told_part(alloc: Global, key: &Key, old: &Shared, part: &Shared) -> Result<Op
 /// The message about a document after a change, if the client sees it otherwise then.
 pub fn told(alloc: Global, key: &Key, old: &Held, change: &Change) -> Result<Option<DataMsg>, Mem>
     requires { IsFor old.now change.now }
-    ensures { IfOk result (λ message. option_map said message ≡ option_map (λ step. (key.now, step))
-        (between text_cmp same_value (merged_doc old.now) (merged_doc (with_change old.now change.now)))) }
+    ensures { IfOk result (Says key.now (between text_cmp same_value (merged_doc old.now) (merged_doc (with_change old.now change.now)))) }
 {
     match (change, old.shared()) {
         (Change::Whole(new), _) => told_whole(alloc, key, old, new),
