@@ -1,13 +1,10 @@
 -- The lines that a command writes: values, each as its EJSON text with a line feed behind it.
 use Rattle.std.specs.Prelude.{ℕ, pos, List, [], ◌∷◌, ◌++◌, flat_map, Option, Some, None, codes}
-use Rattle.value_model.specs.Val.{Val, text, int, list, vals_of}
+use Rattle.value_model.specs.Val.{Val, int}
 use Rattle.serde_json.specs.Written.{compact_text}
 use Rattle.ejson_codec.specs.Written.{written}
+pub use Rattle.ejson_codec.specs.Lines.{worded as line}
 use Rattle.checking.specs.Input.{line_feed}
-
--- a line: its first element is the word that says what it is
-abbrev pub line : List ℕ → List Val → Val
-line word rest = list (vals_of (text word ∷ rest))
 
 -- a line as it is written
 abbrev pub value_bytes : Val → List ℕ

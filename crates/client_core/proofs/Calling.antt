@@ -20,7 +20,8 @@ use Rattle.program_model.specs.Steps.{Stepped}
 use Rattle.ddp_messages.specs.ClientMessage as message
 use Rattle.stub_simulation.specs.declared.simulation.Simulated.{Simulated}
 use Rattle.stub_simulation.specs.Simulating.{IsSimulated}
-use Rattle.client_model.specs.Client.{client_text, Client, Call}
+use Rattle.ddp_messages.specs.Texts.{client_text}
+use Rattle.client_model.specs.Client.{Client, Call}
 use Rattle.client_model.specs.Taking.{awaits_update}
 use Rattle.client_model.specs.Asking.{seed_of}
 use Rattle.client_model.specs.Showing.{IsShown}

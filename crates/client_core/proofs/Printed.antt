@@ -4,7 +4,8 @@ use Rattle.std.proofs.Common.{◌≡◌, ℕ, suc, ◌<◌, length, get_or, List
 use Rattle.std.proofs.Math.Seq.{drop-cons}
 use Rattle.value_model.specs.Val.{Val}
 use Rattle.client_model.specs.Client.{Call}
-use Rattle.client_model.specs.Lines.{line_text, line_texts, method_line, method_lines}
+use Rattle.ejson_codec.specs.Lines.{line_text}
+use Rattle.client_model.specs.Lines.{line_texts, method_line, method_lines}
 
 pub next_line : {A : Type 0} (f : A → Val) (lines after all : List (List ℕ)) (before rest : List A) (x : A) → lines ++ line_texts (map f before) ≡ all → before ≡ x ∷ rest → after ≡ lines ++ line_text (f x) ∷ []
     → after ++ line_texts (map f rest) ≡ all

@@ -5,7 +5,7 @@ ghost use Rattle.ddp_messages.specs.ServerMessage.{server_view};
 ghost use Rattle.ddp_messages.specs.ServerMessage as server;
 ghost use Rattle.client_core.specs.Taken.{IsRead, Tells, Hears, Takes};
 ghost use Rattle.ddp_messages.specs.ClientMessage as client;
-ghost use Rattle.client_model.specs.Client.{client_text};
+ghost use Rattle.ddp_messages.specs.Texts.{client_text};
 ghost use Rattle.client_model.specs.Taking.{turned, ended_by as end_of};
 ghost use Rattle.client_model.specs.Asking.{with_text};
 

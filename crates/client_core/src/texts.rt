@@ -3,7 +3,7 @@ ghost use Rattle.std.specs.Prelude.{◌≡◌, ◌∷◌, [], codes, decimal, If
 ghost use Rattle.value_model.specs.Val.{text as text_val};
 ghost use Rattle.ddp_messages.specs.ClientMessage as client;
 ghost use Rattle.ddp_messages.specs.ClientMessage.{client_view};
-ghost use Rattle.client_model.specs.Client.{client_text};
+ghost use Rattle.ddp_messages.specs.Texts.{client_text};
 
 use crate::numbers::id_of;
 use ddp_messages::FromClient;

@@ -13,7 +13,8 @@ use Rattle.program_steps.specs.Runs.{Outcome}
 use Rattle.ddp_messages.specs.ClientMessage as client
 use Rattle.client_model.specs.declared.subs.SubState.{SubState}
 use Rattle.client_model.specs.declared.subs.SubState.TheVariants as state
-use Rattle.client_model.specs.Client.{client_text, Sub, Call, Client}
+use Rattle.ddp_messages.specs.Texts.{client_text}
+use Rattle.client_model.specs.Client.{Sub, Call, Client}
 use Rattle.client_model.specs.Taking.{call_at}
 
 -- how many calls a client makes

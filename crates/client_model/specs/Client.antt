@@ -1,17 +1,12 @@
 -- A client's state.
 use Rattle.std.specs.Prelude.{ℕ, List, [], ◌∷◌, Bool, false, Option, Some, None, codes}
-use Rattle.serde_json.specs.Written.{compact_text}
 use Rattle.value_model.specs.Val.{Entries}
 use Rattle.view_model.specs.Views.{View, no_documents}
 use Rattle.ejson_value.specs.declared.key.Key.{Key}
 use Rattle.program_steps.specs.Runs.{Outcome}
-use Rattle.ddp_messages.specs.ClientMessage.{ClientMessage, connect}
-use Rattle.ddp_messages.specs.Written.{client_written}
+use Rattle.ddp_messages.specs.ClientMessage.{connect}
+use Rattle.ddp_messages.specs.Texts.{client_text}
 use Rattle.client_model.specs.declared.subs.SubState.{SubState}
-
--- a message as a text
-abbrev pub client_text : ClientMessage → List ℕ
-client_text message = compact_text (client_written message)
 
 -- a subscription, and whether its `unsub` was queued since its `sub`
 pub record Sub : Type 0 where

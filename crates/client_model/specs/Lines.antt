@@ -1,8 +1,7 @@
 -- What a client has, as lines: EJSON lists whose first element says what the line is.
 use Rattle.std.specs.Prelude.{ℕ, suc, List, [], ◌∷◌, ◌++◌, map, codes, decimal, Option, Some, None}
-use Rattle.value_model.specs.Val.{Val, text, list, object, vals_of, fields_of, Entries}
-use Rattle.serde_json.specs.Written.{compact_text}
-use Rattle.ejson_codec.specs.Written.{written}
+use Rattle.value_model.specs.Val.{Val, text, object, fields_of, Entries}
+use Rattle.ejson_codec.specs.Lines.{worded, line_text}
 use Rattle.ejson_value.specs.declared.key.Key.{Key}
 use Rattle.program_steps.specs.Runs.{Outcome, done, failed}
 use Rattle.client_model.specs.declared.subs.SubState.{SubState}
@@ -10,17 +9,11 @@ use Rattle.client_model.specs.declared.subs.SubState.TheVariants as state
 use Rattle.client_model.specs.Client.{Sub, Subs, Call}
 use Rattle.client_model.specs.Asking.{outcome_in}
 
-abbrev pub line_text : Val → List ℕ
-line_text v = compact_text (written v)
-
 abbrev pub line_texts : List Val → List (List ℕ)
 line_texts vs = map line_text vs
 
-abbrev pub line : List ℕ → List Val → Val
-line word rest = list (vals_of (text word ∷ rest))
-
 abbrev pub doc_line : Key × Entries → Val
-doc_line row = line (codes "doc") (text row.0.collection ∷ text row.0.id ∷ object (fields_of row.1) ∷ [])
+doc_line row = worded (codes "doc") (text row.0.collection ∷ text row.0.id ∷ object (fields_of row.1) ∷ [])
 
 -- the words for what became of a subscription
 abbrev pub state_words : SubState → List Val
@@ -30,7 +23,7 @@ state_words state.Ended = text (codes "ended") ∷ []
 state_words (state.Refused code) = text (codes "refused") ∷ text code ∷ []
 
 abbrev pub sub_line : List ℕ × Sub → Val
-sub_line sub = line (codes "sub") (text sub.0 ∷ state_words sub.1.state)
+sub_line sub = worded (codes "sub") (text sub.0 ∷ state_words sub.1.state)
 
 -- and of a call
 abbrev pub outcome_words : Option Outcome → List Val
@@ -40,7 +33,7 @@ outcome_words (Some (done (Some v))) = text (codes "done") ∷ v ∷ []
 outcome_words (Some (failed fault)) = text (codes "failed") ∷ text fault.code ∷ text fault.reason ∷ []
 
 abbrev pub method_line : ℕ → Call → Val
-method_line number call = line (codes "method") (text (decimal number) ∷ outcome_words (outcome_in (Some call)))
+method_line number call = worded (codes "method") (text (decimal number) ∷ outcome_words (outcome_in (Some call)))
 
 -- numbered from the given number on
 abbrev pub method_lines : ℕ → List Call → List Val
@@ -48,7 +41,7 @@ method_lines number [] = []
 method_lines number (call ∷ calls) = method_line number call ∷ method_lines (suc number) calls
 
 abbrev pub head_line : List ℕ → Val
-head_line name = line (codes "show") (text name ∷ [])
+head_line name = worded (codes "show") (text name ∷ [])
 
 -- its name, its documents, its subscriptions and its calls
 abbrev pub shown : List ℕ → List (Key × Entries) → Subs → List Call → List Val

@@ -21,7 +21,8 @@ use Rattle.ddp_messages.specs.ServerMessage as server
 use Rattle.ddp_messages.specs.ServerMessage.{ServerMessage}
 use Rattle.client_model.specs.declared.subs.SubState.{SubState}
 use Rattle.client_model.specs.declared.subs.SubState.TheVariants as state
-use Rattle.client_model.specs.Client.{client_text, Sub, Subs, Call, Client}
+use Rattle.ddp_messages.specs.Texts.{client_text}
+use Rattle.client_model.specs.Client.{Sub, Subs, Call, Client}
 
 -- how many bytes a text may have that a client reads
 abbrev pub max_server_text : ℕ

@@ -8,7 +8,7 @@ use Rattle.world_invariant_laws.specs.history_model.declared.entry.Entry.{Entry}
 use Rattle.world_invariant_laws.specs.history_model.Lines.{worded}
 use Rattle.client_model.specs.Lines.{line_texts}
 use Rattle.client_core.specs.State.{show_lines}
-use Rattle.world_invariant_laws.specs.session_model.Texts.{server_text}
+use Rattle.ddp_messages.specs.Texts.{server_text}
 use Rattle.world_invariant_laws.specs.session_model.Items.{Item}
 use Rattle.world_invariant_laws.specs.session_model.Items as item
 use Rattle.world_invariant_laws.specs.session_model.State.{State, started, after}

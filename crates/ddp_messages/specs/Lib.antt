@@ -13,6 +13,7 @@ pub mod ServerLaws
 pub mod Answers
 pub mod AnswerLaws
 pub mod Written
+pub mod Texts
 pub mod Limits
 pub mod Tokens
 pub mod TokenLaws

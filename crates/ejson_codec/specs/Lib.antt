@@ -5,6 +5,7 @@ pub mod Reads
 pub mod Reading
 pub mod ReadingLaws
 pub mod Written
+pub mod Lines
 pub mod WrittenLaws
 pub mod Faults
 pub mod Trees

@@ -12,5 +12,11 @@ said (message.Added key fields) = (key, added fields)
 said (message.Changed key fields cleared) = (key, changed fields cleared)
 said (message.Removed key) = (key, removed)
 
+-- the message about a document that says this of it
+abbrev pub saying : Key × Step (List ℕ) Val → DataMsg
+saying (key, added fields) = message.Added key fields
+saying (key, changed fields cleared) = message.Changed key fields cleared
+saying (key, removed) = message.Removed key
+
 abbrev pub all_said : List DataMsg → List (Key × Step (List ℕ) Val)
 all_said messages = map said messages

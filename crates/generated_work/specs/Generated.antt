@@ -1,8 +1,7 @@
 -- Generated work: sixteen counters, eight clients that see them all, and as many calls as are wanted, drawn by a linear congruential generator (Numerical Recipes' constants).
 use Rattle.std.specs.Prelude.{ℕ, zero, suc, ◌+◌, ◌*◌, ◌/◌, ◌%◌, ◌^◌, List, [], ◌∷◌, ◌++◌, map, flat_map, pos, codes, decimal}
 use Rattle.value_model.specs.Val.{Val, int, text, list, object, vals_of, fields_of}
-use Rattle.serde_json.specs.Written.{compact_text}
-use Rattle.ejson_codec.specs.Written.{written}
+use Rattle.ejson_codec.specs.Lines.{line_text}
 
 -- the application, as it is written
 abbrev pub application : List ℕ
@@ -69,9 +68,6 @@ generated n calls =
     ++ lines_below (λ i. call_line i (drawn n (suc i)) ∷ []) calls
 
 -- ---- the input of a drive
-
-abbrev pub line_text : Val → List ℕ
-line_text v = compact_text (written v)
 
 -- the application, and then the drive, line by line
 abbrev pub generated_lines : ℕ → ℕ → List (List ℕ)

@@ -6,7 +6,8 @@ use Rattle.std.proofs.lemmas.Bool.{and_parts, ltb-true}
 use Rattle.ddp_messages.specs.ClientMessage as client
 use Rattle.app_model.specs.App.{App}
 use Rattle.headline.specs.history_model.declared.entry.Entry.{Entry}
-use Rattle.client_model.specs.Client.{Call, client_text}
+use Rattle.ddp_messages.specs.Texts.{client_text}
+use Rattle.client_model.specs.Client.{Call}
 use Rattle.client_model.specs.Taking.{call_at}
 use Rattle.client_model.specs.Asking.{call_limit, is_connected, can_call, seed_of, can_take}
 use Rattle.headline.specs.session_model.Items.{Item}

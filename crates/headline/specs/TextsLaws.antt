@@ -28,7 +28,7 @@ use Rattle.ejson_codec.specs.Exact.{HasExactNumbers}
 use Rattle.ejson_codec.specs.CompactLaws.{read-compact_text}
 use Rattle.ejson_codec.specs.ExactLaws.{exact_items}
 use Rattle.ddp_messages.specs.MessageLaws.{client_text_back}
-use Rattle.client_model.specs.Client.{client_text}
+use Rattle.ddp_messages.specs.Texts.{client_text}
 use Rattle.client_model.specs.Taking.{number_of}
 use Rattle.client_model.specs.Asking.{call_limit}
 use Rattle.headline.specs.session_model.Items as item

@@ -1,6 +1,7 @@
 pub mod Lines
 pub mod Operations
 pub mod History
+pub mod Programs
 pub mod HistoryLaws
 pub mod Bounds
 pub mod RunsLaws

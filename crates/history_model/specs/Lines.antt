@@ -1,16 +1,12 @@
 -- The lines that are printed of a store: each the EJSON text of a list.
 use Rattle.std.specs.Prelude.{ℕ, pos, List, [], ◌∷◌, ◌++◌, length, map, codes, decimal}
 use Rattle.value_model.specs.Val.{Val, int, text, list, object, Entries, vals_of, fields_of}
-use Rattle.serde_json.specs.Written.{compact_text}
-use Rattle.ejson_codec.specs.Written.{written}
+pub use Rattle.ejson_codec.specs.Lines.{worded, line_text as line_of}
 use Rattle.ejson_value.specs.View.{view}
 use Rattle.ejson_value.specs.declared.key.Key.{Key}
 use Rattle.ejson_value.specs.Rows.{Rows}
 use Rattle.history_model.specs.declared.entry.Entry.{Entry}
 use Rattle.history_model.specs.declared.entry.Entry.TheVariants as entry
-
-abbrev pub worded : List ℕ → List Val → Val
-worded word rest = list (vals_of (text word ∷ rest))
 
 abbrev pub number : ℕ → Val
 number n = int (pos n)
@@ -27,9 +23,6 @@ entry_value (entry.Begin session k method params seed) =
     worded (codes "begin") (text (session_text session) ∷ number k ∷ text method ∷ list (vals_of params) ∷ view seed ∷ [])
 entry_value (entry.Step session k) = worded (codes "step") (text (session_text session) ∷ number k ∷ [])
 entry_value (entry.Admin op) = worded (codes "admin") (list (vals_of op) ∷ [])
-
-abbrev pub line_of : Val → List ℕ
-line_of v = compact_text (written v)
 
 -- the documents by collection and id, behind the length of the history
 abbrev pub store_lines : ℕ → Rows → List (List ℕ)

@@ -5,7 +5,8 @@ use Rattle.std.proofs.lemmas.List.{append_assoc}
 use Rattle.ddp_messages.specs.ServerMessage.{ServerMessage}
 use Rattle.ddp_messages.specs.Answers.{server_answer}
 use Rattle.reconnect_model.specs.Revival.{Revival}
-use Rattle.reconnect_model.specs.Giving.{Heard, server_text, settled, all_settled, half_done, half_ended, left_unsaid, updated_before, made_ready, differences, released, revived, revived_then, revived_when, lacks_nothing, is_answered, noted, passed, refused_by, text_refusal, heard_unless}
+use Rattle.ddp_messages.specs.Texts.{server_text}
+use Rattle.reconnect_model.specs.Giving.{Heard, settled, all_settled, half_done, half_ended, left_unsaid, updated_before, made_ready, differences, released, revived, revived_then, revived_when, lacks_nothing, is_answered, noted, passed, refused_by, text_refusal, heard_unless}
 use Rattle.reconnect.specs.Giving.{Gives, updates_of, ends_of, rest_of}
 use Rattle.reconnect.proofs.Hearing.{heard_is}
 

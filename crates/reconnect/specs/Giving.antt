@@ -5,7 +5,8 @@ use Rattle.ddp_messages.specs.ServerMessage as server
 use Rattle.ddp_messages.specs.ServerMessage.{ServerMessage}
 use Rattle.reconnect_model.specs.Revival.{Revival, Lacking}
 use Rattle.reconnect_model.specs.Saying.{owed}
-use Rattle.reconnect_model.specs.Giving.{Heard, all_settled, left_unsaid, made_ready, released, updated_before, server_text}
+use Rattle.ddp_messages.specs.Texts.{server_text}
+use Rattle.reconnect_model.specs.Giving.{Heard, all_settled, left_unsaid, made_ready, released, updated_before}
 
 -- these texts are given behind those that were, and this is left
 abbrev pub Gives : Heard → Revival → List (List ℕ) → List (List ℕ) → Type 0

@@ -55,50 +55,8 @@ use Rattle.ddp_messages.specs.ServerMessage as server
 use Rattle.client_model.specs.Taking.{max_server_text, early_refusal}
 use Rattle.reconnect_model.specs.Revival.{Called, Revival, new_revival}
 use Rattle.reconnect_model.specs.Saying.{entered, called, asked, asked_by, queues, placed, in_order, loses, says}
-use Rattle.reconnect_model.specs.Giving.{
-  server_text,
-  late,
-  early,
-  refused_by,
-  answer_refusal,
-  text_refusal,
-  documents,
-  is_among,
-  connects,
-  same_value,
-  step_text,
-  noted,
-  answered,
-  updated,
-  changed_from,
-  change_of,
-  all_updated,
-  settled,
-  all_settled,
-  gives,
-  differences,
-  half_done,
-  half_ended,
-  left_unsaid,
-  updated_before,
-  updated_left,
-  given_for,
-  Heard,
-  released_by,
-  released,
-  made_ready,
-  revived,
-  is_at_once,
-  is_held,
-  holds,
-  is_answered,
-  passed,
-  revived_then,
-  revived_when,
-  heard_message,
-  heard_unless,
-  hears,
-}
+use Rattle.ddp_messages.specs.Texts.{server_text}
+use Rattle.reconnect_model.specs.Giving.{late, early, refused_by, answer_refusal, text_refusal, documents, is_among, connects, same_value, step_text, noted, answered, updated, changed_from, change_of, all_updated, settled, all_settled, gives, differences, half_done, half_ended, left_unsaid, updated_before, updated_left, given_for, Heard, released_by, released, made_ready, revived, is_at_once, is_held, holds, is_answered, passed, revived_then, revived_when, heard_message, heard_unless, hears}
 use Rattle.reconnect_laws.specs.Given.{documents_by, all_documents}
 use Rattle.reconnect_laws.specs.ReadLaws.{data_read, AnswersShort, answers_read, AsksShort, asks_read}
 use Rattle.reconnect_laws.specs.Sent.{AreSent}

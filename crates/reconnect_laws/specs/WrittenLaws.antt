@@ -69,7 +69,8 @@ use Rattle.ddp_messages.specs.Limits.{IsShallow, DataKeepsLimits, DataHasValues}
 use Rattle.ddp_messages.specs.MessageLaws.{server_text_back}
 use Rattle.ddp_messages.specs.ServerMessage.{ServerMessage}
 use Rattle.ddp_messages.specs.ServerMessage as server
-use Rattle.reconnect_model.specs.Giving.{documents, same_value, message_of, step_text, differences}
+use Rattle.ejson_value.specs.Messages.{saying}
+use Rattle.reconnect_model.specs.Giving.{documents, same_value, step_text, differences}
 use Rattle.reconnect_laws.specs.Given.{documents_by, all_documents}
 use Rattle.reconnect_laws.specs.Sent.{FitMessage, IsSent, AreSent}
 
@@ -151,7 +152,7 @@ told_sent rows m v l w =
 
 -- the text reads as the message that it was made of
 abbrev pub ReadsBack : Key × Step (List ℕ) Val → Type 0
-ReadsBack e = server_answer (step_text e) ≡ Ok (server.about (message_of e))
+ReadsBack e = server_answer (step_text e) ≡ Ok (server.about (saying e))
 
 abbrev pub AllReadBack : List (Key × Step (List ℕ) Val) → Type 0
 AllReadBack [] = Unit {0}
@@ -206,7 +207,7 @@ differences_read a b g h =
     collected_reads (λ k. between text_cmp same_value (at key_cmp a k) (at key_cmp b k))
     (λ k. step_reads k (at key_cmp a k) (at key_cmp b k) (g.each k) (h.each k)) (keys_of (union key_cmp a b))
 
-said_is : (e : Key × Step (List ℕ) Val) → said (message_of e) ≡ e
+said_is : (e : Key × Step (List ℕ) Val) → said (saying e) ≡ e
 said_is (key, added fields) = refl
 said_is (key, changed fields names) = refl
 said_is (key, removed) = refl

@@ -5,20 +5,17 @@ use Rattle.std.specs.Ordering.{is_eq}
 use Rattle.std.specs.Map.{keys_of}
 use Rattle.std.specs.Set.{remove_key}
 use Rattle.std.specs.BTreeMap.{is_at}
-use Rattle.serde_json.specs.Written.{compact_text}
 use Rattle.map_model.specs.Maps.{at, set}
-use Rattle.map_model.specs.Differences.{Step, added, changed, removed, taken, diff}
+use Rattle.map_model.specs.Differences.{Step, taken, diff}
 use Rattle.value_model.specs.Val.{Val}
 use Rattle.value_model.specs.Order.{text_cmp, compare}
 use Rattle.view_model.specs.Views.{refusal}
 use Rattle.ejson_value.specs.declared.key.Key.{Key}
-use Rattle.ejson_value.specs.declared.message.DataMsg.{DataMsg}
-use Rattle.ejson_value.specs.declared.message.DataMsg.TheVariants as message
 use Rattle.ejson_value.specs.Key.{key_cmp}
 use Rattle.ejson_value.specs.Rows.{Rows}
-use Rattle.ejson_value.specs.Messages.{said}
+use Rattle.ejson_value.specs.Messages.{said, saying}
 use Rattle.ddp_messages.specs.Answers.{server_answer}
-use Rattle.ddp_messages.specs.Written.{server_written}
+use Rattle.ddp_messages.specs.Texts.{server_text}
 use Rattle.ddp_messages.specs.declared.fault.MsgFault.{MsgFault}
 use Rattle.ddp_messages.specs.declared.fault.MsgFault.TheVariants.{Parse, BadRequest, Memory}
 use Rattle.ddp_messages.specs.ServerMessage as server
@@ -26,10 +23,6 @@ use Rattle.ddp_messages.specs.ServerMessage.{ServerMessage}
 use Rattle.client_model.specs.Taking.{max_server_text, early_refusal}
 use Rattle.reconnect_model.specs.Revival.{Called, Lacking, Revival}
 use Rattle.reconnect_model.specs.Saying.{in_order}
-
--- a message as a text
-abbrev pub server_text : ServerMessage → List ℕ
-server_text message = compact_text (server_written message)
 
 -- ---- the number of the first rule that refuses a text, if one does
 
@@ -137,14 +130,9 @@ gives r m = record (settled r m) { is_known = r.is_known || connects m }
 abbrev pub same_value : Val → Val → Bool
 same_value v w = is_eq (compare v w)
 
--- the message that says so of a document, and its text
-abbrev pub message_of : Key × Step (List ℕ) Val → DataMsg
-message_of (key, added fields) = message.Added key fields
-message_of (key, changed fields cleared) = message.Changed key fields cleared
-message_of (key, removed) = message.Removed key
-
+-- the text that says so of a document
 abbrev pub step_text : Key × Step (List ℕ) Val → List ℕ
-step_text step = server_text (server.about (message_of step))
+step_text step = server_text (server.about (saying step))
 
 -- what leads from the documents that the client was given to those that the session sent, by key
 abbrev pub differences : Rows → Rows → List (List ℕ)

@@ -9,7 +9,7 @@ use Rattle.ddp_messages.specs.Answers.{client_answer}
 use Rattle.ddp_messages.specs.declared.fault.MsgFault.{MsgFault}
 use Rattle.ddp_messages.specs.ClientMessage as client
 use Rattle.ddp_messages.specs.ClientMessage.{ClientMessage}
-use Rattle.client_model.specs.Client.{client_text}
+use Rattle.ddp_messages.specs.Texts.{client_text}
 use Rattle.reconnect_model.specs.Revival.{Wanted, Called, Revival}
 
 -- ---- what the client queues

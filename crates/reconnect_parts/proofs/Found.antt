@@ -24,7 +24,9 @@ use Rattle.kept_document.specs.declared.held.Change.{Change}
 use Rattle.kept_document.specs.declared.held.Change.TheVariants.{Whole}
 use Rattle.kept_document.specs.Held.{KeptDoc, put_some, alone_if}
 use Rattle.kept_document.specs.Changes.{with_change}
-use Rattle.reconnect_model.specs.Giving.{same_value, step_text, server_text, message_of, differences}
+use Rattle.ejson_value.specs.Messages.{saying}
+use Rattle.ddp_messages.specs.Texts.{server_text}
+use Rattle.reconnect_model.specs.Giving.{same_value, step_text, differences}
 use Rattle.reconnect_parts.specs.Differences.{put_all, text_between, change_at, new_at}
 
 module _ {K : Type 0} {R : K → K → Ordering} (o : IsKeyOrder R) where
@@ -119,7 +121,7 @@ told_between before after x change held is was now =
     ∙ ap (λ (ch : Change). between text_cmp same_value (merged_doc (alone_if 0 before)) (merged_doc (with_change (alone_if 0 before) ch))) now
     ∙ ap₂ (between text_cmp same_value) (merged_alone-if before) (merged_alone-if after)
 
-message_said : (m : DataMsg) → message_of (said m) ≡ m
+message_said : (m : DataMsg) → saying (said m) ≡ m
 message_said (message.Added key fields) = refl
 message_said (message.Changed key fields cleared) = refl
 message_said (message.Removed key) = refl

@@ -2,7 +2,7 @@
 ghost use Rattle.std.specs.Prelude.{◌≡◌, ◌++◌, ◌∷◌, [], None, IfOk, OnOk};
 ghost use Rattle.ddp_messages.specs.ServerMessage as server;
 ghost use Rattle.ddp_messages.specs.ServerMessage.{server_view};
-ghost use Rattle.reconnect_model.specs.Giving.{server_text};
+ghost use Rattle.ddp_messages.specs.Texts.{server_text};
 
 use ddp_messages::FromServer;
 use ejson_value::{ListOf, Mem, Names, Text};

@@ -37,7 +37,8 @@ use Rattle.ddp_messages.specs.declared.fault.MsgFault.TheVariants.{Parse, BadReq
 use Rattle.ddp_messages.specs.ClientMessage as client
 use Rattle.ddp_messages.specs.ServerMessage as server
 use Rattle.ddp_messages.specs.ServerMessage.{ServerMessage}
-use Rattle.client_model.specs.Client.{Call, Client, client_text}
+use Rattle.ddp_messages.specs.Texts.{client_text}
+use Rattle.client_model.specs.Client.{Call, Client}
 use Rattle.client_model.specs.Taking.{max_server_text, early_refusal, late_refusal, message_refusal, numbers_of, session_in, outcome_by, with_outcome, with_update, call_changed, number_changed, all_changed, calls_in, told_unless, told_answer, told_text, breaks}
 use Rattle.client_model.specs.Asking.{can_sub, subscribed, can_unsub, unsubscribed, can_call, call_limit, seed_of}
 use Rattle.client_core.specs.State.{Own}

@@ -4,7 +4,7 @@ use Rattle.value_model.specs.Val.{Val}
 use Rattle.ddp_messages.specs.declared.fault.MsgFault.{MsgFault}
 use Rattle.ddp_messages.specs.ClientMessage as client
 use Rattle.ddp_messages.specs.ServerMessage.{ServerMessage}
-use Rattle.client_model.specs.Client.{client_text}
+use Rattle.ddp_messages.specs.Texts.{client_text}
 use Rattle.client_model.specs.Taking.{session_in}
 use Rattle.client_model.specs.Asking.{seed_of}
 use Rattle.client_core.specs.State.{Own}

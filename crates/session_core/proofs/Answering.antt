@@ -8,7 +8,7 @@ use Rattle.merge_model.specs.Publishing.{apply}
 use Rattle.ddp_messages.specs.ClientMessage.{ClientMessage}
 use Rattle.method_queue.specs.Queue.{Waiting, Queue, pushed}
 use Rattle.session_core.specs.live_observer.Observing.{AnObserver}
-use Rattle.session_core.specs.session_model.Texts.{server_text}
+use Rattle.ddp_messages.specs.Texts.{server_text}
 use Rattle.session_core.specs.session_model.Items.{Item, bad}
 use Rattle.session_core.specs.session_model.Subscriptions.{Live}
 use Rattle.session_core.specs.session_model.Methods.{Blocking}

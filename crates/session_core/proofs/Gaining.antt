@@ -7,7 +7,7 @@ use Rattle.value_model.specs.Val.{Entries}
 use Rattle.ejson_value.specs.declared.key.Key.{Key}
 use Rattle.merge_box.specs.State.{KeptDocs}
 use Rattle.ddp_messages.specs.ServerMessage.{ServerMessage}
-use Rattle.session_core.specs.session_model.Texts.{server_text}
+use Rattle.ddp_messages.specs.Texts.{server_text}
 use Rattle.session_core.specs.session_model.State.{State}
 use Rattle.session_core.specs.session_model.Methods.{all_told}
 use Rattle.session_core.specs.session_model.Shown.{difference}

@@ -10,7 +10,7 @@ use Rattle.app_model.specs.App.{App}
 use Rattle.ddp_messages.specs.ClientMessage.{ClientMessage}
 use Rattle.ddp_messages.specs.ServerMessage.{ServerMessage}
 use Rattle.merge_box.specs.State.{KeptDocs}
-use Rattle.session_core.specs.session_model.Texts.{server_text}
+use Rattle.ddp_messages.specs.Texts.{server_text}
 use Rattle.session_core.specs.session_model.Items.{Item}
 use Rattle.session_core.specs.session_model.Out.{own_messages}
 use Rattle.method_queue.specs.Queue.{Waiting, Queue}

@@ -9,7 +9,7 @@ use Rattle.ddp_messages.specs.ServerMessage.{ServerMessage}
 use Rattle.program_steps.specs.declared.outcome.Status.{Status}
 use Rattle.program_steps.specs.Runs.{End}
 use Rattle.method_queue.specs.Queue.{Queue, other_than}
-use Rattle.session_core.specs.session_model.Texts.{server_text}
+use Rattle.ddp_messages.specs.Texts.{server_text}
 use Rattle.session_core.specs.session_model.Items.{Item}
 use Rattle.session_core.specs.session_model.Methods.{Phase, running, Method, Blocking, freed, is_blocked_by, phase_at, id_at}
 use Rattle.session_core.specs.session_model.State.{own_after}

@@ -11,7 +11,7 @@ use Rattle.ejson_value.specs.Key.{key_cmp, key_order}
 use Rattle.ejson_value.specs.Messages.{said}
 use Rattle.kept_document.specs.Held.{same_value}
 use Rattle.merge_box.specs.State.{KeptDocs, Told, Tells, IsBox}
-use Rattle.session_model.specs.Texts.{server_text}
+use Rattle.ddp_messages.specs.Texts.{server_text}
 use Rattle.session_model.specs.Shown.{difference}
 use Rattle.session_model.specs.Out.{about}
 use Rattle.session_texts.specs.Said.{data_text}

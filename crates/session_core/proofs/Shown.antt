@@ -12,7 +12,7 @@ use Rattle.method_queue.specs.Queue.{Queue}
 use Rattle.session_core.specs.publication.Cursors.{ACursors}
 use Rattle.session_core.specs.publication.Published.{IsQuery}
 use Rattle.session_core.specs.live_observer.Observing.{AnObserver, APlan, cursors_of, StandsAt, IsPlanOf, carried}
-use Rattle.session_core.specs.session_model.Texts.{server_text}
+use Rattle.ddp_messages.specs.Texts.{server_text}
 use Rattle.session_core.specs.session_model.Items.{load, advance}
 use Rattle.session_core.specs.session_model.Items as item
 use Rattle.session_core.specs.session_model.Subscriptions.{Live, of_sub, cursor_of, may_load, loaded, moved, advanced}

@@ -6,7 +6,7 @@ use Rattle.merge_model.specs.Publishing.{Call, apply, drop_sub}
 use Rattle.value_model.specs.Val.{Entries}
 use Rattle.ejson_value.specs.declared.key.Key.{Key}
 use Rattle.ejson_value.specs.Changes.{news_of}
-use Rattle.session_model.specs.Texts.{server_text}
+use Rattle.ddp_messages.specs.Texts.{server_text}
 use Rattle.session_model.specs.Out.{updated}
 use Rattle.session_journal_laws.specs.Fired.{Armed}
 use Rattle.session_state.specs.declared.own.Step.{Step}

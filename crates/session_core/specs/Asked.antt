@@ -1,7 +1,7 @@
 -- What a session makes of a message that it handles, before it changes anything.
 use Rattle.std.specs.Prelude.{◌≡◌, ℕ, [], map, None}
 use Rattle.ddp_messages.specs.ClientMessage.{ClientMessage}
-use Rattle.session_laws.specs.session_model.Texts.{server_text}
+use Rattle.ddp_messages.specs.Texts.{server_text}
 use Rattle.session_laws.specs.session_model.Items.{Item}
 use Rattle.session_laws.specs.session_model.Items as item
 use Rattle.session_laws.specs.session_model.State.{State, own_after}

@@ -10,7 +10,7 @@ use Rattle.known_texts.specs.Places.{Texts, put_text}
 use Rattle.kept_document.specs.Held.{IsAlone}
 use Rattle.merge_box.specs.State.{KeptDocs}
 use Rattle.merge_box.specs.Words.{NewsList, seen_in, told_by}
-use Rattle.session_model.specs.Texts.{server_text}
+use Rattle.ddp_messages.specs.Texts.{server_text}
 use Rattle.session_model.specs.Out.{about}
 use Rattle.session_core.specs.declared.adding.News.{News}
 use Rattle.session_core.specs.declared.adding.News.TheVariants as news

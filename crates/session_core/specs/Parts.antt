@@ -7,7 +7,7 @@ use Rattle.merge_model.specs.Kept.{merged}
 use Rattle.value_model.specs.Val.{Entries}
 use Rattle.ejson_value.specs.declared.key.Key.{Key}
 use Rattle.merge_box.specs.State.{KeptDocs, IsBoxAfter, IsBox}
-use Rattle.session_model.specs.Texts.{server_text}
+use Rattle.ddp_messages.specs.Texts.{server_text}
 use Rattle.session_model.specs.State.{State, started}
 use Rattle.session_model.specs.Methods.{all_told}
 use Rattle.session_model.specs.Shown.{difference}

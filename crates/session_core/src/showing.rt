@@ -3,7 +3,7 @@ ghost use Rattle.std.specs.Prelude.{◌≡◌, ◌≤◌, ◌+◌, ◌*◌, ◌�
 ghost use Rattle.session_core.specs.publication.Published.{IsQuery};
 ghost use Rattle.session_core.specs.live_observer.Observing.{cursors_of, StandsAt, IsPlanOf};
 ghost use Rattle.session_core.specs.session_model.Out.{ready};
-ghost use Rattle.session_core.specs.session_model.Texts.{server_text};
+ghost use Rattle.ddp_messages.specs.Texts.{server_text};
 ghost use Rattle.session_core.specs.session_state.Own.{as_state};
 ghost use Rattle.session_core.specs.session_model.Observers.{observer_at};
 ghost use Rattle.session_core.specs.session_state.Subs.{observers_of};

@@ -4,7 +4,7 @@ use Rattle.std.proofs.Common.{ap, sym, ◌∙◌, append-nil}
 use Rattle.std.proofs.lemmas.List.{append_assoc, map-append}
 use Rattle.ddp_messages.specs.ServerMessage.{ServerMessage}
 use Rattle.app_model.specs.App.{App}
-use Rattle.session_model.specs.Texts.{server_text}
+use Rattle.ddp_messages.specs.Texts.{server_text}
 use Rattle.session_model.specs.Items.{Item, handled_by, handled}
 use Rattle.session_model.specs.State.{State, started, after, state_from, state_of}
 use Rattle.session_model.specs.Moments.{Moment}

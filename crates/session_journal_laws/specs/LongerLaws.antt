@@ -12,7 +12,7 @@ use Rattle.program_steps.specs.Runs.{End}
 use Rattle.publication.specs.Cursors.{ACursors}
 use Rattle.app_model.specs.App.{App}
 use Rattle.session_model.specs.Publication.{queried}
-use Rattle.session_model.specs.Texts.{server_text}
+use Rattle.ddp_messages.specs.Texts.{server_text}
 use Rattle.session_model.specs.Items.{Item}
 use Rattle.session_model.specs.Items as item
 use Rattle.session_model.specs.Subscriptions.{Live, cursor_of, loaded, moved, advanced, closed}

@@ -24,7 +24,8 @@ use Rattle.program_steps.specs.declared.outcome.Status.{Status}
 use Rattle.program_steps.specs.Runs.{Outcome, done, failed, End}
 use Rattle.publication.specs.Cursors.{ACursors}
 use Rattle.app_model.specs.App.{App}
-use Rattle.session_model.specs.Texts.{server_text, or_unknown, message_in, messages_in}
+use Rattle.ddp_messages.specs.Texts.{server_text}
+use Rattle.session_model.specs.Texts.{or_unknown, message_in, messages_in}
 use Rattle.session_model.specs.Items.{Item, id_of}
 use Rattle.session_model.specs.Items as item
 use Rattle.session_model.specs.Subscriptions.{Live, ids_of, loaded, moved, advanced, closed, is_open}

@@ -16,7 +16,7 @@ use Rattle.ejson_value.specs.Key.{key_cmp, key_order, name_order}
 use Rattle.ddp_messages.specs.ClientMessage.{ClientMessage}
 use Rattle.ddp_messages.specs.ServerMessage.{ServerMessage}
 use Rattle.app_model.specs.App.{App}
-use Rattle.session_model.specs.Texts.{server_text}
+use Rattle.ddp_messages.specs.Texts.{server_text}
 use Rattle.session_model.specs.Items.{Item}
 use Rattle.session_model.specs.Methods.{all_told}
 use Rattle.session_model.specs.State.{State, started, own_after, after, state_of}

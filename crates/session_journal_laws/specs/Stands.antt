@@ -12,7 +12,7 @@ use Rattle.ejson_value.specs.Key.{key_cmp}
 use Rattle.ddp_messages.specs.ClientMessage.{ClientMessage}
 use Rattle.ddp_messages.specs.ServerMessage.{ServerMessage}
 use Rattle.app_model.specs.App.{App}
-use Rattle.session_model.specs.Texts.{server_text}
+use Rattle.ddp_messages.specs.Texts.{server_text}
 use Rattle.session_model.specs.Items.{Item}
 use Rattle.session_model.specs.Methods.{Phase, finished, Method, phase_at, fire, all_told}
 use Rattle.session_model.specs.State.{State, started, state_of}

@@ -24,14 +24,15 @@ use Rattle.session_model.specs.State.{State, started, after}
 use Rattle.session_model.specs.Moments.{Moment, end_at}
 use Rattle.session_model.specs.Shown.{Calls, call_of, calls_from, merge_of, merged, difference}
 use Rattle.session_model.specs.Data.{data_in, data_of}
-use Rattle.session_model.specs.Out.{data_of_step, about, ready, updated, result_by, results_by, history_full, all_refused_with, own_messages, told_after, words_of, messages_of, out_from, out}
+use Rattle.ejson_value.specs.Messages.{saying}
+use Rattle.session_model.specs.Out.{about, ready, updated, result_by, results_by, history_full, all_refused_with, own_messages, told_after, words_of, messages_of, out_from, out}
 use Rattle.session_journal_laws.specs.Shows.{merge_is}
 
 pub data_of-append : (xs ys : List ServerMessage) → data_of (xs ++ ys) ≡ data_of xs ++ data_of ys
 data_of-append [] ys = refl
 data_of-append (x ∷ xs) ys = ap (λ rest. data_in x ++ rest) (data_of-append xs ys) ∙ sym (append_assoc (data_in x) (data_of xs) (data_of ys))
 
-pub said_of_step : (m : Key × Step (List ℕ) Val) → said (data_of_step m) ≡ m
+pub said_of_step : (m : Key × Step (List ℕ) Val) → said (saying m) ≡ m
 said_of_step (key, added fields) = refl
 said_of_step (key, changed fields cleared) = refl
 said_of_step (key, removed) = refl

@@ -4,7 +4,7 @@ use Rattle.merge_model.specs.Publishing.{Call}
 use Rattle.value_model.specs.Val.{Entries}
 use Rattle.ejson_value.specs.declared.key.Key.{Key}
 use Rattle.ddp_messages.specs.ServerMessage.{ServerMessage}
-use Rattle.session_model.specs.Texts.{server_text}
+use Rattle.ddp_messages.specs.Texts.{server_text}
 use Rattle.session_model.specs.State.{State}
 use Rattle.session_journal_laws.specs.declared.stored.Stored.{Stored}
 use Rattle.session_journal_laws.specs.Stands.{IsAdded}

@@ -1,16 +1,15 @@
 -- The messages of a journal, and their texts: with each item the difference of the merge before and after it, then the item's own messages, then `updated` for each finished call
 -- whose fence is open then (Meteor's DDP.md, "Managing data", "Remote procedure calls").
 use Rattle.std.specs.Prelude.{ℕ, List, [], ◌∷◌, ◌++◌, length, map, Option, Some, None, option_map, decimal, codes}
-use Rattle.map_model.specs.Differences.{Step, added, changed, removed}
+use Rattle.map_model.specs.Differences.{Step}
 use Rattle.value_model.specs.Val.{Val}
 use Rattle.ejson_value.specs.declared.fault.Fault.{Fault}
 use Rattle.ejson_value.specs.declared.key.Key.{Key}
-use Rattle.ejson_value.specs.declared.message.DataMsg.{DataMsg}
-use Rattle.ejson_value.specs.declared.message.DataMsg.TheVariants as data_message
+use Rattle.ejson_value.specs.Messages.{saying}
 use Rattle.ddp_messages.specs.ServerMessage.{ServerMessage}
 use Rattle.ddp_messages.specs.ServerMessage as server
 use Rattle.program_steps.specs.Runs.{Outcome, done, failed, End}
-use Rattle.session_model.specs.Texts.{server_text}
+use Rattle.ddp_messages.specs.Texts.{server_text}
 use Rattle.session_model.specs.Publication.{error_of}
 use Rattle.session_model.specs.Items.{Item, id_of}
 use Rattle.session_model.specs.Items as item
@@ -27,13 +26,8 @@ session_name number = codes "S" ++ decimal number
 -- ---- single messages
 
 -- a message about a document
-abbrev pub data_of_step : Key × Step (List ℕ) Val → DataMsg
-data_of_step (key, added fields) = data_message.Added key fields
-data_of_step (key, changed fields cleared) = data_message.Changed key fields cleared
-data_of_step (key, removed) = data_message.Removed key
-
 abbrev pub about : Key × Step (List ℕ) Val → ServerMessage
-about m = server.about (data_of_step m)
+about m = server.about (saying m)
 
 abbrev pub ready : List ℕ → ServerMessage
 ready id = server.ready (id ∷ [])

@@ -1,17 +1,9 @@
--- Messages as texts: how they are written, and what texts read as (Meteor's DDP.md, "General Message Structure").
+-- What texts of a server read as (Meteor's DDP.md, "General Message Structure").
 use Rattle.std.specs.Prelude.{ℕ, List, map, Result, Ok, Err}
-use Rattle.serde_json.specs.Written.{compact_text}
-use Rattle.ddp_messages.specs.ClientMessage.{ClientMessage}
+pub use Rattle.ddp_messages.specs.Texts.{server_text}
 use Rattle.ddp_messages.specs.ServerMessage.{ServerMessage, unknown}
-use Rattle.ddp_messages.specs.Written.{client_written, server_written}
 use Rattle.ddp_messages.specs.Answers.{server_answer}
 use Rattle.ddp_messages.specs.declared.fault.MsgFault.{MsgFault}
-
-abbrev pub client_text : ClientMessage → List ℕ
-client_text message = compact_text (client_written message)
-
-abbrev pub server_text : ServerMessage → List ℕ
-server_text message = compact_text (server_written message)
 
 abbrev pub or_unknown : Result ServerMessage MsgFault → ServerMessage
 or_unknown (Ok message) = message

@@ -3,7 +3,7 @@ use Rattle.std.specs.Prelude.{ℕ, List, []}
 use Rattle.ejson_value.specs.declared.message.DataMsg.{DataMsg}
 use Rattle.ddp_messages.specs.ServerMessage.{ServerMessage}
 use Rattle.ddp_messages.specs.ServerMessage as server
-use Rattle.session_model.specs.Texts.{server_text}
+use Rattle.ddp_messages.specs.Texts.{server_text}
 use Rattle.session_model.specs.Items.{Item}
 use Rattle.session_model.specs.State.{started}
 use Rattle.session_model.specs.Out.{own_messages}

@@ -5,7 +5,7 @@ ghost use Rattle.ddp_messages.specs.ServerMessage.{server_view};
 ghost use Rattle.ddp_messages.specs.ServerMessage as server;
 ghost use Rattle.program_steps.specs.Runs.{outcome_view, failed};
 ghost use Rattle.session_model.specs.Publication.{code_of, reason_of, error_of};
-ghost use Rattle.session_model.specs.Texts.{server_text};
+ghost use Rattle.ddp_messages.specs.Texts.{server_text};
 ghost use Rattle.session_model.specs.Out.{session_name, ready, updated, result_by, refused_with, unknown_method, history_full};
 ghost use Rattle.session_texts.specs.Said.{answer_messages, data_text};
 ghost use Rattle.session_texts.specs.Taking.{as_item};

@@ -5,14 +5,15 @@ use Rattle.value_model.specs.Val.{Val}
 use Rattle.ejson_value.specs.View.{view}
 use Rattle.ejson_value.specs.Measure.{capped}
 use Rattle.ejson_value.specs.declared.value.Value.{Value}
-use Rattle.app_model.specs.App.{App, method, write_rules}
+use Rattle.app_model.specs.App.{App, method}
 use Rattle.collection_store.specs.declared.operation.Op.{Op}
 use Rattle.collection_store.specs.Outcome.{Outcome, code_of}
 use Rattle.collection_store.specs.Applied.{Applied, applied}
 use Rattle.history_model.specs.declared.entry.Entry.{Entry}
 use Rattle.history_model.specs.declared.entry.Entry.TheVariants as entry
 use Rattle.history_model.specs.Operations.{operation_in}
-use Rattle.history_model.specs.History.{Programs, Held, run_cmp, steps_of, goes_on, room_in, held, held_at, status_in, entries_with, kept_with, is_full, is_full_for_operation}
+pub use Rattle.history_model.specs.Programs.{programs}
+use Rattle.history_model.specs.History.{Held, run_cmp, steps_of, goes_on, room_in, held, held_at, status_in, entries_with, kept_with, is_full, is_full_for_operation}
 use Rattle.store_machine.specs.declared.fault.BeginFault.{BeginFault}
 use Rattle.store_machine.specs.declared.fault.BeginFault.TheVariants as begin
 use Rattle.store_machine.specs.declared.fault.AdminFault.{AdminFault}
@@ -21,10 +22,6 @@ use Rattle.store_machine.specs.declared.fault.AdminFault.TheVariants as admin
 pub record MachineState : Type 0 where
   pub app : App
   pub history : List Entry
-
--- what a history needs of an application
-abbrev pub programs : App → Programs
-programs app = record { collections = app.collections; method = λ name. method app name; rules = λ collection. write_rules app collection }
 
 abbrev pub held_by : MachineState → Held
 held_by m = held (programs m.app) m.history

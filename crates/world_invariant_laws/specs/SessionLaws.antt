@@ -9,7 +9,7 @@ use Rattle.world_model.specs.history_model.declared.entry.Entry.{Entry}
 use Rattle.world_model.specs.history_model.declared.entry.Entry.TheVariants as entry
 use Rattle.world_model.specs.history_model.History.{held, begins}
 use Rattle.world_model.specs.history_model.BegunLaws.{run_where_begun}
-use Rattle.world_model.specs.session_model.Texts.{server_text}
+use Rattle.ddp_messages.specs.Texts.{server_text}
 use Rattle.world_model.specs.session_model.Items.{Item}
 use Rattle.world_model.specs.session_model.Items as item
 use Rattle.world_model.specs.session_model.Methods.{Blocking}

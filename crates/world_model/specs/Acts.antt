@@ -10,7 +10,7 @@ use Rattle.history_model.specs.declared.entry.Entry.TheVariants as entry
 use Rattle.history_model.specs.History.{Held, run_cmp, goes_on, status_in, status_at, is_full as is_full_for}
 use Rattle.client_model.specs.Taking.{told_text}
 use Rattle.client_model.specs.Asking.{can_take}
-use Rattle.session_model.specs.Texts.{server_text}
+use Rattle.ddp_messages.specs.Texts.{server_text}
 use Rattle.session_model.specs.Items.{Item}
 use Rattle.session_model.specs.Items as item
 use Rattle.session_model.specs.Subscriptions.{cursor_of, may_load}

@@ -6,7 +6,7 @@ use Rattle.history_model.specs.declared.entry.Entry.{Entry}
 use Rattle.history_model.specs.Lines.{worded, number, line_of, store_lines, history_lines}
 use Rattle.client_model.specs.Client.{Client}
 use Rattle.client_model.specs.Lines.{shown}
-use Rattle.session_model.specs.Texts.{server_text}
+use Rattle.ddp_messages.specs.Texts.{server_text}
 use Rattle.session_model.specs.Items.{Item, id_of}
 use Rattle.session_model.specs.Items as item
 use Rattle.session_model.specs.State.{State, started, after}

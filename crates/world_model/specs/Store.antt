@@ -5,12 +5,9 @@ use Rattle.ejson_value.specs.declared.value.Value.{Value}
 use Rattle.ejson_value.specs.declared.value.Value.TheVariants as shape
 use Rattle.app_model.specs.App.{App, method, write_rules}
 use Rattle.history_model.specs.declared.entry.Entry.{Entry}
-use Rattle.history_model.specs.History.{Programs, Held, nothing, carried, held, status_in, is_full}
+pub use Rattle.history_model.specs.Programs.{programs}
+use Rattle.history_model.specs.History.{Held, nothing, carried, held, status_in, is_full}
 use Rattle.session_model.specs.Moments.{Moment}
-
--- what a history needs of an application
-abbrev pub programs : App → Programs
-programs app = record { collections = app.collections; method = λ name. method app name; rules = λ collection. write_rules app collection }
 
 -- what a history leads to
 abbrev pub held_in : App → List Entry → Held

@@ -4,7 +4,7 @@ use Rattle.std.proofs.Common.{ap, sym, ◌∙◌}
 use Rattle.ddp_messages.specs.ServerMessage.{ServerMessage}
 use Rattle.app_model.specs.App.{App}
 use Rattle.history_model.specs.declared.entry.Entry.{Entry}
-use Rattle.session_model.specs.Texts.{server_text}
+use Rattle.ddp_messages.specs.Texts.{server_text}
 use Rattle.session_model.specs.Items.{Item}
 use Rattle.session_model.specs.State.{State, started, after}
 use Rattle.session_model.specs.Moments.{Moment}

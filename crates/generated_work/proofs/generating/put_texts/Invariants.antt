@@ -1,6 +1,6 @@
 use Rattle.std.proofs.Common.{◌≡◌, ◌++◌, map, drop}
 use Rattle.ejson_value.specs.View.{views}
-use Rattle.generated_work.specs.Generated.{line_text}
+use Rattle.ejson_codec.specs.Lines.{line_text}
 use Rattle.generated_work.proofs.generating.put_texts.Given as goal
 
 abbrev pub invariant-loop-value : goal.invariant-loop-value

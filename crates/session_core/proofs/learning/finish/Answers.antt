@@ -2,7 +2,7 @@ use Rattle.std.proofs.Common.{◌≡◌, List, ℕ, [], ◌∷◌, ◌++◌, map
 use Rattle.program_steps.specs.Runs.{End, outcome_view}
 use Rattle.session_core.specs.session_model.Items.{finished}
 use Rattle.session_core.specs.session_model.Methods.{id_at}
-use Rattle.session_core.specs.session_model.Texts.{server_text}
+use Rattle.ddp_messages.specs.Texts.{server_text}
 use Rattle.session_core.specs.session_model.Out.{result_by}
 use Rattle.session_core.specs.session_journal_laws.declared.stored.Stored.TheVariants.{Finished}
 use Rattle.session_core.specs.session_state.declared.own.Step.TheVariants.{Finish}

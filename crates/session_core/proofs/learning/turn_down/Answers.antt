@@ -1,7 +1,7 @@
 use Rattle.std.proofs.Common.{◌≡◌, List, [], ◌∷◌, map, None, refl, ap, sym, ◌∙◌}
 use Rattle.session_core.specs.session_model.Items.{refused}
 use Rattle.session_core.specs.session_model.Methods.{id_at}
-use Rattle.session_core.specs.session_model.Texts.{server_text}
+use Rattle.ddp_messages.specs.Texts.{server_text}
 use Rattle.session_core.specs.session_model.Out.{history_full, all_refused_with}
 use Rattle.session_core.specs.session_journal_laws.declared.stored.Stored.TheVariants.{Refused}
 use Rattle.session_core.specs.session_state.declared.own.Step.TheVariants.{Refuse}

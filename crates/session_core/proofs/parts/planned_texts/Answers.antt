@@ -3,7 +3,7 @@ use Rattle.merge_model.specs.Kept.{merged}
 use Rattle.merge_box.specs.State.{KeptDocs, Told, IsBoxAfter, Tells}
 use Rattle.merge_box.specs.Words.{seen_in, said_all}
 use Rattle.merge_box.specs.declared.plan.Word.{Word}
-use Rattle.session_model.specs.Texts.{server_text}
+use Rattle.ddp_messages.specs.Texts.{server_text}
 use Rattle.session_model.specs.Shown.{difference}
 use Rattle.session_model.specs.Out.{about}
 use Rattle.session_core.specs.Additions.{call_by, updated_text}

@@ -1,5 +1,6 @@
 use Rattle.std.proofs.Common.{◌≡◌, ◌++◌, ℕ, List, [], map, filter, not, drop}
-use Rattle.reconnect_model.specs.Giving.{all_settled, server_text}
+use Rattle.ddp_messages.specs.Texts.{server_text}
+use Rattle.reconnect_model.specs.Giving.{all_settled}
 use Rattle.reconnect.specs.Giving.{updates_of, ends_of}
 use Rattle.reconnect.proofs.reviver.Reviver.give_ends.Given as goal
 

@@ -1,6 +1,7 @@
 use Rattle.std.proofs.Common.{◌≡◌, ◌++◌, map}
 use Rattle.std.specs.Vec.Iter.{into_iter_items}
-use Rattle.reconnect_model.specs.Giving.{all_settled, server_text}
+use Rattle.ddp_messages.specs.Texts.{server_text}
+use Rattle.reconnect_model.specs.Giving.{all_settled}
 use Rattle.reconnect.specs.Giving.{updates_of}
 use Rattle.reconnect.proofs.reviver.Reviver.give_updates.Given as goal
 
