@@ -6,7 +6,8 @@ ghost use Rattle.ejson_value.specs.View.{view};
 ghost use Rattle.program_steps.specs.Runs.{outcome_view};
 ghost use Rattle.client_model.specs.Asking.{call_limit};
 ghost use Rattle.ejson_codec.specs.Lines.{line_text};
-ghost use Rattle.client_model.specs.Lines.{line_texts, doc_line, state_words, sub_line, outcome_words, method_line, method_lines, head_line, shown};
+ghost use Rattle.ejson_codec.specs.Lines.{doc_line};
+ghost use Rattle.client_model.specs.Lines.{line_texts, state_words, sub_line, outcome_words, method_line, method_lines, head_line, shown};
 
 use crate::calls::Call;
 use crate::numbers::id_of;

@@ -1,7 +1,7 @@
 -- What a client has, as lines: EJSON lists whose first element says what the line is.
 use Rattle.std.specs.Prelude.{ℕ, suc, List, [], ◌∷◌, ◌++◌, map, codes, decimal, Option, Some, None}
-use Rattle.value_model.specs.Val.{Val, text, object, fields_of, Entries}
-use Rattle.ejson_codec.specs.Lines.{worded, line_text}
+use Rattle.value_model.specs.Val.{Val, text, Entries}
+use Rattle.ejson_codec.specs.Lines.{worded, doc_line, line_text}
 use Rattle.ejson_value.specs.declared.key.Key.{Key}
 use Rattle.program_steps.specs.Runs.{Outcome, done, failed}
 use Rattle.client_model.specs.declared.subs.SubState.{SubState}
@@ -11,9 +11,6 @@ use Rattle.client_model.specs.Asking.{outcome_in}
 
 abbrev pub line_texts : List Val → List (List ℕ)
 line_texts vs = map line_text vs
-
-abbrev pub doc_line : Key × Entries → Val
-doc_line row = worded (codes "doc") (text row.0.collection ∷ text row.0.id ∷ object (fields_of row.1) ∷ [])
 
 -- the words for what became of a subscription
 abbrev pub state_words : SubState → List Val

@@ -5,7 +5,7 @@ use Rattle.value_model.specs.ValLaws.{list_of-vals_of}
 use Rattle.ejson_value.specs.declared.value.Value.{Value}
 use Rattle.history_model.specs.declared.entry.Entry.{Entry}
 use Rattle.history_model.specs.declared.entry.Entry.TheVariants as entry
-use Rattle.history_model.specs.ViewLaws.{value_back}
+use Rattle.ejson_value.specs.Code.{held-view}
 use Rattle.history_log.specs.declared.kept_entry.Form.{Form}
 use Rattle.history_log.specs.declared.kept_entry.Form.TheVariants as form
 use Rattle.history_log.specs.Entries.{words_in, begin_in, admin_in, entry_of, Says, Keeps}
@@ -22,7 +22,7 @@ begin_kept e session k method params seed line made says =
     let says' : Says line (entry_value (entry.Begin session k method params seed)) = subst (λ (x : Entry). Says line (entry_value x)) made says in
     let is : entry_of f ≡ e =
     ap (λ r. begin_in session (words_in r)) says'.read
-    ∙ (ap₂ (λ ps v. entry.Begin session k method ps v) (list_of-vals_of params) (value_back seed) ∙ sym made) in
+    ∙ (ap₂ (λ ps v. entry.Begin session k method ps v) (list_of-vals_of params) (held-view seed) ∙ sym made) in
     record { is = is; line = line_kept f e line is says.printed }
 
 pub admin_kept : (e : Entry) (op : List Val) (line : List ℕ) → e ≡ entry.Admin op → Says line (entry_value e) → Keeps (form.Admin line) e

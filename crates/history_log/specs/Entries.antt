@@ -7,7 +7,7 @@ use Rattle.value_model.specs.Depth.{depth}
 use Rattle.ejson_codec.specs.Reading.{max_levels, parsed}
 use Rattle.history_model.specs.declared.entry.Entry.{Entry}
 use Rattle.history_model.specs.declared.entry.Entry.TheVariants as entry
-use Rattle.history_model.specs.ViewLaws.{value_of}
+use Rattle.ejson_value.specs.Code.{held as value_of}
 use Rattle.history_log.specs.declared.kept_entry.Form.{Form}
 use Rattle.history_log.specs.declared.kept_entry.Form.TheVariants as form
 use Rattle.history_model.specs.Lines.{entry_value, line_of}

@@ -1,9 +1,8 @@
 -- The lines that are printed of a store: each the EJSON text of a list.
 use Rattle.std.specs.Prelude.{ℕ, pos, List, [], ◌∷◌, ◌++◌, length, map, codes, decimal}
-use Rattle.value_model.specs.Val.{Val, int, text, list, object, Entries, vals_of, fields_of}
-pub use Rattle.ejson_codec.specs.Lines.{worded, line_text as line_of}
+use Rattle.value_model.specs.Val.{Val, int, text, list, vals_of}
+pub use Rattle.ejson_codec.specs.Lines.{worded, doc_line as doc_value, line_text as line_of}
 use Rattle.ejson_value.specs.View.{view}
-use Rattle.ejson_value.specs.declared.key.Key.{Key}
 use Rattle.ejson_value.specs.Rows.{Rows}
 use Rattle.history_model.specs.declared.entry.Entry.{Entry}
 use Rattle.history_model.specs.declared.entry.Entry.TheVariants as entry
@@ -14,9 +13,6 @@ number n = int (pos n)
 -- the text of a session: `S` and its number
 abbrev pub session_text : ℕ → List ℕ
 session_text session = codes "S" ++ decimal session
-
-abbrev pub doc_value : Key × Entries → Val
-doc_value row = worded (codes "doc") (text row.0.collection ∷ text row.0.id ∷ object (fields_of row.1) ∷ [])
 
 abbrev pub entry_value : Entry → Val
 entry_value (entry.Begin session k method params seed) =

@@ -6,10 +6,10 @@ use Rattle.std.specs.declared.cmp.Ordering.{Ordering}
 use Rattle.std.specs.BTreeMap.{insert_entry}
 use Rattle.map_model.specs.Differences.{is_there}
 use Rattle.std.specs.Coded.{Coded, code_by, coded×, coded_list, coded_ℕ}
-use Rattle.std.specs.Ordering.{is_eq}
 use Rattle.map_model.specs.Maps.{at, IsSorted, filter_map_entries}
 use Rattle.value_model.specs.Val.{Val, Entries}
-use Rattle.value_model.specs.Order.{text_cmp, compare}
+use Rattle.value_model.specs.Order.{text_cmp}
+pub use Rattle.value_model.specs.Order.{same_value}
 use Rattle.merge_model.specs.Kept.{Kept, nothing_kept, claimed, placed, has, there_after, claims_of, claims_after}
 use Rattle.kept_document.specs.Claims.{claims_code}
 
@@ -21,10 +21,6 @@ abbrev pub kept_code : Coded KeptDoc
 kept_code =
     code_by (List ℕ × List (List ℕ × List (ℕ × Val))) (coded× (coded_list coded_ℕ) (coded_list (coded× (coded_list coded_ℕ) claims_code)))
     (λ e. (e.publishers, e.fields)) (λ p. record { publishers = p.0; fields = p.1 }) (λ _. refl)
-
--- whether two values are equal
-abbrev pub same_value : Val → Val → Bool
-same_value v w = is_eq (compare v w)
 
 -- the value of a field of a document, if there is one
 abbrev pub value_in : Option Entries → List ℕ → Option Val

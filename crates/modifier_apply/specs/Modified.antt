@@ -1,9 +1,10 @@
 -- What a modifier makes of a document (update operators, in MongoDB's documentation).
 use Rattle.std.specs.Prelude.{◌≡◌, ℕ, ℤ, pos, ◌+ℤ◌, neg_ℤ, Bool, true, false, not, codes, List, [], ◌∷◌, ◌++◌, length, drop, take, replicate, filter, map, Option, None, Some, is_some, unwrap_or, Result, Ok, Err, slice_get, slice_set, nat_le, nat_lt, int_lt, bytes_eq, if◌then◌else◌, ◌&&◌, ◌||◌, ◌-◌}
 use Rattle.std.specs.List.{list_any}
-use Rattle.std.specs.Ordering.{is_eq, is_lt, is_gt}
+use Rattle.std.specs.Ordering.{is_lt, is_gt}
 use Rattle.value_model.specs.Val.{Val, null, int, text, list, object, Entries, vals_of, list_of, fields_of, entries_of}
 use Rattle.value_model.specs.Order.{compare}
+pub use Rattle.value_model.specs.Order.{same_value as same}
 use Rattle.value_model.specs.Valid.{max_whole}
 use Rattle.value_model.specs.Doc.{get, put, remove}
 use Rattle.value_model.specs.Branches.{position_of}
@@ -26,9 +27,6 @@ refusal_number fault.IdChange = Some 4
 refusal_number fault.NumberRange = Some 5
 refusal_number fault.Conflict = Some 6
 refusal_number fault.Memory = None
-
-abbrev pub same : Val → Val → Bool
-same a b = is_eq (compare a b)
 
 -- a value goes at the end, unless an equal one is there
 abbrev pub with_one : Val → List Val → List Val

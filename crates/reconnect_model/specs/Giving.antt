@@ -1,14 +1,14 @@
 -- What a revived client makes of a text of its server, and which texts its client is given for it.
 use Rattle.std.specs.Prelude.{ℕ, List, [], ◌∷◌, ◌++◌, map, filter, length, Bool, true, false, not, ◌&&◌, ◌||◌, ◌==◌, nat_lt, Option, Some, None, is_some, Result, Ok, Err, if◌then◌else◌}
 use Rattle.std.specs.List.{list_any}
-use Rattle.std.specs.Ordering.{is_eq}
 use Rattle.std.specs.Map.{keys_of}
 use Rattle.std.specs.Set.{remove_key}
 use Rattle.std.specs.BTreeMap.{is_at}
 use Rattle.map_model.specs.Maps.{at, set}
 use Rattle.map_model.specs.Differences.{Step, taken, diff}
 use Rattle.value_model.specs.Val.{Val}
-use Rattle.value_model.specs.Order.{text_cmp, compare}
+use Rattle.value_model.specs.Order.{text_cmp}
+pub use Rattle.value_model.specs.Order.{same_value}
 use Rattle.view_model.specs.Views.{refusal}
 use Rattle.ejson_value.specs.declared.key.Key.{Key}
 use Rattle.ejson_value.specs.Key.{key_cmp}
@@ -126,9 +126,6 @@ abbrev pub gives : Revival → ServerMessage → Revival
 gives r m = record (settled r m) { is_known = r.is_known || connects m }
 
 -- ---- the reset
-
-abbrev pub same_value : Val → Val → Bool
-same_value v w = is_eq (compare v w)
 
 -- the text that says so of a document
 abbrev pub step_text : Key × Step (List ℕ) Val → List ℕ

@@ -1,5 +1,5 @@
 -- The events of a session: what each changes, when and why it is refused, that a refusal changes nothing, and what the session stands for afterwards.
-use Rattle.std.specs.Prelude.{◌≡◌, ◌⊎◌, ℕ, suc, ◌+◌, ◌<◌, List, [], ◌∷◌, ◌++◌, drop, length, map, true, false, Option, None, Some, option_map, Result, OnOk, OnErr, IfErr, IfSome}
+use Rattle.std.specs.Prelude.{◌≡◌, ◌⊎◌, ℕ, suc, ◌+◌, ◌<◌, List, [], ◌∷◌, ◌++◌, drop, length, map, true, false, Option, None, Some, Result, OnOk, OnErr, IfErr, IfSome}
 use Rattle.map_model.specs.Changes.{Leads}
 use Rattle.merge_model.specs.Publishing.{Call, apply, drop_sub, renewed}
 use Rattle.value_model.specs.Val.{Entries}

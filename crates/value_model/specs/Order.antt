@@ -1,8 +1,8 @@
 -- The order of values. Between kinds: null, numbers, texts, objects, lists, bytes, booleans, dates, values of user types, as in MongoDB's comparison of BSON types.
-use Rattle.std.specs.Prelude.{ℕ, List, length}
+use Rattle.std.specs.Prelude.{ℕ, List, length, Bool}
 use Rattle.std.specs.declared.cmp.Ordering.{Ordering}
 use Rattle.std.specs.declared.cmp.Ordering.TheVariants.{Less, Equal, Greater}
-use Rattle.std.specs.Ordering.{nat_cmp, int_cmp, bool_cmp, ordering_then}
+use Rattle.std.specs.Ordering.{nat_cmp, int_cmp, bool_cmp, ordering_then, is_eq}
 use Rattle.std.specs.Cmp.Lexicographic.{slice_cmp}
 use Rattle.value_model.specs.Val.{Val, null, boolean, int, text, date, bytes, list, object, user, Vals, no_vals, val, Fields, no_fields, field}
 
@@ -46,3 +46,7 @@ abbrev mutual
   fields_cmp no_fields (field n w ws) = Less
   fields_cmp (field m v vs) no_fields = Greater
   fields_cmp (field m v vs) (field n w ws) = ordering_then (text_cmp m n) (ordering_then (compare v w) (fields_cmp vs ws))
+
+-- whether two values are equal
+abbrev pub same_value : Val → Val → Bool
+same_value v w = is_eq (compare v w)

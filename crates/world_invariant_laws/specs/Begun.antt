@@ -7,8 +7,7 @@ use Rattle.std.proofs.lemmas.List.{append_assoc}
 use Rattle.std.proofs.lemmas.List.Folds.{list_any-append}
 use Rattle.std.proofs.lemmas.Bool.{eqb-true, eq-eqb}
 use Rattle.map_model.specs.MapLaws.{key_is, eq_by_cmp-self}
-use Rattle.value_model.specs.Val.{Val, null, boolean, int, text, date, bytes, list, object, user}
-use Rattle.value_model.specs.ValLaws.{vals_of-list_of, fields_of-entries_of}
+use Rattle.value_model.specs.Val.{Val}
 use Rattle.ejson_value.specs.View.{view}
 use Rattle.ddp_messages.specs.ClientMessage.{ClientMessage}
 use Rattle.program_steps.specs.declared.outcome.Status.{Status}
@@ -27,24 +26,12 @@ use Rattle.world_model.specs.session_model.Fits.{IsRefusedAt, CanFollow, Fits}
 use Rattle.session_journal_laws.specs.Appending.{state-append}
 use Rattle.session_journal_laws.specs.BlockingLaws.{call_number, refused_blocks}
 use Rattle.world_model.specs.Store.{programs, held_in, value_of}
+use Rattle.world_model.specs.StoreLaws.{view-value_of}
 use Rattle.world_model.specs.Acts.{begin_entry}
 use Rattle.world_model.specs.Headline.{standing, begun_by, begun_in}
 use Rattle.world_invariant_laws.specs.Lift.{is_by}
 use Rattle.world_invariant_laws.specs.Standing.{AreBelow, KnowsCalls, is_plain}
 use Rattle.world_invariant_laws.specs.StandingLaws.{below_first, standing_below, plain_standing, call_standing, refused_standing, knows_calls}
-
--- ---- a value is made again of what contracts see
-
-pub view_of : (v : Val) → view (value_of v) ≡ v
-view_of null = refl
-view_of (boolean b) = refl
-view_of (int z) = refl
-view_of (text s) = refl
-view_of (date z) = refl
-view_of (bytes s) = refl
-view_of (list vs) = ap list (vals_of-list_of vs)
-view_of (object fs) = ap object (fields_of-entries_of fs)
-view_of (user name v) = refl
 
 -- ---- one entry at the end
 
@@ -161,7 +148,7 @@ module _ (app : App) (number : ℕ) where
       let e = begin_entry number b in
       let one : begun_by number e ≡ b ∷ [] =
       ap (λ (c : Bool). cond c (record { k = b.k; method = b.method; params = b.params; seed = view (value_of b.seed) } ∷ []) []) (eq-eqb number number refl)
-      ∙ ap (λ (v : Val). let x : Blocking = record { k = b.k; method = b.method; params = b.params; seed = v } in x ∷ []) (view_of b.seed) in
+      ∙ ap (λ (v : Val). let x : Blocking = record { k = b.k; method = b.method; params = b.params; seed = v } in x ∷ []) (view-value_of b.seed) in
       let now : is_some (runs_of app number (history ++ e ∷ []) b.k) ≡ true =
       begins-append history e b.k ∙ ap₂ (λ (x y : Bool). x || y) none (eq_by_cmp-self run_order (number, b.k)) in
       record {

@@ -42,7 +42,8 @@ use Rattle.world_model.specs.session_model.LooksBack.{is_refused_in}
 use Rattle.world_model.specs.Headline.{call_by, calls_in, begun_in}
 use Rattle.world_invariant_laws.specs.Standing.{AreBelow}
 use Rattle.world_invariant_laws.specs.StandingLaws.{below_filtered}
-use Rattle.world_invariant_laws.specs.Begun.{runs_of, unrun, IsBegun, none_begun, view_of, cancel}
+use Rattle.world_model.specs.StoreLaws.{view-value_of}
+use Rattle.world_invariant_laws.specs.Begun.{runs_of, unrun, IsBegun, none_begun, cancel}
 use Rattle.world_invariant_laws.specs.Session.{IsServed}
 use Rattle.world_invariant_laws.specs.Operations.{IsCoded}
 use Rattle.world_invariant_laws.specs.OperationsLaws.{applied_coded}
@@ -168,7 +169,7 @@ begin_can : (app : App) (h : List Entry) (c : Conn) (b : Blocking) → (state_in
     can_follow (programs app) (held_in app h) (begin_entry c.number b) ≡ true
 begin_can app h c b e none room p =
     let both = begin_next app h c b e none p in
-    let free : is_full (programs app) (held_in app h) b.method b.params (view (value_of b.seed)) ≡ false = ap (λ v. is_full (programs app) (held_in app h) b.method b.params v) (view_of b.seed) ∙ room in
+    let free : is_full (programs app) (held_in app h) b.method b.params (view (value_of b.seed)) ≡ false = ap (λ v. is_full (programs app) (held_in app h) b.method b.params v) (view-value_of b.seed) ∙ room in
     ap₂ (λ x y. x && y) (ap₂ (λ x y. x && y) both.0 both.1) (ap not free)
 
 or_parts : (a b : Bool) → (a || b) ≡ false → (a ≡ false) × (b ≡ false)

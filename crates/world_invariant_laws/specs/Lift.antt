@@ -152,7 +152,7 @@ take_number : (c : Conn) (ts : List (List ℕ)) → (takes c ts).number ≡ c.nu
 take_number c [] = refl
 take_number c (t ∷ ts) = refl
 
-same_number : (app : App) (h : List Entry) (c : Conn) (a : Act) → (does app h c a).number ≡ c.number
+pub same_number : (app : App) (h : List Entry) (c : Conn) (a : Act) → (does app h c a).number ≡ c.number
 same_number app h c act.Up = up_number c c.client.waiting
 same_number app h c act.Recv = recv_number app h c c.upward
 same_number app h c act.Handle = handle_number app h c c.queue

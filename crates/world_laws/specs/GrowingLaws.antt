@@ -9,7 +9,8 @@ use Rattle.headline.specs.world_model.declared.events.Act.{Act}
 use Rattle.headline.specs.world_model.Acts.{can, does, entries}
 use Rattle.headline.specs.world_model.Settle.{order}
 use Rattle.world_laws.specs.Gone.{AreNotBy}
-use Rattle.world_laws.specs.Making.{same_number, does_there, entries_apart}
+use Rattle.headline.specs.world_invariant_laws.Lift.{same_number}
+use Rattle.world_laws.specs.Making.{does_there, entries_apart}
 use Rattle.world_rounds_laws.specs.Visits.{Side, act_on, phase_on, visited}
 use Rattle.world_laws.specs.Growing.{Grows}
 

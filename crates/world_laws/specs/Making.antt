@@ -91,47 +91,6 @@ entries_apart app history c (act.Advance sub count) n apart = tt
 entries_apart app history c act.Send n apart = tt
 entries_apart app history c act.Take n apart = tt
 
--- its session keeps its number
-up_number : (c : Conn) (ts : List (List ℕ)) → (goes_up c ts).number ≡ c.number
-up_number c [] = refl
-up_number c (t ∷ ts) = refl
-
-as_number : (app : App) (h : List Entry) (c : Conn) (bytes : ℕ) (t : Taken) → (received_as app h c bytes t).number ≡ c.number
-as_number app h c bytes (at_once i) = refl
-as_number app h c bytes (to_queue message) = refl
-
-recv_number : (app : App) (h : List Entry) (c : Conn) (ts : List (List ℕ)) → (receives app h c ts).number ≡ c.number
-recv_number app h c [] = refl
-recv_number app h c (t ∷ ts) = as_number app h (record c { upward = ts; received = c.received ++ t ∷ [] }) (length t) (taken_text (state_in c).connected t)
-
-handle_number : (app : App) (h : List Entry) (c : Conn) (ws : List Waiting) → (handles app h c ws).number ≡ c.number
-handle_number app h c [] = refl
-handle_number app h c (w ∷ ws) = refl
-
-item_number : (app : App) (h : List Entry) (c : Conn) (o : Option Item) → (learns_item app h c o).number ≡ c.number
-item_number app h c None = refl
-item_number app h c (Some i) = refl
-
-send_number : (c : Conn) (ts : List (List ℕ)) → (sends c ts).number ≡ c.number
-send_number c [] = refl
-send_number c (t ∷ ts) = refl
-
-take_number : (c : Conn) (ts : List (List ℕ)) → (takes c ts).number ≡ c.number
-take_number c [] = refl
-take_number c (t ∷ ts) = refl
-
-pub same_number : (app : App) (h : List Entry) (c : Conn) (a : Act) → (does app h c a).number ≡ c.number
-same_number app h c act.Up = up_number c c.client.waiting
-same_number app h c act.Recv = recv_number app h c c.upward
-same_number app h c act.Handle = handle_number app h c c.queue
-same_number app h c act.Begin = refl
-same_number app h c (act.Step k) = refl
-same_number app h c (act.Learn k place) = item_number app h (record c { kept = if is_kept k c.kept then None else c.kept }) (learnt app h c k place)
-same_number app h c (act.Load sub place) = refl
-same_number app h c (act.Advance sub count) = refl
-same_number app h c act.Send = send_number c c.outbox
-same_number app h c act.Take = take_number c c.downward
-
 -- ---- names
 
 pub among_put : (names : Names) (name q : List ℕ) → is_among (with_name names name) q ≡ cond (eq_by_cmp text_cmp q name) true (is_among names q)

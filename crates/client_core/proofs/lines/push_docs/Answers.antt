@@ -1,4 +1,4 @@
-use Rattle.client_model.specs.Lines.{doc_line}
+use Rattle.ejson_codec.specs.Lines.{doc_line}
 use Rattle.client_core.proofs.Printed.{next_line}
 use Rattle.client_core.proofs.lines.push_docs.Goals as goal
 

@@ -1,5 +1,6 @@
 use Rattle.std.proofs.Common.{◌≡◌, ◌++◌, map}
-use Rattle.client_model.specs.Lines.{doc_line, line_texts}
+use Rattle.ejson_codec.specs.Lines.{doc_line}
+use Rattle.client_model.specs.Lines.{line_texts}
 use Rattle.client_core.proofs.lines.push_docs.Given as goal
 
 abbrev pub invariant-loop-key : goal.invariant-loop-key
