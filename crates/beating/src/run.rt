@@ -3,13 +3,13 @@ ghost use Rattle.std.specs.Prelude.{◌≡◌, ◌≤◌, ◌++◌, ◌∷◌, [
 ghost use Rattle.value_model.specs.Val.{Val};
 ghost use Rattle.heartbeat.specs.Beats.{IsTime, Event};
 ghost use Rattle.checking.specs.Input.{input_limit, lines_in};
-ghost use Rattle.checking.specs.Output.{line, bytes_of, bad_lines, value_bytes};
+ghost use Rattle.checking.specs.Output.{line, bytes_of, value_bytes};
 ghost use Rattle.beating.specs.Lines.{event_view};
 ghost use Rattle.beating.specs.Run.{events_of, bad_line, word_of, said_from, beat_bad, beat_text};
 ghost use Rattle.beating.specs.Kept.{said, after, begun, said_by};
 
 use crate::lines::{Line, event_of};
-use checking::{Outcome, add_bad, add_line, first_line, is_blank};
+use checking::{Outcome, add_bad_line, add_line, first_line, is_blank};
 use ejson_codec::text;
 use ejson_value::{Items, Mem, Text, Value};
 use heartbeat::{Beat, Heart};
@@ -55,16 +55,6 @@ fn act(alloc: Global, heart: &mut Heart, event: Line, output: &mut Vec<u8>) -> R
             Some(beat) => add_word(alloc, output, word_of(beat)),
             None => add_word(alloc, output, "idle"),
         },
-    }
-}
-
-// Adds the line that names a bad line, if there is one.
-fn add_bad_line(alloc: Global, output: &mut Vec<u8>, number: Option<u32>) -> Result<(), Mem>
-    ensures { OnOk result (output.new.items ≡ output.old.items ++ bytes_of (bad_lines number)) }
-{
-    match number {
-        None => Ok(()),
-        Some(number) => add_bad(alloc, output, number),
     }
 }
 

@@ -8,5 +8,5 @@ mod verdict;
 pub use input::{
     INPUT_LIMIT, LINE_LIMIT, count_lines, first_line, is_blank, read_value, split_lines, value_in,
 };
-pub use output::{add_bad, add_line};
+pub use output::{add_bad, add_bad_line, add_line};
 pub use verdict::{Outcome, check};

@@ -40,12 +40,8 @@ pub fn add_bad(alloc: Global, output: &mut Vec<u8>, number: u32) -> Result<(), M
     add_list(alloc, output, items)
 }
 
-// Adds the line that names a bad line, if there is one.
-pub(crate) fn add_bad_line(
-    alloc: Global,
-    output: &mut Vec<u8>,
-    number: Option<u32>,
-) -> Result<(), Mem>
+/// Adds the line that names a bad line, if there is one. After want of memory a part of it may stand there.
+pub fn add_bad_line(alloc: Global, output: &mut Vec<u8>, number: Option<u32>) -> Result<(), Mem>
     ensures { OnOk result (output.new.items ≡ output.old.items ++ bytes_of (bad_lines number)) }
 {
     match number {

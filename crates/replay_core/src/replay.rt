@@ -4,13 +4,12 @@ ghost use Rattle.world_core.specs.world_values_laws.Values.{HasValues};
 ghost use Rattle.world_core.specs.world_model.Store.{programs};
 ghost use Rattle.world_core.specs.world_model.World.{start};
 ghost use Rattle.checking.specs.Input.{input_limit, lines_in, rest_of};
-ghost use Rattle.checking.specs.Output.{bytes_of, bad_lines};
 ghost use Rattle.replay_core.specs.Replay.{app_of, events_of, bad_line, first_bad, replay_text, printed, printed_by, all_bytes};
 
 use crate::readers::Readers;
 use crate::tasks::read_lines;
 use app_model::{App, AppFault};
-use checking::{Outcome, add_bad, first_line, value_in};
+use checking::{Outcome, add_bad_line, first_line, value_in};
 use ejson_value::Mem;
 use std::alloc::Global;
 use world_core::{Hands, World};
@@ -35,16 +34,6 @@ fn read_app(alloc: Global, line: &[u8]) -> Result<Option<App>, Mem>
         Ok(app) => Ok(Some(app)),
         Err(AppFault::Bad { .. }) => Ok(None),
         Err(AppFault::Memory) => Err(Mem),
-    }
-}
-
-// Adds the line that names a bad line, if there is one.
-fn add_bad_line(alloc: Global, output: &mut Vec<u8>, bad: Option<u32>) -> Result<(), Mem>
-    ensures { OnOk result (output.new.items ≡ output.old.items ++ bytes_of (bad_lines bad)) }
-{
-    match bad {
-        None => Ok(()),
-        Some(number) => add_bad(alloc, output, number),
     }
 }
 

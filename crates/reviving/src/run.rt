@@ -1,14 +1,14 @@
 //! A run of the command.
 ghost use Rattle.std.specs.Prelude.{◌≡◌, ◌≤◌, ◌++◌, length, IfOk, OnOk};
 ghost use Rattle.checking.specs.Input.{input_limit, lines_in};
-ghost use Rattle.checking.specs.Output.{bytes_of, bad_lines};
+ghost use Rattle.checking.specs.Output.{bytes_of};
 ghost use Rattle.revived_client.specs.State.{new_state};
 ghost use Rattle.reviving.specs.Run.{app_of, lines_of, bad_line, revive_bad, all_written, written_by, revive_text};
 
 use crate::acting::act;
 use crate::lines::line_of;
 use app_model::{App, AppFault};
-use checking::{Outcome, add_bad, first_line, is_blank, value_in};
+use checking::{Outcome, add_bad_line, first_line, is_blank, value_in};
 use ejson_value::Mem;
 use revived_client::RevivedClient;
 use std::alloc::Global;
@@ -26,16 +26,6 @@ fn read_app(alloc: Global, line: &[u8]) -> Result<Option<App>, Mem>
         Ok(app) => Ok(Some(app)),
         Err(AppFault::Bad { .. }) => Ok(None),
         Err(AppFault::Memory) => Err(Mem),
-    }
-}
-
-// Adds the line that names a bad line, if there is one.
-fn add_bad_line(alloc: Global, output: &mut Vec<u8>, number: Option<u32>) -> Result<(), Mem>
-    ensures { OnOk result (output.new.items ≡ output.old.items ++ bytes_of (bad_lines number)) }
-{
-    match number {
-        None => Ok(()),
-        Some(number) => add_bad(alloc, output, number),
     }
 }
 
