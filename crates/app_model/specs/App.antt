@@ -1,4 +1,6 @@
--- An application: the collections of its store, as they are listed, its methods and its publications by name, and the rules of those collections that clients may write to by themselves (Meteor's guide, "Methods" and "Publications and data loading"; Meteor's documentation, "allow" and "deny").
+-- An application: the collections of its store, as they are listed, its methods and its publications by name, and the rules of those collections
+-- that clients may write to by themselves (Meteor's guide, "Methods" and "Publications and data loading"; Meteor's documentation, "allow" and
+-- "deny").
 use Rattle.std.specs.Prelude.{ℕ, List, Bool, Option}
 use Rattle.map_model.specs.Maps.{at}
 use Rattle.value_model.specs.Order.{text_cmp}

@@ -1,5 +1,6 @@
 -- The cursors that are read of one publication publish under different names.
-use Rattle.std.specs.Prelude.{◌≡◌, ℕ, Bool, true, false, not, List, [], ◌∷◌, ◌++◌, length, codes, Option, None, Some, Ok, Err, unwrap_or, ◌||◌, refl, if◌then◌else◌}
+use Rattle.std.specs.Prelude.{◌≡◌, ℕ, Bool, true, false, not, List, [], ◌∷◌, ◌++◌, length, codes, Option, None, Some, Ok, Err, unwrap_or, ◌||◌, refl}
+use Rattle.std.specs.Prelude.{if◌then◌else◌}
 use Rattle.std.proofs.Common.{ap, sym, ◌∙◌, subst}
 use Rattle.std.specs.List.{list_any}
 use Rattle.std.specs.Str.{bytes_eq}
@@ -19,7 +20,8 @@ use Rattle.app_model.specs.declared.publication.CursorRule.{CursorRule}
 use Rattle.program_reading.specs.Faults.{Place, below, element, Reading, bad}
 use Rattle.app_model.specs.Rules.{Rules, publishes, HaveDistinctNames}
 use Rattle.program_reading.specs.Names.{has_name, is_valid_name, name_reading, if_known, known_reading}
-use Rattle.app_model.specs.Reading.{is_cursor, published_as, is_published, alias_reading, selector_of, names_reading, shown_reading, parts_reading, rule_reading, rules_behind}
+use Rattle.app_model.specs.Reading.{is_cursor, published_as, is_published, alias_reading, selector_of, names_reading, shown_reading, parts_reading}
+use Rattle.app_model.specs.Reading.{rule_reading, rules_behind}
 
 flipped : (a b : List ℕ) → Decides (bytes_eq a b) (a ≡ b) → Decides (bytes_eq a b) (b ≡ a)
 flipped a b d = (λ e. sym (d.0 e), λ p. d.1 (sym p))
@@ -86,7 +88,8 @@ named collections place fs names e =
     let own = field_of fs (codes "as") in
     let c = field_of fs (codes "collection") in
     let both = λ (alias : Option (List ℕ)) (name : List ℕ). let n : List ℕ × List ℕ = (name, unwrap_or alias name) in n in
-    let by_alias = and_then-ok (alias_reading (below place (codes "as")) own) (λ alias. and_then (known_reading collections (below place (codes "collection")) c) (λ name. Ok (both alias name))) names e in
+    let by_alias = and_then-ok (alias_reading (below place (codes "as")) own)
+    (λ alias. and_then (known_reading collections (below place (codes "collection")) c) (λ name. Ok (both alias name))) names e in
     let by_name = and_then-ok (known_reading collections (below place (codes "collection")) c) (λ name. Ok (both by_alias.0 name)) names by_alias.2 in
     published collections (below place (codes "as")) (below place (codes "collection")) own c by_alias.0 by_name.0 by_alias.1 by_name.1
     ∙ ap (λ (n : List ℕ × List ℕ). Some (text n.1)) (ok_is (both by_alias.0 by_name.0) names by_name.2)
@@ -95,7 +98,14 @@ named collections place fs names e =
 parts_published : (collections : List (List ℕ)) (place : Place) (fs : Fields) (rule : CursorRule) → parts_reading collections place fs ≡ Ok rule →
     published_as (field_of fs (codes "as")) (field_of fs (codes "collection")) ≡ Some (text rule.name)
 parts_published collections place fs rule e =
-    let rule_of = λ (names : List ℕ × List ℕ) (shown : Projection × (Option ℕ × List SortKey)). let r : CursorRule = record { collection = names.0; name = names.1; selector = selector_of (field_of fs (codes "selector")); fields = shown.0; sort = shown.1.1; limit = shown.1.0 } in r in
+    let rule_of = λ (names : List ℕ × List ℕ) (shown : Projection × (Option ℕ × List SortKey)). let r : CursorRule = record {
+      collection = names.0;
+      name = names.1;
+      selector = selector_of (field_of fs (codes "selector"));
+      fields = shown.0;
+      sort = shown.1.1;
+      limit = shown.1.0;
+    } in r in
     let by_names = and_then-ok (names_reading collections place fs) (λ names. and_then (shown_reading place fs) (λ shown. Ok (rule_of names shown))) rule e in
     let by_shown = and_then-ok (shown_reading place fs) (λ shown. Ok (rule_of by_names.0 shown)) rule by_names.2 in
     named collections place fs by_names.0 by_names.1 ∙ ap (λ (r : CursorRule). Some (text r.name)) (ok_is (rule_of by_names.0 by_shown.0) rule by_shown.2)
@@ -104,7 +114,8 @@ rule_fresh : (collections : List (List ℕ)) (place : Place) (rules : Rules) (v 
     rule_reading collections place rules v ≡ Ok rule → publishes rules rule.name ≡ false
 rule_fresh collections place rules (object fs) rule e =
     let name = published_as (field_of fs (codes "as")) (field_of fs (codes "collection")) in
-    let shaped = unless_bad (not (is_cursor fs)) flaw.BadShape place (if is_published rules name then bad flaw.DoubleName place else parts_reading collections place fs) rule e in
+    let shaped = unless_bad (not (is_cursor fs)) flaw.BadShape place
+    (if is_published rules name then bad flaw.DoubleName place else parts_reading collections place fs) rule e in
     let new = unless_bad (is_published rules name) flaw.DoubleName place (parts_reading collections place fs) rule shaped.1 in
     ap (λ n. is_published rules n) (sym (parts_published collections place fs rule new.1)) ∙ new.0
 rule_fresh collections place rules v rule e = cc
@@ -113,6 +124,7 @@ pub rules_distinct : (collections : List (List ℕ)) (place : Place) (rules : Ru
     rules_behind collections place rules vs ≡ Ok all → HaveDistinctNames rules → HaveDistinctNames all
 rules_distinct collections place rules no_vals all e d = subst HaveDistinctNames (ok_is rules all e) d
 rules_distinct collections place rules (val v vs) all e d =
-    let read = and_then-ok (rule_reading collections (element place (length rules)) rules v) (λ rule. rules_behind collections place (rules ++ rule ∷ []) vs) all e in
+    let read = and_then-ok (rule_reading collections (element place (length rules)) rules v)
+    (λ rule. rules_behind collections place (rules ++ rule ∷ []) vs) all e in
     rules_distinct collections place (rules ++ read.0 ∷ []) vs all read.2
     (distinct-append rules read.0 d (rule_fresh collections (element place (length rules)) rules v read.0 read.1))

@@ -1,4 +1,5 @@
--- How the fields of a cursor are read as a projection: `1` at each path to publish these alone, `0` at each to publish all but these (MongoDB's documentation, "Project Fields to Return from Query").
+-- How the fields of a cursor are read as a projection: `1` at each path to publish these alone, `0` at each to publish all but these (MongoDB's
+-- documentation, "Project Fields to Return from Query").
 use Rattle.std.specs.Prelude.{◌≡◌, ◌||◌, ℕ, ℤ, pos, Bool, true, false, not, List, [], ◌∷◌, ◌++◌, Option, None, Some, Ok, codes, if◌then◌else◌, ◌&&◌}
 use Rattle.std.proofs.Common.{int_eq}
 use Rattle.std.specs.List.{list_any}

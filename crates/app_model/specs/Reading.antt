@@ -1,6 +1,11 @@
--- How a value is read as an application: `{"collections":[name..],"methods":{name:program..},"publications":{name:[cursor..]..},"rules":{collection:rules..}}`, where each key may be missing. A cursor is `{"collection":name,"as":name,"selector":template,"fields":{path:1|0..},"sort":[[path,1|-1]..],"limit":number}`, where all but the collection may be missing.
--- The first fault is answered: collections, methods, publications, rules, inside by the bytes of the keys or by place, and at each part its form, its name, how many parts it has, an unknown collection and a double name, in this order.
-use Rattle.std.specs.Prelude.{ℕ, Bool, true, false, not, List, [], ◌∷◌, ◌++◌, length, codes, Option, None, Some, Ok, unwrap_or, is_some, nat_lt, nat_le, if◌then◌else◌, ◌&&◌, ◌||◌}
+-- How a value is read as an application:
+-- `{"collections":[name..],"methods":{name:program..},"publications":{name:[cursor..]..},"rules":{collection:rules..}}`, where each key may be
+-- missing. A cursor is `{"collection":name,"as":name,"selector":template,"fields":{path:1|0..},"sort":[[path,1|-1]..],"limit":number}`, where all
+-- but the collection may be missing.
+-- The first fault is answered: collections, methods, publications, rules, inside by the bytes of the keys or by place, and at each part its form,
+-- its name, how many parts it has, an unknown collection and a double name, in this order.
+use Rattle.std.specs.Prelude.{ℕ, Bool, true, false, not, List, [], ◌∷◌, ◌++◌, length, codes, Option, None, Some, Ok, unwrap_or, is_some, nat_lt}
+use Rattle.std.specs.Prelude.{nat_le, if◌then◌else◌, ◌&&◌, ◌||◌}
 use Rattle.std.specs.BTreeMap.{insert_entry}
 use Rattle.map_model.specs.Maps.{at}
 use Rattle.value_model.specs.Val.{Val, text, list, object, Vals, no_vals, val, Fields, no_fields, field, list_of}
@@ -97,7 +102,14 @@ abbrev pub parts_reading : List (List ℕ) → Place → Fields → Reading Curs
 parts_reading collections place fs =
     and_then (names_reading collections place fs) (λ names.
     and_then (shown_reading place fs) (λ shown.
-    Ok (record { collection = names.0; name = names.1; selector = selector_of (field_of fs (codes "selector")); fields = shown.0; sort = shown.1.1; limit = shown.1.0 })))
+    Ok (record {
+      collection = names.0;
+      name = names.1;
+      selector = selector_of (field_of fs (codes "selector"));
+      fields = shown.0;
+      sort = shown.1.1;
+      limit = shown.1.0;
+    })))
 
 -- a cursor behind others
 abbrev pub rule_reading : List (List ℕ) → Place → Rules → Val → Reading CursorRule

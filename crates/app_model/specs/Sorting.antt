@@ -1,5 +1,7 @@
--- How the `sort` and the `limit` of a cursor are read: one pair to eight of a path with `1`, least first, or `-1`, greatest first; and a number from 1 to 10,000 (the sort specifiers and the limit of Meteor's `find`). A cursor without `sort` has no sort keys.
-use Rattle.std.specs.Prelude.{ℕ, ℤ, pos, negsuc, Bool, true, false, not, List, [], ◌∷◌, ◌++◌, length, codes, Option, None, Some, Ok, slice_get, nat_lt, nat_le, ◌==◌, if◌then◌else◌, ◌&&◌}
+-- How the `sort` and the `limit` of a cursor are read: one pair to eight of a path with `1`, least first, or `-1`, greatest first; and a number from
+-- 1 to 10,000 (the sort specifiers and the limit of Meteor's `find`). A cursor without `sort` has no sort keys.
+use Rattle.std.specs.Prelude.{ℕ, ℤ, pos, negsuc, Bool, true, false, not, List, [], ◌∷◌, ◌++◌, length, codes, Option, None, Some, Ok, slice_get}
+use Rattle.std.specs.Prelude.{nat_lt, nat_le, ◌==◌, if◌then◌else◌, ◌&&◌}
 use Rattle.std.proofs.Common.{int_eq}
 use Rattle.value_model.specs.Val.{Val, int, text, list, Vals, no_vals, val, Fields, list_of}
 use Rattle.value_model.specs.Branches.{field_of, path_of}

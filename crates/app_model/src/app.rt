@@ -6,7 +6,8 @@ ghost use Rattle.value_model.specs.Branches.{field_of};
 ghost use Rattle.ejson_value.specs.View.{view};
 ghost use Rattle.program_reading.specs.Faults.{Gives};
 ghost use Rattle.app_model.specs.App.{has_collection, method, publication, write_rules};
-ghost use Rattle.app_model.specs.Reading.{listed_reading, names_behind, collections_reading, publications_put, publications_reading, stored_reading, told_reading, members_reading, app_reading};
+ghost use Rattle.app_model.specs.Reading.{listed_reading, names_behind, collections_reading, publications_put, publications_reading, stored_reading};
+ghost use Rattle.app_model.specs.Reading.{told_reading, members_reading, app_reading};
 
 use crate::cursors::read_publication;
 use crate::maps::{copy_map, put};

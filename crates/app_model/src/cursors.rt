@@ -7,7 +7,8 @@ ghost use Rattle.app_model.specs.Rules.{publishes};
 ghost use Rattle.program_reading.specs.Faults.{below, element, Gives};
 ghost use Rattle.program_reading.specs.Names.{known_reading};
 ghost use Rattle.app_model.specs.Fields.{projection_reading};
-ghost use Rattle.app_model.specs.Reading.{is_cursor, is_published, published_as, alias_reading, selector_of, names_reading, shown_reading, parts_reading, rule_reading, rules_behind, cursors_reading, named_reading, publication_reading};
+ghost use Rattle.app_model.specs.Reading.{is_cursor, is_published, published_as, alias_reading, selector_of, names_reading, shown_reading};
+ghost use Rattle.app_model.specs.Reading.{parts_reading, rule_reading, rules_behind, cursors_reading, named_reading, publication_reading};
 
 use crate::fields::read_projection;
 use crate::publication::{CursorRule, CursorRules, Projection, Publication};
@@ -55,7 +56,8 @@ fn is_published(rules: &CursorRules, name: Option<&Value>) -> bool
 
 // Whether one of the cursors publishes under the name of the cursor that the object describes.
 fn is_double(alloc: Global, rules: &CursorRules, fields: &Doc) -> Result<bool, Mem>
-    ensures { IfOk result (λ b. b ≡ is_published rules.now (published_as (field_of (fields_of fields.now) (codes "as")) (field_of (fields_of fields.now) (codes "collection")))) }
+    ensures { IfOk result (λ b. b ≡ is_published rules.now
+        (published_as (field_of (fields_of fields.now) (codes "as")) (field_of (fields_of fields.now) (codes "collection")))) }
 {
     let alias = member(alloc, fields, "as")?;
     let collection = member(alloc, fields, "collection")?;
@@ -107,7 +109,8 @@ fn read_collection(
     place: &Text,
     fields: &Doc,
 ) -> Result<Text, AppFault>
-    ensures { Gives (λ name. name) result (known_reading collections.now (below place.now (codes "collection")) (field_of (fields_of fields.now) (codes "collection"))) }
+    ensures { Gives (λ name. name) result
+        (known_reading collections.now (below place.now (codes "collection")) (field_of (fields_of fields.now) (codes "collection"))) }
 {
     let at_collection = below(alloc, place.as_str(), "collection")?;
     read_known(

@@ -4,7 +4,8 @@ ghost use Rattle.value_model.specs.Val.{fields_of};
 ghost use Rattle.value_model.specs.Branches.{path_of};
 ghost use Rattle.ejson_value.specs.View.{view};
 ghost use Rattle.program_reading.specs.Faults.{below, Gives};
-ghost use Rattle.app_model.specs.Fields.{flag, says, begins_with_id, Joins, path_behind, next_path, or_bad_shape, paths_behind, projecting, fields_reading, projection_reading};
+ghost use Rattle.app_model.specs.Fields.{flag, says, begins_with_id, Joins, path_behind, next_path, or_bad_shape, paths_behind, projecting};
+ghost use Rattle.app_model.specs.Fields.{fields_reading, projection_reading};
 
 use crate::publication::{Paths, Projection};
 use crate::seen::{Seen, part_names};

@@ -5,7 +5,8 @@ ghost use Rattle.value_model.specs.Branches.{field_of};
 ghost use Rattle.ejson_value.specs.View.{view};
 ghost use Rattle.program_reading.specs.Faults.{below, Gives};
 ghost use Rattle.program_reading.specs.Programs.{program_reading};
-ghost use Rattle.app_model.specs.Reading.{methods_put, methods_reading, has_method, has_made_name, entry_reading, guard_reading, guards_put, guards_reading, with_method, with_made};
+ghost use Rattle.app_model.specs.Reading.{methods_put, methods_reading, has_method, has_made_name, entry_reading, guard_reading, guards_put};
+ghost use Rattle.app_model.specs.Reading.{guards_reading, with_method, with_made};
 
 use crate::maps::put;
 use ejson_value::{Doc, Mem, Names, Text, Value};
@@ -205,7 +206,8 @@ fn put_three(
     methods: &mut BTreeMap<Text, Program>,
     collection: &Text,
 ) -> Result<(), Mem>
-    ensures { OnOk result (methods.new.entries ≡ with_method (with_method (with_method methods.old.entries collection.now Action.Insert) collection.now Action.Update) collection.now Action.Remove) }
+    ensures { OnOk result (methods.new.entries ≡ with_method
+        (with_method (with_method methods.old.entries collection.now Action.Insert) collection.now Action.Update) collection.now Action.Remove) }
 {
     put_method(alloc, methods, collection, Action::Insert)?;
     put_method(alloc, methods, collection, Action::Update)?;

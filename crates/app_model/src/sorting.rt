@@ -5,7 +5,8 @@ ghost use Rattle.value_model.specs.Branches.{field_of, path_of};
 ghost use Rattle.ejson_value.specs.View.{view};
 ghost use Rattle.program_reading.specs.Faults.{below, element, Gives};
 ghost use Rattle.app_model.specs.Fields.{or_bad_shape};
-ghost use Rattle.app_model.specs.Sorting.{limit_by, limit_in, limit_of, limit_reading, direction_in, direction_of, sort_path_of, key_with, key_of, key_reading, keys_behind, keys_reading, sort_reading, window_reading};
+ghost use Rattle.app_model.specs.Sorting.{limit_by, limit_in, limit_of, limit_reading, direction_in, direction_of, sort_path_of, key_with, key_of};
+ghost use Rattle.app_model.specs.Sorting.{key_reading, keys_behind, keys_reading, sort_reading, window_reading};
 
 use ejson_value::{Doc, Items, Mem, Path, PathFault, SortKey, SortKeys, Text, Value};
 use program_reading::{AppFault, Flaw, bad, below, element, has_more_items, member};

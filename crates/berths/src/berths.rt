@@ -39,7 +39,8 @@ impl<T: Fits> Model for Built<T> {
 
     ghost view = { λ o. o.table.shared.table_id };
 
-    ghost invariant = { λ o. (o.table.shared.table_id.words ≡ o.table.shared.table_id.slots) × (o.seat.table_id ≡ o.table.shared.table_id) × (o.seat.me.1 ≡ []) };
+    ghost invariant = { λ o. (o.table.shared.table_id.words ≡ o.table.shared.table_id.slots) × (o.seat.table_id ≡ o.table.shared.table_id)
+        × (o.seat.me.1 ≡ []) };
 }
 
 fn filled<T: Drop>(alloc: Global, values: Vec<T>) -> Result<Vec<Option<T>>, AllocError>

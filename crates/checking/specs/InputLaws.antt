@@ -1,5 +1,6 @@
 -- The first lines of an input, and what follows them.
-use Rattle.std.specs.Prelude.{◌≡◌, ◌≢◌, ℕ, zero, suc, ◌+◌, ◌<◌, List, [], ◌∷◌, ◌++◌, length, take, drop, get_or, Bool, true, false, if◌then◌else◌, ◌==◌, IsUtf8, refl}
+use Rattle.std.specs.Prelude.{◌≡◌, ◌≢◌, ℕ, zero, suc, ◌+◌, ◌<◌, List, [], ◌∷◌, ◌++◌, length, take, drop, get_or, Bool, true, false, if◌then◌else◌}
+use Rattle.std.specs.Prelude.{◌==◌, IsUtf8, refl}
 use Rattle.std.proofs.Common.{ap, sym, ◌∙◌, arith, take_all, take-append-drop}
 use Rattle.std.specs.Io.BufRead.{take_through}
 use Rattle.std.proofs.BufReadLemmas.{take_through-nil}
@@ -118,7 +119,8 @@ other_none (x ∷ xs) ys e = cc e
 -- there are some, but of no bytes
 pub lines_to-none : (place : ℕ) (xs : List ℕ) → lines_to place xs ≡ [] → xs ≡ []
 lines_to-none place xs none =
-    let left : drop place xs ≡ [] = take_through-nil line_feed (drop place xs) (ap length (other_none (take place xs) (take_through line_feed (drop place xs)) none)) in
+    let left : drop place xs ≡ [] =
+    take_through-nil line_feed (drop place xs) (ap length (other_none (take place xs) (take_through line_feed (drop place xs)) none)) in
     sym (take-append-drop place xs) ∙ (ap (λ l. l ++ drop place xs) (first_none (take place xs) (take_through line_feed (drop place xs)) none) ∙ left)
 
 pub not_utf8 : (bs : List ℕ) → ¬ (IsUtf8 bs) → is_utf8 bs ≡ false

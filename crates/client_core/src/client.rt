@@ -4,7 +4,8 @@ ghost use Rattle.std.specs.Option.{option_copied};
 ghost use Rattle.value_model.specs.Val.{text as text_val};
 ghost use Rattle.program_steps.specs.Runs.{outcome_view};
 ghost use Rattle.client_model.specs.Client.{new_client};
-ghost use Rattle.client_model.specs.Asking.{is_connected, can_sub, subscribed, can_unsub, unsubscribed, can_send, with_text, outcome_of, is_settled, seed_of, call_limit};
+ghost use Rattle.client_model.specs.Asking.{is_connected, can_sub, subscribed, can_unsub, unsubscribed, can_send, with_text, outcome_of, is_settled};
+ghost use Rattle.client_model.specs.Asking.{seed_of, call_limit};
 ghost use Rattle.client_model.specs.Showing.{IsShown};
 ghost use Rattle.ejson_value.specs.View.{view as value_view};
 ghost use Rattle.stub_simulation.specs.Simulating.{simulation, IsSimulated};
@@ -96,7 +97,8 @@ impl Model for Client {
 
     ghost view = { λ a. record { app = a.app; name = a.name; client = state_of a.session a.is_failed a.broken a.waiting.items a.view a.subs a.calls.items } };
 
-    ghost invariant = { λ a. IsShown (state_of a.session a.is_failed a.broken a.waiting.items a.view a.subs a.calls.items) × (length a.calls.items ≤ call_limit) };
+    ghost invariant = { λ a. IsShown (state_of a.session a.is_failed a.broken a.waiting.items a.view a.subs a.calls.items)
+        × (length a.calls.items ≤ call_limit) };
 }
 
 // A queue of this text alone.
@@ -274,7 +276,8 @@ impl Client {
 
     // What the method's stub does to the view.
     fn simulated(&self, method: &Text, params: &Items, seed: &Value) -> Result<Simulated, Mem>
-        ensures { IfOk result (IsSimulated self.now.client.documents.view (simulation self.now.app method.now params.now (value_view seed.now) self.now.client.documents.view)) }
+        ensures { IfOk result (IsSimulated self.now.client.documents.view
+            (simulation self.now.app method.now params.now (value_view seed.now) self.now.client.documents.view)) }
     {
         let view = &self.view;
         simulate_over(

@@ -50,7 +50,8 @@ impl Client {
 
     // The subscription is over.
     fn end_sub(&mut self, id: &Text, error: &Option<Fault>) -> Result<(), Mem>
-        ensures ok { OnOk result (self.new ≡ record self.old { client = record self.old.client { subs = turned (end_of error.now) id.now self.old.client.subs } }) }
+        ensures ok { OnOk result
+            (self.new ≡ record self.old { client = record self.old.client { subs = turned (end_of error.now) id.now self.old.client.subs } }) }
         ensures err { OnErr result (self.new ≡ self.old) }
     {
         let state = ended_by(error)?;

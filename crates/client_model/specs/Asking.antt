@@ -1,6 +1,7 @@
 -- What a client asks for: each request waits as a text (Meteor's DDP.md, "Managing Data", "Remote Procedure Calls"); and what it
 -- can say of its calls.
-use Rattle.std.specs.Prelude.{ℕ, suc, List, [], ◌∷◌, ◌++◌, length, decimal, codes, Bool, true, false, not, ◌&&◌, nat_lt, Option, Some, None, is_some, is_none, unwrap_or, if◌then◌else◌}
+use Rattle.std.specs.Prelude.{ℕ, suc, List, [], ◌∷◌, ◌++◌, length, decimal, codes, Bool, true, false, not, ◌&&◌, nat_lt, Option, Some, None, is_some}
+use Rattle.std.specs.Prelude.{is_none, unwrap_or, if◌then◌else◌}
 use Rattle.std.specs.List.{list_any, list_all}
 use Rattle.map_model.specs.Maps.{at, set}
 use Rattle.value_model.specs.Val.{Val, text}

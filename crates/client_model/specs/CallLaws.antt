@@ -1,5 +1,6 @@
 -- Which calls await their `updated`, and which simulations hold a document, after a message and after a call.
-use Rattle.std.specs.Prelude.{◌≡◌, ◌≢◌, ◌⊎◌, ℕ, zero, suc, Bool, true, false, cond, not, ◌&&◌, ◌||◌, List, [], ◌∷◌, ◌++◌, length, slice_get, Option, Some, None, option_and_then, unwrap_or, refl}
+use Rattle.std.specs.Prelude.{◌≡◌, ◌≢◌, ◌⊎◌, ℕ, zero, suc, Bool, true, false, cond, not, ◌&&◌, ◌||◌, List, [], ◌∷◌, ◌++◌, length, slice_get, Option}
+use Rattle.std.specs.Prelude.{Some, None, option_and_then, unwrap_or, refl}
 use Rattle.std.specs.List.{list_any, list_all}
 use Rattle.std.specs.declared.cmp.Ordering.TheVariants.{Less, Equal, Greater}
 use Rattle.std.specs.Ordering.{nat_cmp, eq_by_cmp, match_ordering}
@@ -98,12 +99,14 @@ none_awaits calls (suc n) all = by calls n all
 -- a number among those put in is the new one or an old one
 among_with : (hs : List ℕ) (m n : ℕ) → is_among (with_number hs m) n ≡ true → (n ≡ m) ⊎ (is_among hs n ≡ true)
 among_with [] m n e = elim (eq_by_cmp nat_cmp n m) as
-    (λ b. eq_by_cmp nat_cmp n m ≡ b → (b || false) ≡ true → (n ≡ m) ⊎ (false ≡ true)) [ true ↦ λ t e. inl (key_is number_order n m t) | false ↦ λ t e. inr e ] refl e
+    (λ b. eq_by_cmp nat_cmp n m ≡ b → (b || false) ≡ true → (n ≡ m) ⊎ (false ≡ true))
+    [ true ↦ λ t e. inl (key_is number_order n m t) | false ↦ λ t e. inr e ] refl e
 among_with (h ∷ hs) m n e =
     let rest = among_with hs m n in
     elim (nat_cmp m h) as (λ o. is_among (match_ordering o (m ∷ h ∷ hs) (h ∷ hs) (h ∷ with_number hs m)) n ≡ true → (n ≡ m) ⊎ (is_among (h ∷ hs) n ≡ true)) [
       | Less ↦ λ x. elim (eq_by_cmp nat_cmp n m) as
-          (λ b. eq_by_cmp nat_cmp n m ≡ b → (b || is_among (h ∷ hs) n) ≡ true → (n ≡ m) ⊎ (is_among (h ∷ hs) n ≡ true)) [ true ↦ λ t y. inl (key_is number_order n m t) | false ↦ λ t y. inr y ] refl x
+          (λ b. eq_by_cmp nat_cmp n m ≡ b → (b || is_among (h ∷ hs) n) ≡ true → (n ≡ m) ⊎ (is_among (h ∷ hs) n ≡ true))
+          [ true ↦ λ t y. inl (key_is number_order n m t) | false ↦ λ t y. inr y ] refl x
       | Equal ↦ λ x. inr x
       | Greater ↦ λ x. elim (eq_by_cmp nat_cmp n h) as
           (λ b. (b || is_among (with_number hs m) n) ≡ true → (n ≡ m) ⊎ ((b || is_among hs n) ≡ true)) [ true ↦ λ y. inr refl | false ↦ λ y. rest y ] x
@@ -119,7 +122,8 @@ among_without ns [] n e = cc e
 among_without ns (h ∷ hs) n e =
     let rest = among_without ns hs n in
     elim (is_among ns h) as
-    (λ a. is_among ns h ≡ a → is_among (cond (not a) (h ∷ without_numbers ns hs) (without_numbers ns hs)) n ≡ true → (is_among (h ∷ hs) n ≡ true) × (is_among ns n ≡ false)) [
+    (λ a. is_among ns h ≡ a → is_among (cond (not a) (h ∷ without_numbers ns hs) (without_numbers ns hs)) n ≡ true →
+    (is_among (h ∷ hs) n ≡ true) × (is_among ns n ≡ false)) [
       | true ↦ λ t x. (later (eq_by_cmp nat_cmp n h) (rest x).0, (rest x).1)
       | false ↦ λ t x. elim (eq_by_cmp nat_cmp n h) as
           (λ b. eq_by_cmp nat_cmp n h ≡ b → (b || is_among (without_numbers ns hs) n) ≡ true → ((b || is_among hs n) ≡ true) × (is_among ns n ≡ false)) [
@@ -133,7 +137,8 @@ pub holds_then : (number : ℕ) (keys : List Key) (pending : Pending Key) (k : K
     is_among (holders key_cmp (held_by key_cmp number keys pending) k) n ≡ true → (n ≡ number) ⊎ (is_among (holders key_cmp pending k) n ≡ true)
 holds_then number keys pending k n e =
     elim (list_any (eq_by_cmp key_cmp k) keys) as
-    (λ b. is_among (unwrap_or (cond b (Some (with_number (holders key_cmp pending k) number)) (at key_cmp pending k)) []) n ≡ true → (n ≡ number) ⊎ (is_among (holders key_cmp pending k) n ≡ true)) [
+    (λ b. is_among (unwrap_or (cond b (Some (with_number (holders key_cmp pending k) number)) (at key_cmp pending k)) []) n ≡ true →
+    (n ≡ number) ⊎ (is_among (holders key_cmp pending k) n ≡ true)) [
       | true ↦ λ x. among_with (holders key_cmp pending k) number n x
       | false ↦ λ x. inr x
     ] (sym (ap (λ w. is_among (unwrap_or w []) n) (at-held_by key_order number keys pending k)) ∙ e)

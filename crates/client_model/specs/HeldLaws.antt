@@ -50,7 +50,8 @@ updated_once [] calls n e = cc e
 updated_once (m ∷ ns) calls n e =
     let rest = updated_once ns (number_changed m with_update calls) n in
     elim (eq_by_cmp nat_cmp n m) as
-    (λ b. eq_by_cmp nat_cmp n m ≡ b → (b || is_among ns n) ≡ true → awaits_update (call_at (all_changed ns with_update (number_changed m with_update calls)) n) ≡ false) [
+    (λ b. eq_by_cmp nat_cmp n m ≡ b → (b || is_among ns n) ≡ true →
+    awaits_update (call_at (all_changed ns with_update (number_changed m with_update calls)) n) ≡ false) [
       | true ↦ λ t x. stays_updated ns (number_changed m with_update calls) n
           (ap (λ k. awaits_update (call_at (number_changed m with_update calls) k)) (key_is number_order n m t) ∙ own_update m calls)
       | false ↦ λ t x. rest x

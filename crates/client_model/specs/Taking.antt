@@ -1,6 +1,7 @@
 -- What a client makes of a text of the server, and when it refuses one. The first rule that holds decides (ours; Meteor's DDP.md,
 -- "Managing Data", "Remote Procedure Calls", "Heartbeats").
-use Rattle.std.specs.Prelude.{ℕ, zero, suc, List, [], ◌∷◌, ◌++◌, length, decimal, slice_get, Bool, true, false, not, ◌&&◌, nat_lt, Option, Some, None, is_some, option_and_then, Result, Ok, Err, if◌then◌else◌}
+use Rattle.std.specs.Prelude.{ℕ, zero, suc, List, [], ◌∷◌, ◌++◌, length, decimal, slice_get, Bool, true, false, not, ◌&&◌, nat_lt, Option, Some, None}
+use Rattle.std.specs.Prelude.{is_some, option_and_then, Result, Ok, Err, if◌then◌else◌}
 use Rattle.std.specs.List.{list_any, list_all}
 use Rattle.map_model.specs.Maps.{at, set}
 use Rattle.map_model.specs.Differences.{taken}

@@ -1,5 +1,6 @@
 -- What a client shows, whatever it takes and asks for.
-use Rattle.std.specs.Prelude.{◌≡◌, ◌⊎◌, ℕ, suc, List, [], ◌∷◌, length, Bool, true, false, cond, ◌||◌, nat_lt, Option, Some, None, Result, Ok, Err, unwrap_or, refl}
+use Rattle.std.specs.Prelude.{◌≡◌, ◌⊎◌, ℕ, suc, List, [], ◌∷◌, length, Bool, true, false, cond, ◌||◌, nat_lt, Option, Some, None, Result, Ok, Err}
+use Rattle.std.specs.Prelude.{unwrap_or, refl}
 use Rattle.std.specs.List.{list_any, list_all}
 use Rattle.std.specs.Ordering.{eq_by_cmp}
 use Rattle.std.proofs.Common.{sym, ap, ◌∙◌, true≢false, inl, inr}
@@ -22,7 +23,8 @@ use Rattle.ddp_messages.specs.declared.fault.MsgFault.TheVariants.{Parse, BadReq
 use Rattle.ddp_messages.specs.ServerMessage as server
 use Rattle.ddp_messages.specs.ServerMessage.{ServerMessage}
 use Rattle.client_model.specs.Client.{Call, Client, new_client}
-use Rattle.client_model.specs.Taking.{max_server_text, numbers_of, awaits_update, call_at, outcome_by, with_outcome, with_update, documents_in, calls_in, told_message, message_refusal, breaks, told_unless, told_answer, told_text}
+use Rattle.client_model.specs.Taking.{max_server_text, numbers_of, awaits_update, call_at, outcome_by, with_outcome, with_update, documents_in}
+use Rattle.client_model.specs.Taking.{calls_in, told_message, message_refusal, breaks, told_unless, told_answer, told_text}
 use Rattle.client_model.specs.Asking.{called}
 use Rattle.client_model.specs.Showing.{IsShown, IsHeldOn, all_told}
 use Rattle.client_model.specs.HeldLaws.{updated_once, holds_too, touched_held, holds_on}

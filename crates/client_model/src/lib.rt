@@ -48,7 +48,8 @@ pub fn asking_clients_show_what_the_server_has()
 
 /// A call holds the documents that its simulation touched until its `updated` is taken.
 pub fn calls_hold_what_they_touched()
-    ensures touched { (c : Client) (method : List ℕ) (params : List Val) (view : Rows) (keys : List Key) (k : Key) → list_any (eq_by_cmp key_cmp k) keys ≡ true →
+    ensures touched { (c : Client) (method : List ℕ) (params : List Val) (view : Rows) (keys : List Key) (k : Key) →
+        list_any (eq_by_cmp key_cmp k) keys ≡ true →
         is_among (holders key_cmp (called method params view keys c).documents.pending k) (suc (length c.calls)) ≡ true }
     ensures called { (c : Client) (method : List ℕ) (params : List Val) (view : Rows) (keys : List Key) → IsHeldOn c (called method params view keys c) }
     ensures told { (c : Client) (text : List ℕ) → IsShown c → IsHeldOn c (told_text c text) }

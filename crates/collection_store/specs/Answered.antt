@@ -34,7 +34,8 @@ abbrev pub AreTouched : List Key → List Change → Type 0
 AreTouched keys [] = Unit {0}
 AreTouched keys (c ∷ cs) = (is_touched keys c ≡ true) × AreTouched keys cs
 
--- what an operation that isn't refused does to the rows: its changes are of different documents and lead to the rows that it leaves, their keys are among those that it touches, and its new documents have room
+-- what an operation that isn't refused does to the rows: its changes are of different documents and lead to the rows that it leaves, their keys are
+-- among those that it touches, and its new documents have room
 pub record Does (rows : Rows) (room : ℕ) (a : Applied) : Type 0 where
   pub are_for : AreFor rows a.changes
   pub leads : Leads key_cmp (changes_of a.changes) rows a.rows

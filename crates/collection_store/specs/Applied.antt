@@ -1,4 +1,5 @@
--- What an operation makes of a store's contents, or why it is refused: insert, update and remove as in MongoDB's documentation of a collection's methods. The codes, their order and the limits are this project's own.
+-- What an operation makes of a store's contents, or why it is refused: insert, update and remove as in MongoDB's documentation of a collection's
+-- methods. The codes, their order and the limits are this project's own.
 use Rattle.std.specs.Prelude.{ℕ, pos, Bool, List, [], ◌∷◌, length, take, map, filter, Option, None, Some, is_some, Result, Ok, Err, if◌then◌else◌}
 use Rattle.std.specs.List.{list_any}
 use Rattle.std.specs.Map.{keys_of}

@@ -56,7 +56,8 @@ fn matching_named<'a>(
     id: &Text,
     selector: &Selector,
 ) -> Result<Vec<Match<'a>>, Mem>
-    ensures { IfOk result (λ found. rows_in found.items ≡ if_held selector.now (key_of collection.now id.now) (at key_cmp contents.now (key_of collection.now id.now))) }
+    ensures { IfOk result
+        (λ found. rows_in found.items ≡ if_held selector.now (key_of collection.now id.now) (at key_cmp contents.now (key_of collection.now id.now))) }
 {
     let key = Key::of(collection, id)?;
     let mut found = Vec::new(alloc);

@@ -1,5 +1,6 @@
 //! The store.
-ghost use Rattle.std.specs.Prelude.{◌≡◌, ◌+◌, ◌<◌, ◌^◌, ◌∷◌, length, nat_lt, true, is_some, is_none, OnOk, OnErr, IfOk, IfSome, IfNone, IsTrue, IsFalse, Ok, Err, Some, None, [], if◌then◌else◌};
+ghost use Rattle.std.specs.Prelude.{◌≡◌, ◌+◌, ◌<◌, ◌^◌, ◌∷◌, length, nat_lt, true, is_some, is_none, OnOk, OnErr, IfOk, IfSome, IfNone, IsTrue};
+ghost use Rattle.std.specs.Prelude.{IsFalse, Ok, Err, Some, None, [], if◌then◌else◌};
 ghost use Rattle.map_model.specs.Maps.{at, set};
 ghost use Rattle.value_model.specs.Size.{size};
 ghost use Rattle.ejson_value.specs.declared.key.Key.{Key};
@@ -175,7 +176,8 @@ impl Store {
         modifier: &Modifier,
         all: bool,
     ) -> Result<Reply, OpFault>
-        ensures gives { Gives plan_of result (if_listed self.now.names collection.now (update_plan modifier.now (chosen all (matching collection.now selector.now self.now.rows)))) }
+        ensures gives { Gives plan_of result
+            (if_listed self.now.names collection.now (update_plan modifier.now (chosen all (matching collection.now selector.now self.now.rows)))) }
         ensures fit { IfOk result (λ reply. AreFor self.now.rows reply.changes) }
         ensures stays { IfOk result (λ reply. length (after self.now.rows reply.changes) ≡ length self.now.rows) }
     {
@@ -230,7 +232,8 @@ impl Store {
     fn make_if_room(&mut self, changes: &Changes, room: u64) -> Result<(), OpFault>
         requires fit { AreFor self.old.rows changes.now }
         requires stays { length (after self.old.rows changes.now) ≡ length self.old.rows }
-        ensures gives { Gives (λ u. self.new.rows) result (if is_full (after self.old.rows changes.now) changes.now room then Err Full else Ok (after self.old.rows changes.now)) }
+        ensures gives { Gives (λ u. self.new.rows) result
+            (if is_full (after self.old.rows changes.now) changes.now room then Err Full else Ok (after self.old.rows changes.now)) }
         ensures names { self.new.names ≡ self.old.names }
         ensures err { OnErr result (self.new ≡ self.old) }
     {
@@ -244,7 +247,8 @@ impl Store {
     }
 
     fn remove(&mut self, collection: &Text, selector: &Selector) -> Result<Reply, OpFault>
-        ensures gives { Gives (λ reply. applied_as self.new.rows reply) result (if_listed self.old.names collection.now (Ok (done self.old.rows (remove_plan (matching collection.now selector.now self.old.rows))))) }
+        ensures gives { Gives (λ reply. applied_as self.new.rows reply) result
+            (if_listed self.old.names collection.now (Ok (done self.old.rows (remove_plan (matching collection.now selector.now self.old.rows))))) }
         ensures names { self.new.names ≡ self.old.names }
         ensures refused { OnErr result (self.new ≡ self.old) }
     {
@@ -296,7 +300,8 @@ impl Store {
         requires { bytes_of self.old.rows + size (document doc.now) < 2 ^ 64 }
         ensures told { IfOk result (λ new. new ≡ is_none (at key_cmp self.old.rows key)) }
         ensures names { self.new.names ≡ self.old.names }
-        ensures put { OnOk result (self.new.rows ≡ if is_none (at key_cmp self.old.rows key) then set key_cmp self.old.rows key (Some doc.now) else self.old.rows) }
+        ensures put { OnOk result
+            (self.new.rows ≡ if is_none (at key_cmp self.old.rows key) then set key_cmp self.old.rows key (Some doc.now) else self.old.rows) }
         ensures err { OnErr result (self.new ≡ self.old) }
     {
         self.contents.known();
@@ -315,7 +320,8 @@ impl Store {
         doc: &Doc,
         room: u64,
     ) -> Result<Reply, OpFault>
-        ensures gives { Gives (λ reply. applied_as self.new.rows reply) result (applied self.old.names self.old.rows (Insert collection.now id.now doc.now) room) }
+        ensures gives { Gives (λ reply. applied_as self.new.rows reply) result
+            (applied self.old.names self.old.rows (Insert collection.now id.now doc.now) room) }
         ensures names { self.new.names ≡ self.old.names }
         ensures refused { OnErr result (self.new ≡ self.old) }
     {
@@ -343,7 +349,8 @@ impl Store {
         all: bool,
         room: u64,
     ) -> Result<Reply, OpFault>
-        ensures gives { Gives (λ reply. applied_as self.new.rows reply) result (applied self.old.names self.old.rows (Update collection.now selector.now modifier.now all) room) }
+        ensures gives { Gives (λ reply. applied_as self.new.rows reply) result
+            (applied self.old.names self.old.rows (Update collection.now selector.now modifier.now all) room) }
         ensures names { self.new.names ≡ self.old.names }
         ensures refused { OnErr result (self.new ≡ self.old) }
     {

@@ -1,5 +1,6 @@
 -- When each status of a run comes, and what was read and written then.
-use Rattle.std.specs.Prelude.{◌≡◌, ◌≤◌, ℕ, List, [], ◌∷◌, take, Bool, true, false, Option, None, Some, is_some, IfSome, codes, option_and_then, option_map, if◌then◌else◌}
+use Rattle.std.specs.Prelude.{◌≡◌, ◌≤◌, ℕ, List, [], ◌∷◌, take, Bool, true, false, Option, None, Some, is_some, IfSome, codes, option_and_then}
+use Rattle.std.specs.Prelude.{option_map, if◌then◌else◌}
 use Rattle.value_model.specs.Size.{is_name}
 use Rattle.io_edge.specs.Outside.{Grows}
 use Rattle.replay_core.specs.checking.Input.{IsWithin, IsTooLong}
@@ -78,7 +79,8 @@ abbrev pub IsTrueRunOf : Command → List ℕ → Type 0
 IsTrueRunOf command.Replay input = IsTrueReplay input
 IsTrueRunOf _ input = Unit {0}
 
--- The input was read whole and is within the limits; whether a line is bad is so; the whole output was written; and what holds of a run of the command holds of this one.
+-- The input was read whole and is within the limits; whether a line is bad is so; the whole output was written; and what holds of a run of the
+-- command holds of this one.
 -- Where source and sink tell what they hold.
 pub record Ran (command : Command) (bad : Bool) (left rest written now : Option (List ℕ)) : Type 0 where
   pub within : IfSome left IsWithin

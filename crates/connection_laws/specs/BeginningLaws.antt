@@ -1,5 +1,6 @@
 -- Laws: A call that the store begins, and a step of a run.
-use Rattle.std.specs.Prelude.{◌≡◌, ℕ, List, [], ◌∷◌, ◌++◌, length, Bool, true, false, cond, not, ◌&&◌, Option, None, Some, is_some, option_map, Result, Ok, Err, OnOk, IfOk, if◌then◌else◌, refl}
+use Rattle.std.specs.Prelude.{◌≡◌, ℕ, List, [], ◌∷◌, ◌++◌, length, Bool, true, false, cond, not, ◌&&◌, Option, None, Some, is_some, option_map}
+use Rattle.std.specs.Prelude.{Result, Ok, Err, OnOk, IfOk, if◌then◌else◌, refl}
 use Rattle.std.specs.List.{list_any}
 use Rattle.std.proofs.Common.{ap, ap₂, sym, ◌∙◌}
 use Rattle.std.proofs.Math.Seq.{take-length}
@@ -103,7 +104,8 @@ module _ (app : App) (name : List ℕ) (history : List Entry) (old : AConnection
   told_none : (b : Bool) → on ≡ b → next ≡ stepped_to app history n k b → None ≡ told_by app history n k next b →
       (outcome app history (as_conn old) (act.Step k) ≡ answer.Idle) × (next ≡ machine app history)
   told_none true is to told =
-      let there : is_some (status_in (held_by next) n k) ≡ true = ap (λ (m : MachineState). is_some (status_in (held_by m) n k)) to ∙ still_there app history n k is in
+      let there : is_some (status_in (held_by next) n k) ≡ true = ap (λ (m : MachineState). is_some (status_in (held_by m) n k)) to
+      ∙ still_there app history n k is in
       absurd (true≢false (sym there ∙ sym (ap is_some told)))
   told_none false is to told = (idle_of app history (as_conn old) (act.Step k) is, to)
 
@@ -134,11 +136,13 @@ module _ (app : App) (name : List ℕ) (history : List Entry) (old : AConnection
     pub begin_begun : is_some (status_in (held_in app history) old.session.carried.number b.k) ≡ true →
         outcome app history (as_conn old) act.Begin ≡ answer.Idle
     begin_begun run = none_unbegun
-        (blocking_is (Some b) blocks ∙ ap (λ x. cond x None (Some b)) (or_left (is_some (status_in (held_in app history) old.session.carried.number b.k)) (is_kept b.k old.kept) run))
+        (blocking_is (Some b) blocks ∙ ap (λ x. cond x None (Some b))
+        (or_left (is_some (status_in (held_in app history) old.session.carried.number b.k)) (is_kept b.k old.kept) run))
 
     pub begin_refused : is_kept b.k old.kept ≡ true → outcome app history (as_conn old) act.Begin ≡ answer.Idle
     begin_refused kept = none_unbegun
-        (blocking_is (Some b) blocks ∙ ap (λ x. cond x None (Some b)) (or_right (is_some (status_in (held_in app history) old.session.carried.number b.k)) (is_kept b.k old.kept) kept))
+        (blocking_is (Some b) blocks ∙ ap (λ x. cond x None (Some b))
+        (or_right (is_some (status_in (held_in app history) old.session.carried.number b.k)) (is_kept b.k old.kept) kept))
 
     module _ (there : old.is_dropped ≡ false) (run : is_some (status_in (held_in app history) old.session.carried.number b.k) ≡ false)
         (free : is_kept b.k old.kept ≡ false) (seed : Value) (same : view seed ≡ b.seed) (next : MachineState) where
@@ -178,9 +182,11 @@ module _ (app : App) (name : List ℕ) (history : List Entry) (old : AConnection
           IsDone app name history act.Begin old old × (next ≡ machine app (history ++ entries app history (as_conn old) act.Begin))
       begun_made true is e = absurd (err_ok (full_with (machine app history) b.method b.params (view seed)) next e)
       begun_made false is e =
-          let to : with_entry (machine app history) (entry.Begin old.session.carried.number b.k b.method b.params seed) ≡ next = same_ok (with_entry (machine app history) (entry.Begin old.session.carried.number b.k b.method b.params seed)) next e in (
+          let to : with_entry (machine app history) (entry.Begin old.session.carried.number b.k b.method b.params seed) ≡ next =
+          same_ok (with_entry (machine app history) (entry.Begin old.session.carried.number b.k b.method b.params seed)) next e in (
             record { can = begin_can; does = λ j. record (as_conn old) { kept = sym (kept_is false is) j }; stays = p },
-            sym to ∙ (ap (λ (x : Entry). machine app (history ++ x ∷ [])) entry_is ∙ ap (λ (es : List Entry). machine app (history ++ es)) (sym (begun_is false is))),
+            sym to ∙ (ap (λ (x : Entry). machine app (history ++ x ∷ [])) entry_is
+                ∙ ap (λ (es : List Entry). machine app (history ++ es)) (sym (begun_is false is))),
           )
 
       refusal_made : (many kept : ℕ) (full : Bool) → is_refused app history b ≡ full → begin_gives full ≡ Err (fault.Full many kept) →

@@ -81,7 +81,8 @@ AreKeptOf [] (i ∷ items) = ⊥
 AreKeptOf (s ∷ ss) [] = ⊥
 AreKeptOf (s ∷ ss) (i ∷ items) = IsKeptOf s i × AreKeptOf ss items
 
--- The client has this name, and it and its session are of this application; the session stands for the texts that it took, the moments of this history and the texts that were sent.
+-- The client has this name, and it and its session are of this application; the session stands for the texts that it took, the moments of this
+-- history and the texts that were sent.
 pub record IsConnection (app : App) (name : List ℕ) (history : List Entry) (x : AConnection) : Type 0 where
   pub stubs : x.own.app ≡ app
   pub named : x.own.name ≡ name

@@ -1,5 +1,6 @@
 -- What a session learns of a call.
-use Rattle.std.specs.Prelude.{◌≡◌, ℕ, ◌≤◌, List, [], length, map, Bool, true, false, cond, ◌&&◌, ◌||◌, nat_le, Option, None, Some, IfSome, is_some, option_map, Ok, Err, refl}
+use Rattle.std.specs.Prelude.{◌≡◌, ℕ, ◌≤◌, List, [], length, map, Bool, true, false, cond, ◌&&◌, ◌||◌, nat_le, Option, None, Some, IfSome, is_some}
+use Rattle.std.specs.Prelude.{option_map, Ok, Err, refl}
 use Rattle.std.proofs.Common.{ap, ap₂, sym, subst, ◌∙◌}
 use Rattle.std.proofs.lemmas.Bool.{and_parts, le-leb, eqb-true, eq-eqb}
 use Rattle.merge_model.specs.Publishing.{apply}
@@ -90,7 +91,8 @@ module _ (app : App) (name : List ℕ) (history : List Entry) (old : AConnection
       (news_by (state_in (as_conn old)) k (status_at (programs app) history place old.session.carried.number k)) None
   by_status =
       ap (λ b. cond b (option_map (λ (r : Refusal). item.refused k r.at) old.kept)
-      (cond (nat_le place (length history)) (news_by (state_in (as_conn old)) k (status_at (programs app) history place old.session.carried.number k)) None)) other
+      (cond (nat_le place (length history))
+      (news_by (state_in (as_conn old)) k (status_at (programs app) history place old.session.carried.number k)) None)) other
 
   nothing_learnt : learnt app history (as_conn old) k place ≡ None → outcome app history (as_conn old) (act.Learn k place) ≡ answer.Idle
   nothing_learnt e = idle_of app history (as_conn old) (act.Learn k place)
@@ -104,7 +106,8 @@ module _ (app : App) (name : List ℕ) (history : List Entry) (old : AConnection
   pub learn_unbegun : status_at (programs app) history place old.session.carried.number k ≡ None →
       outcome app history (as_conn old) (act.Learn k place) ≡ answer.Idle
   learn_unbegun none = nothing_learnt
-      (by_status ∙ (ap (λ (o : Option Status). cond (nat_le place (length history)) (news_by (state_in (as_conn old)) k o) None) none ∙ either_none (nat_le place (length history))))
+      (by_status ∙ (ap (λ (o : Option Status). cond (nat_le place (length history)) (news_by (state_in (as_conn old)) k o) None) none
+      ∙ either_none (nat_le place (length history))))
 
   module _ (status : Status) (le : place ≤ length history) (is : status_at (programs app) history place old.session.carried.number k ≡ Some status)
       (s : ASession) where
@@ -143,17 +146,21 @@ module _ (app : App) (name : List ℕ) (history : List Entry) (old : AConnection
         Means old.received (moments app old.session.carried.number history) old.sent s → IsMade app name history (act.Learn k place) old (with_session s old)
     learnt_made run news (Some end) ends l m =
         learns_made (item.finished k end.at) (map (result_by end.outcome) (id_at k old.session.carried.own.methods)) refl l m
-        (there_is ∙ (ap (λ b. cond b (news_of old.session.carried.own k status.unblocked status.ended) None) (same_running (phase_at k old.session.carried.own.methods) ∙ run) ∙ ap (news_of old.session.carried.own k status.unblocked) ends))
+        (there_is ∙ (ap (λ b. cond b (news_of old.session.carried.own k status.unblocked status.ended) None)
+        (same_running (phase_at k old.session.carried.own.methods) ∙ run) ∙ ap (news_of old.session.carried.own k status.unblocked) ends))
     learnt_made run news None ends l m =
-        let blocks : (status.unblocked && is_blocked_by k old.session.carried.own.blocking) ≡ true = sym (ap (λ (o : Option End). is_some o || (status.unblocked && is_blocked_by k old.session.carried.own.blocking)) ends) ∙ news in
+        let blocks : (status.unblocked && is_blocked_by k old.session.carried.own.blocking) ≡ true =
+        sym (ap (λ (o : Option End). is_some o || (status.unblocked && is_blocked_by k old.session.carried.own.blocking)) ends) ∙ news in
         learns_made (item.unblocked k) [] refl l m
-        (there_is ∙ (ap (λ b. cond b (news_of old.session.carried.own k status.unblocked status.ended) None) (same_running (phase_at k old.session.carried.own.methods) ∙ run)
+        (there_is ∙ (ap (λ b. cond b (news_of old.session.carried.own k status.unblocked status.ended) None)
+        (same_running (phase_at k old.session.carried.own.methods) ∙ run)
         ∙ (ap (news_of old.session.carried.own k status.unblocked) ends ∙ ap (λ b. cond b (Some (item.unblocked k)) None) blocks)))
 
     pub learn_makes : (result : Outcome) → Learns k status old.session s result → Makes app name history (act.Learn k place) old (with_session s old) result
     learn_makes (Ok u) r =
         let C = moments app old.session.carried.number history in
-        let parts = and_parts (is_at_work old.session) (runs (phase_at k old.session.carried.own.methods) && has_news status (is_blocked_by k old.session.carried.own.blocking)) r.enabled.enabled in
+        let parts = and_parts (is_at_work old.session) (runs (phase_at k old.session.carried.own.methods)
+        && has_news status (is_blocked_by k old.session.carried.own.blocking)) r.enabled.enabled in
         let both = and_parts (runs (phase_at k old.session.carried.own.methods)) (has_news status (is_blocked_by k old.session.carried.own.blocking)) parts.1 in
         made app name history (act.Learn k place) old (with_session s old) p (can_learn k status old.session) learn_enabled refl refl (Ok u) r.enabled tt
         (learnt_made both.0 both.1 status.ended refl r.done (r.keeps old.received C old.sent p.means status_known))
@@ -174,7 +181,8 @@ module _ (app : App) (name : List ℕ) (history : List Entry) (old : AConnection
   refused_is =
       ap (λ (o : Option Refusal). cond (is_kept k o) (option_map (λ (x : Refusal). item.refused k x.at) o)
       (cond (nat_le place (length history)) (news_by (state_in (as_conn old)) k (status_at (programs app) history place old.session.carried.number k)) None)) is
-      ∙ ap (λ b. cond b (Some (item.refused k r.at)) (cond (nat_le place (length history)) (news_by (state_in (as_conn old)) k (status_at (programs app) history place old.session.carried.number k)) None)) its
+      ∙ ap (λ b. cond b (Some (item.refused k r.at)) (cond (nat_le place (length history))
+      (news_by (state_in (as_conn old)) k (status_at (programs app) history place old.session.carried.number k)) None)) its
 
   refused_at : IsRefusedAt (moment_at (moments app old.session.carried.number history) r.at) k old.session.carried.own.blocking
   refused_at =
@@ -187,13 +195,15 @@ module _ (app : App) (name : List ℕ) (history : List Entry) (old : AConnection
   refuse_enabled : enabled app history (as_conn old) (act.Learn k place) ≡ can_refuse k old.session
   refuse_enabled =
       ap₂ (λ (w b : Bool). w && b) (at_work_is app name history old p)
-      (ap is_some refused_is ∙ sym (blocks_by (moment_at (moments app old.session.carried.number history) r.at) k k old.session.carried.own.blocking refused_at refl))
+      (ap is_some refused_is
+      ∙ sym (blocks_by (moment_at (moments app old.session.carried.number history) r.at) k k old.session.carried.own.blocking refused_at refl))
 
   pub refuse_makes : (result : Outcome) → Refuses k r.at old.session s result → Makes app name history (act.Learn k place) old (refusal_learnt s old) result
   refuse_makes (Ok u) q =
       let i = item.refused k r.at in
       let words = own_messages [] old.session.carried.number old.session.carried.own i in
-      let m : Means old.received (moments app old.session.carried.number history) old.sent s = q.keeps old.received (moments app old.session.carried.number history) old.sent p.means refused_at in
+      let m : Means old.received (moments app old.session.carried.number history) old.sent s =
+      q.keeps old.received (moments app old.session.carried.number history) old.sent p.means refused_at in
       made app name history (act.Learn k place) old (refusal_learnt s old) p (can_refuse k old.session) refuse_enabled refl refl (Ok u) q.enabled tt (record {
         does =
             learnt_does app name history old p s i words refl q.done m None

@@ -1,5 +1,6 @@
 -- The acts that move texts between a client and its session.
-use Rattle.std.specs.Prelude.{◌≡◌, ◌⊎◌, ℕ, List, [], ◌∷◌, ◌++◌, length, Bool, true, false, not, ◌&&◌, nat_lt, nat_le, Option, None, Some, is_none, is_some, Result, Ok, Err, refl}
+use Rattle.std.specs.Prelude.{◌≡◌, ◌⊎◌, ℕ, List, [], ◌∷◌, ◌++◌, length, Bool, true, false, not, ◌&&◌, nat_lt, nat_le, Option, None, Some, is_none}
+use Rattle.std.specs.Prelude.{is_some, Result, Ok, Err, refl}
 use Rattle.std.proofs.Common.{ap, ap₂, sym, subst, ◌∙◌, inl, inr}
 use Rattle.std.proofs.lemmas.Bool.{and_parts}
 use Rattle.app_model.specs.App.{App}
@@ -73,7 +74,8 @@ pub up_none : (app : App) (history : List Entry) (old : AConnection) (own : Own)
     outcome app history (as_conn old) act.Up ≡ answer.Idle
 up_none app history old own s =
     idle_of app history (as_conn old) act.Up
-    (ap (λ (ts : List (List ℕ)). not old.is_dropped && has_some ts && nat_lt (length old.upward) link_limit) s.0 ∙ both_false (not old.is_dropped) (nat_lt (length old.upward) link_limit))
+    (ap (λ (ts : List (List ℕ)). not old.is_dropped && has_some ts && nat_lt (length old.upward) link_limit) s.0
+    ∙ both_false (not old.is_dropped) (nat_lt (length old.upward) link_limit))
 
 pub up_full : (app : App) (history : List Entry) (old : AConnection) → nat_lt (length old.upward) link_limit ≡ false →
     outcome app history (as_conn old) act.Up ≡ answer.Idle
@@ -157,7 +159,8 @@ module _ (app : App) (name : List ℕ) (history : List Entry) (old : AConnection
 
 pub take_none : (app : App) (history : List Entry) (old : AConnection) → old.downward ≡ [] → outcome app history (as_conn old) act.Take ≡ answer.Idle
 take_none app history old none = idle_of app history (as_conn old) act.Take
-    (ap (λ (down : List (List ℕ)). not old.is_dropped && has_some down && can_take old.own.client) none ∙ both_false (not old.is_dropped) (can_take old.own.client))
+    (ap (λ (down : List (List ℕ)). not old.is_dropped && has_some down && can_take old.own.client) none
+    ∙ both_false (not old.is_dropped) (can_take old.own.client))
 
 -- ---- a client that is gone
 

@@ -103,5 +103,6 @@ module _ (app : App) (name : List ℕ) (history : List Entry) (received : List (
     kinds =
         subst (λ (xs : List Item). AreKeptOf s.carried.journal xs) (sym o.items)
         (subst (λ (ss : List Stored). AreKeptOf ss (items_of old.received old.session.carried ++ i ∷ [])) (sym o.journal)
-        (kept-append old.session.carried.journal (items_of old.received old.session.carried) (kept_as place i) i p.kinds (record { place = place; is = refl })));
+        (kept-append old.session.carried.journal (items_of old.received old.session.carried)
+        (kept_as place i) i p.kinds (record { place = place; is = refl })));
   }

@@ -60,9 +60,11 @@ lines_are C n past st (s ∷ ss) (i ∷ items) k =
     let ms = messages_of C n past st i in
     let rest = out_from C n (call_of C st i ∷ past) (after st i) items in
     let value : kept_value s (shown_id i) ≡ item_value i = ap (λ (x : Stored). kept_value x (shown_id i)) k.0.is ∙ value_is k.0.place i in
-    ap₂ (λ (v : Val) (ls : List Line). value_line v ∷ (ls ++ kept_lines ss (map shown_id items) (counts_from C n (call_of C st i ∷ past) (after st i) items) (drop (length ms) (map server_text (ms ++ rest))))) value (texts_taken ms rest)
+    ap₂ (λ (v : Val) (ls : List Line). value_line v ∷ (ls ++ kept_lines ss (map shown_id items)
+    (counts_from C n (call_of C st i ∷ past) (after st i) items) (drop (length ms) (map server_text (ms ++ rest))))) value (texts_taken ms rest)
     ∙ ap (λ (ls : List Line). value_line (item_value i) ∷ (map (λ m. out_line (server_text m)) ms ++ ls))
-    (ap (kept_lines ss (map shown_id items) (counts_from C n (call_of C st i ∷ past) (after st i) items)) (texts_left ms rest) ∙ lines_are C n (call_of C st i ∷ past) (after st i) ss items k.1)
+    (ap (kept_lines ss (map shown_id items) (counts_from C n (call_of C st i ∷ past) (after st i) items)) (texts_left ms rest)
+    ∙ lines_are C n (call_of C st i ∷ past) (after st i) ss items k.1)
 
 -- what is printed from what is kept are the lines of the session's journal
 pub journal_is : (app : App) (name : List ℕ) (history : List Entry) (x : AConnection) → IsConnection app name history x →
@@ -75,7 +77,8 @@ journal_is app name history x p =
     let head = value_line (worded (codes "journal") (text (session_name n) ∷ [])) in
     ap (λ (ls : List Line). head ∷ ls)
     (ap₂ (λ (ids : List (Option (List ℕ))) (texts : List (List ℕ)). kept_lines s.carried.journal ids s.carried.counts texts) p.means.ids p.means.stands.texts
-    ∙ (ap (λ (counts : List ℕ). kept_lines s.carried.journal (map shown_id items) counts (map server_text (out_from C n [] started items))) p.means.stands.counts
+    ∙ (ap (λ (counts : List ℕ). kept_lines s.carried.journal (map shown_id items) counts (map server_text (out_from C n [] started items)))
+    p.means.stands.counts
     ∙ lines_are C n [] started s.carried.journal items p.kinds))
 
 -- ---- what a client has

@@ -25,11 +25,13 @@ use Rattle.world_invariant_laws.specs.world_model.declared.events.Act.TheVariant
 use Rattle.world_invariant_laws.specs.world_model.declared.events.Answer.TheVariants as answer
 use Rattle.world_invariant_laws.specs.world_model.Store.{moments}
 use Rattle.world_invariant_laws.specs.world_model.Conn.{is_at_work as is_at_work_of, has_some}
-use Rattle.world_invariant_laws.specs.world_model.Acts.{with_item, received_as, receives, handles, is_crowded_out, is_crowded_by, enabled, is_queue_full, outcome}
+use Rattle.world_invariant_laws.specs.world_model.Acts.{with_item, received_as, receives, handles, is_crowded_out, is_crowded_by, enabled}
+use Rattle.world_invariant_laws.specs.world_model.Acts.{is_queue_full, outcome}
 use Rattle.connection_laws.specs.Connection.{AConnection, waiting_of, as_conn, AreKeptOf, IsConnection}
 use Rattle.connection_laws.specs.Acting.{with_session, taken_in, Makes}
 use Rattle.connection_laws.specs.Standing.{IsMade}
-use Rattle.connection_laws.specs.StandingLaws.{queue_more, and_assoc, state_is, at_work_is, full_is, crowded_is, waits_is, idle_of, full_of, crowded_of, done_of, made}
+use Rattle.connection_laws.specs.StandingLaws.{queue_more, and_assoc, state_is, at_work_is, full_is, crowded_is, waits_is, idle_of, full_of}
+use Rattle.connection_laws.specs.StandingLaws.{crowded_of, done_of, made}
 use Rattle.connection_laws.specs.OneMore.{HasOne, has_one, one_more, one_stays}
 
 and_true : (b : Bool) → (b && true) ≡ b
@@ -66,7 +68,8 @@ module _ (app : App) (name : List ℕ) (history : List Entry) (old : AConnection
       HasOne app history (old.received ++ t ∷ []) old.session.carried.taken i old s
   answered_one i is keeps a =
       let o = old.session.carried in
-      let connected : is_connected_by false old.received ≡ o.own.connected = p.means.stands.answers.connected ∙ ap (λ (st : State). st.connected) (sym p.means.stands.own) in
+      let connected : is_connected_by false old.received ≡ o.own.connected = p.means.stands.answers.connected
+      ∙ ap (λ (st : State). st.connected) (sym p.means.stands.own) in
       let now : taken_text (is_connected_by false old.received) t ≡ at_once i = ap (λ c. taken_text c t) connected ∙ is in
       let reads : resolved o.app o.number (old.received ++ t ∷ []) (kept_as o.taken i) ≡ i =
       ap (λ n. resolved o.app o.number (old.received ++ t ∷ []) (kept_as n i)) p.means.stands.count
@@ -122,7 +125,8 @@ module _ (app : App) (name : List ℕ) (history : List Entry) (old : AConnection
         (recv_crowded ∙ taken_free read r.done);
     does =
         taken_does read refl r.keeps r.done
-        ∙ (ap (λ (st : State). received_as app history (record (as_conn old) { upward = ts; received = old.received ++ t ∷ [] }) (length t) (taken_text st.connected t)) (sym (state_is app name history old p))
+        ∙ (ap (λ (st : State). received_as app history (record (as_conn old) { upward = ts; received = old.received ++ t ∷ [] }) (length t)
+        (taken_text st.connected t)) (sym (state_is app name history old p))
         ∙ ap (receives app history (as_conn old)) (sym lies));
     stays = taken_stays read refl r.keeps r.done;
   }
@@ -158,7 +162,8 @@ module _ (app : App) (name : List ℕ) (history : List Entry) (old : AConnection
   handled_made (place ∷ places) (m ∷ ms) (n ∷ bytes) ep em eb keeps h =
       let o = old.session.carried in
       let i = item_for o.app o.number o.own m in
-      let from : AreFrom old.received (place ∷ places) (m ∷ ms) = subst (λ (ps : List ℕ). AreFrom old.received ps (m ∷ ms)) ep (subst (λ (xs : List ClientMessage). AreFrom old.received old.session.places xs) em p.means.from) in
+      let from : AreFrom old.received (place ∷ places) (m ∷ ms) = subst (λ (ps : List ℕ). AreFrom old.received ps (m ∷ ms)) ep
+      (subst (λ (xs : List ClientMessage). AreFrom old.received old.session.places xs) em p.means.from) in
       let reads : resolved o.app o.number old.received (kept_as place i) ≡ i = read_back o.app o.number old.received place o.own m from.0.waits from.0.says in
       let one : HasOne app history old.received place i old s =
       has_one app history old.received place i old s (shown_id i) (plain_call i) (own_after o.own i)
@@ -171,7 +176,8 @@ module _ (app : App) (name : List ℕ) (history : List Entry) (old : AConnection
       record {
         does =
             one_more app name history old.received place i old s p one old.upward (waiting_of ms bytes) old.kept (ap₂ waiting_of waiting left)
-            ∙ (ap₂ (λ (a : App) (st : State). with_item app history (record (as_conn old) { queue = waiting_of ms bytes }) (item_for a o.number st m)) p.served (sym (state_is app name history old p))
+            ∙ (ap₂ (λ (a : App) (st : State). with_item app history (record (as_conn old) { queue = waiting_of ms bytes }) (item_for a o.number st m))
+            p.served (sym (state_is app name history old p))
             ∙ ap (handles app history (as_conn old)) (sym queue));
         stays = one_stays app name history old.received place i old s p one old.upward old.kept (ap length left ∙ (rest ∙ ap length (sym waiting)));
       }

@@ -1,5 +1,6 @@
 -- A subscription that is loaded, and one that goes on.
-use Rattle.std.specs.Prelude.{◌≡◌, ℕ, zero, suc, ◌+◌, ◌<◌, ◌≤◌, ◌==◌, List, [], ◌∷◌, length, take, Bool, true, false, cond, ◌&&◌, ◌||◌, nat_lt, nat_le, Option, None, Some, is_some, Ok, Err, refl}
+use Rattle.std.specs.Prelude.{◌≡◌, ℕ, zero, suc, ◌+◌, ◌<◌, ◌≤◌, ◌==◌, List, [], ◌∷◌, length, take, Bool, true, false, cond, ◌&&◌, ◌||◌, nat_lt}
+use Rattle.std.specs.Prelude.{nat_le, Option, None, Some, is_some, Ok, Err, refl}
 use Rattle.std.proofs.Common.{ap, ap₂, sym, subst, ◌∙◌, arith}
 use Rattle.std.proofs.lemmas.Bool.{ne_eqb, le-leb, lt-leb, lt-ltb}
 use Rattle.map_model.specs.Changes.{Leads}
@@ -67,13 +68,15 @@ module _ (app : App) (name : List ℕ) (history : List Entry) (old : AConnection
   pub advance_unloaded : cursor_of sub old.session.carried.own.subs ≡ None → outcome app history (as_conn old) (act.Advance sub count) ≡ answer.Idle
   advance_unloaded none =
       idle_of app history (as_conn old) (act.Advance sub count)
-      (ap (λ (o : Option ℕ). is_at_work_of (as_conn old) && may_advance (length history) count o) (ap (λ (st : State). cursor_of sub st.subs) (state_is app name history old p) ∙ none) ∙ right_false (is_at_work_of (as_conn old)))
+      (ap (λ (o : Option ℕ). is_at_work_of (as_conn old) && may_advance (length history) count o)
+      (ap (λ (st : State). cursor_of sub st.subs) (state_is app name history old p) ∙ none) ∙ right_false (is_at_work_of (as_conn old)))
 
   pub advance_past : (start : ℕ) → cursor_of sub old.session.carried.own.subs ≡ Some start → nat_le (start + count) (length history) ≡ false →
       outcome app history (as_conn old) (act.Advance sub count) ≡ answer.Idle
   advance_past start is past =
       idle_of app history (as_conn old) (act.Advance sub count)
-      (ap (λ (o : Option ℕ). is_at_work_of (as_conn old) && may_advance (length history) count o) (ap (λ (st : State). cursor_of sub st.subs) (state_is app name history old p) ∙ is)
+      (ap (λ (o : Option ℕ). is_at_work_of (as_conn old) && may_advance (length history) count o)
+      (ap (λ (st : State). cursor_of sub st.subs) (state_is app name history old p) ∙ is)
       ∙ (ap (λ b. is_at_work_of (as_conn old) && (nat_lt 0 count && b)) past
       ∙ (ap (λ b. is_at_work_of (as_conn old) && b) (right_false (nat_lt 0 count)) ∙ right_false (is_at_work_of (as_conn old)))))
 
@@ -89,7 +92,8 @@ module _ (app : App) (name : List ℕ) (history : List Entry) (old : AConnection
       does_of app history (as_conn old) a ≡ with_item app history (as_conn old) i →
       HasDone 0 i call old.session s → Waits old.session s → Means old.received C old.sent s → IsMade app name history a old (with_session s old)
   shown_made a i call reads is done waits m =
-      let one : HasOne app history old.received 0 i old s = has_one app history old.received 0 i old s (shown_id i) call (own_after old.session.carried.own i) (own_messages [] old.session.carried.number old.session.carried.own i) done refl reads m in
+      let one : HasOne app history old.received 0 i old s = has_one app history old.received 0 i old s (shown_id i) call
+      (own_after old.session.carried.own i) (own_messages [] old.session.carried.number old.session.carried.own i) done refl reads m in
       record {
         does = one_more app name history old.received 0 i old s p one old.upward (as_conn old).queue old.kept
             (ap₂ waiting_of waits.waiting waits.bytes) ∙ sym is;
@@ -114,7 +118,8 @@ module _ (app : App) (name : List ℕ) (history : List Entry) (old : AConnection
         Loads sub place rows old.session s result → Makes app name history (act.Load sub place) old (with_session s old) result
     load_makes rows le is (Ok u) r =
         made app name history (act.Load sub place) old (with_session s old) p (can_load sub place old.session) (load_enabled le) refl refl (Ok u) r.enabled tt
-        (shown_made (act.Load sub place) (item.load sub place) (apply sub (news_of r.done.answer)) refl refl r.done.done r.done.waits (r.keeps old.received C old.sent p.means (snapshot rows le is)))
+        (shown_made (act.Load sub place) (item.load sub place) (apply sub (news_of r.done.answer)) refl refl r.done.done r.done.waits
+        (r.keeps old.received C old.sent p.means (snapshot rows le is)))
     load_makes rows le is (Err e) r = made app name history (act.Load sub place) old (with_session s old) p (can_load sub place old.session)
         (load_enabled le) refl refl (Err e) tt r.cause tt
 
@@ -148,14 +153,17 @@ module _ (app : App) (name : List ℕ) (history : List Entry) (old : AConnection
     batch start changes is le made_by =
         let n = old.session.carried.number in
         let before : rows_at C start ≡ (held_at (programs app) history start).rows = ap rows_of (moment_there app n history start (omega (arith, le))) in
-        let later : rows_at C (start + count) ≡ (held_at (programs app) history (start + count)).rows = ap rows_of (moment_there app n history (start + count) le) in
+        let later : rows_at C (start + count) ≡ (held_at (programs app) history (start + count)).rows =
+        ap rows_of (moment_there app n history (start + count) le) in
         record {
           from = is;
           within = omega (arith, le, moments_length app n history);
           leads =
               subst (λ (cs : List Change). Leads key_cmp (changes_of cs) (rows_at C start) (rows_at C (start + count))) (sym made_by)
-              (subst (λ (rows : Rows). Leads key_cmp (changes_of (changes_between (programs app) history start count)) rows (rows_at C (start + count))) (sym before)
-              (subst (λ (rows : Rows). Leads key_cmp (changes_of (changes_between (programs app) history start count)) (held_at (programs app) history start).rows rows) (sym later) (between_leads (programs app) history start count)));
+              (subst (λ (rows : Rows).
+              Leads key_cmp (changes_of (changes_between (programs app) history start count)) rows (rows_at C (start + count))) (sym before)
+              (subst (λ (rows : Rows). Leads key_cmp (changes_of (changes_between (programs app) history start count))
+              (held_at (programs app) history start).rows rows) (sym later) (between_leads (programs app) history start count)));
         }
 
     pub advance_makes : (start : ℕ) (changes : List Change) → cursor_of sub old.session.carried.own.subs ≡ Some start → start + count ≤ length history →
@@ -165,7 +173,8 @@ module _ (app : App) (name : List ℕ) (history : List Entry) (old : AConnection
     advance_makes start changes is le few made_by (Ok u) r =
         made app name history (act.Advance sub count) old (with_session s old) p (can_advance sub count old.session)
         (advance_enabled start is le few) refl refl (Ok u) r.enabled tt
-        (shown_made (act.Advance sub count) (item.advance sub count) (apply sub (news_of r.done.news)) refl refl r.done.done r.done.waits (r.keeps old.received C old.sent p.means (batch start changes is le made_by)))
+        (shown_made (act.Advance sub count) (item.advance sub count) (apply sub (news_of r.done.news)) refl refl r.done.done r.done.waits
+        (r.keeps old.received C old.sent p.means (batch start changes is le made_by)))
     advance_makes start changes is le few made_by (Err e) r =
         made app name history (act.Advance sub count) old (with_session s old) p (can_advance sub count old.session)
         (advance_enabled start is le few) refl refl (Err e) tt r.cause tt
@@ -179,7 +188,8 @@ module _ (app : App) (name : List ℕ) (history : List Entry) (old : AConnection
     feed_makes news f few (Ok u) r =
         made app name history (act.Advance sub count) old (with_session s old) p (can_advance sub count old.session)
         (advance_enabled f.from f.loaded (fed_within f) few) refl refl (Ok u) r.enabled tt
-        (shown_made (act.Advance sub count) (item.advance sub count) (apply sub (news_of news)) refl refl r.done.done r.done.waits (r.keeps old.received C old.sent p.means f))
+        (shown_made (act.Advance sub count) (item.advance sub count) (apply sub (news_of news)) refl refl r.done.done r.done.waits
+        (r.keeps old.received C old.sent p.means f))
     feed_makes news f few (Err e) r =
         made app name history (act.Advance sub count) old (with_session s old) p (can_advance sub count old.session)
         (advance_enabled f.from f.loaded (fed_within f) few) refl refl (Err e) tt r.cause tt
@@ -202,7 +212,8 @@ module _ (app : App) (name : List ℕ) (history : List Entry) (old : AConnection
       let n = old.session.carried.number in
       let C = moments app n history in
       let own = old.session.carried.own in
-      let within : AreWithin (length C) own.subs = subst (λ (st : State). AreWithin (length C) st.subs) (sym p.means.stands.own) (within_from old.session.carried.app n C started (items_of old.received old.session.carried) p.means.stands.fits tt) in
+      let within : AreWithin (length C) own.subs = subst (λ (st : State). AreWithin (length C) st.subs) (sym p.means.stands.own)
+      (within_from old.session.carried.app n C started (items_of old.received old.session.carried) p.means.stands.fits tt) in
       omega (arith, place_within (length C) sub start own.subs within is, moments_length app n history)
 
   -- News with which what its cursors publish there becomes what they publish so many entries on feed it, where none of them has a limit.
@@ -215,7 +226,8 @@ module _ (app : App) (name : List ℕ) (history : List Entry) (old : AConnection
       let C = moments app n history in
       let cursors = cursors_at sub old.session in
       let before : rows_at C start ≡ (held_at (programs app) history start).rows = ap rows_of (moment_there app n history start (omega (arith, le))) in
-      let later : rows_at C (start + count) ≡ (held_at (programs app) history (start + count)).rows = ap rows_of (moment_there app n history (start + count) le) in
+      let later : rows_at C (start + count) ≡ (held_at (programs app) history (start + count)).rows =
+      ap rows_of (moment_there app n history (start + count) le) in
       record {
         from = start;
         loaded = is;
@@ -232,5 +244,6 @@ module _ (app : App) (name : List ℕ) (history : List Entry) (old : AConnection
       IsFeed (moments app old.session.carried.number history) sub count news old.session
   difference_feeds count news le none d =
       leading_feeds count news le none
-      (difference_leads (cursors_at sub old.session) (held_at (programs app) history start).rows (held_at (programs app) history (start + count)).rows (news_of news)
+      (difference_leads (cursors_at sub old.session)
+      (held_at (programs app) history start).rows (held_at (programs app) history (start + count)).rows (news_of news)
       (sorted_held (programs app) (take start history)) (sorted_held (programs app) (take (start + count) history)) d)

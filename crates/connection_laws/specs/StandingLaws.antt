@@ -1,5 +1,6 @@
 -- Laws: The tests of a client with its session are those of the world's definitions, and what is kept of it stays true of a longer history.
-use Rattle.std.specs.Prelude.{◌≡◌, ℕ, suc, ◌+◌, ◌==◌, List, [], ◌∷◌, ◌++◌, length, sum_by, Bool, true, false, cond, not, ◌&&◌, ◌||◌, nat_lt, nat_le, OnOk, IfErr, Ok, Err, refl}
+use Rattle.std.specs.Prelude.{◌≡◌, ℕ, suc, ◌+◌, ◌==◌, List, [], ◌∷◌, ◌++◌, length, sum_by, Bool, true, false, cond, not, ◌&&◌, ◌||◌, nat_lt, nat_le}
+use Rattle.std.specs.Prelude.{OnOk, IfErr, Ok, Err, refl}
 use Rattle.std.proofs.Common.{ap, ap₂, sym, subst, ◌∙◌, arith}
 use Rattle.std.proofs.lemmas.List.{length-map}
 use Rattle.std.proofs.lemmas.List.Sums.{sum_by-cons}
@@ -20,7 +21,8 @@ use Rattle.world_invariant_laws.specs.world_model.declared.events.Act.{Act}
 use Rattle.world_invariant_laws.specs.world_model.declared.events.Answer.TheVariants as answer
 use Rattle.world_invariant_laws.specs.world_model.Store.{held_in, moments}
 use Rattle.world_invariant_laws.specs.world_model.StoreLaws.{later_moments, moments-append}
-use Rattle.world_invariant_laws.specs.world_model.Conn.{Waiting, Conn, new_conn, state_in, is_full as is_full_of, is_crowded as is_crowded_of, is_at_work as is_at_work_of, has_some}
+use Rattle.world_invariant_laws.specs.world_model.Conn.{Waiting, Conn, new_conn, state_in, is_full as is_full_of, is_crowded as is_crowded_of}
+use Rattle.world_invariant_laws.specs.world_model.Conn.{is_at_work as is_at_work_of, has_some}
 use Rattle.world_invariant_laws.specs.world_model.Acts.{enabled, is_of_session, is_queue_full, outcome}
 use Rattle.world_invariant_laws.specs.Moments.{moments_in_order}
 use Rattle.connection_laws.specs.Connection.{AConnection, new_connection, waiting_of, as_conn, IsConnection}
@@ -53,7 +55,8 @@ longer_stays app name history more x p =
       named = p.named;
       served = p.served;
       means = subst (λ (C : List Moment). Means x.received C x.sent x.session) (sym same)
-          (longer_means x.received (moments app n history) (later_moments app n (held_in app history) more) x.sent x.session (subst AreInOrder same (moments_in_order app n (history ++ more))) p.means);
+          (longer_means x.received (moments app n history) (later_moments app n (held_in app history) more) x.sent x.session
+          (subst AreInOrder same (moments_in_order app n (history ++ more))) p.means);
       bytes = p.bytes;
       dropped = p.dropped;
       kinds = p.kinds;

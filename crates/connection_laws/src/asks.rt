@@ -17,7 +17,8 @@ ghost use Rattle.connection_laws.specs.Asks.{IsAsked, MakesAsked};
 
 /// A client asks for a publication.
 pub fn subscriptions_are_asked_for()
-    ensures { (app : App) (name : List ℕ) (history : List Entry) (old : AConnection) (own : Own) (id publication : List ℕ) (params : List Val) (result : Result (Unit {0}) ClientFault) →
+    ensures { (app : App) (name : List ℕ) (history : List Entry) (old : AConnection) (own : Own) (id publication : List ℕ) (params : List Val)
+        (result : Result (Unit {0}) ClientFault) →
         IsConnection app name history old → old.is_dropped ≡ false → Does (can_sub id old.own.client) (subscribed id publication params) old.own own result →
         MakesAsked app name history (ask.subscribe id publication params) old (with_own own old) result }
 {}
@@ -31,7 +32,8 @@ pub fn subscriptions_are_ended()
 
 /// A client calls a method.
 pub fn calls_are_made()
-    ensures { (app : App) (name : List ℕ) (history : List Entry) (old : AConnection) (own : Own) (method : List ℕ) (params : List Val) (result : Result ℕ ClientFault) →
+    ensures { (app : App) (name : List ℕ) (history : List Entry) (old : AConnection) (own : Own) (method : List ℕ) (params : List Val)
+        (result : Result ℕ ClientFault) →
         IsConnection app name history old → old.is_dropped ≡ false → Calls method params old.own own result →
         MakesAsked app name history (ask.call method params) old (with_own own old) result }
 {}
@@ -45,7 +47,8 @@ pub fn texts_are_queued()
 
 /// A client and its session are gone.
 pub fn clients_are_dropped()
-    ensures { (app : App) (name : List ℕ) (history : List Entry) (old : AConnection) (s : ASession) → IsConnection app name history old → old.is_dropped ≡ false → Closes old.session s →
+    ensures { (app : App) (name : List ℕ) (history : List Entry) (old : AConnection) (s : ASession) → IsConnection app name history old →
+        old.is_dropped ≡ false → Closes old.session s →
         IsAsked app name history ask.drop old (gone s old) }
 {}
 

@@ -20,12 +20,14 @@ pub fn new_clients_are_kept()
 
 /// Later entries of the history keep it.
 pub fn later_entries_keep_it()
-    ensures { (app : App) (name : List ℕ) (history more : List Entry) (x : AConnection) → IsConnection app name history x → IsConnection app name (history ++ more) x }
+    ensures { (app : App) (name : List ℕ) (history more : List Entry) (x : AConnection) → IsConnection app name history x →
+        IsConnection app name (history ++ more) x }
 {}
 
 /// A session's subscriptions and calls are those of its journal.
 pub fn sessions_are_seen_as_they_are()
-    ensures { (app : App) (name : List ℕ) (history : List Entry) (x : AConnection) → IsConnection app name history x → state_in (as_conn x) ≡ x.session.carried.own }
+    ensures { (app : App) (name : List ℕ) (history : List Entry) (x : AConnection) → IsConnection app name history x →
+        state_in (as_conn x) ≡ x.session.carried.own }
 {}
 
 /// A value is made again of what contracts see of it.
@@ -36,10 +38,12 @@ pub fn values_are_made_again()
 /// A journal's lines are printed from the items, ids and counts that the session keeps, and from the texts that were sent and
 /// those that are to be.
 pub fn journals_are_printed()
-    ensures { (app : App) (name : List ℕ) (history : List Entry) (x : AConnection) → IsConnection app name history x → kept_journal x ≡ journal_lines app history (as_conn x) }
+    ensures { (app : App) (name : List ℕ) (history : List Entry) (x : AConnection) → IsConnection app name history x →
+        kept_journal x ≡ journal_lines app history (as_conn x) }
 {}
 
 /// The lines that a client prints are the world's.
 pub fn clients_are_printed()
-    ensures { (app : App) (name : List ℕ) (history : List Entry) (x : AConnection) → IsConnection app name history x → line_texts (show_lines x.own) ≡ texts_of (show_values name (as_conn x).client) }
+    ensures { (app : App) (name : List ℕ) (history : List Entry) (x : AConnection) → IsConnection app name history x →
+        line_texts (show_lines x.own) ≡ texts_of (show_values name (as_conn x).client) }
 {}

@@ -7,8 +7,10 @@ use Rattle.value_model.specs.Size.{is_name}
 use Rattle.ejson_codec.specs.WrittenLaws.{name_is}
 use Rattle.ddp_messages.specs.Forms.{id_of, texts_of, value_of, values_of}
 use Rattle.ddp_messages.specs.Fields.{needed, optional, defaulted, name_of, IsNamed}
-use Rattle.ddp_messages.specs.FieldLaws.{map_some, and_then_some, map₂_some, map₃_some, map₄_some, by_test, map₂_from, map₃_from, map₄_from, id_back, texts_back, value_back, values_back}
-use Rattle.ddp_messages.specs.ClientMessage.{ClientMessage, connect, ping, pong, sub, unsub, method, ClientReads, connect_reading, ping_reading, pong_reading, sub_reading, unsub_reading, method_reading, client_named, client_reading}
+use Rattle.ddp_messages.specs.FieldLaws.{map_some, and_then_some, map₂_some, map₃_some, map₄_some, by_test, map₂_from, map₃_from, map₄_from, id_back}
+use Rattle.ddp_messages.specs.FieldLaws.{texts_back, value_back, values_back}
+use Rattle.ddp_messages.specs.ClientMessage.{ClientMessage, connect, ping, pong, sub, unsub, method, ClientReads, connect_reading, ping_reading}
+use Rattle.ddp_messages.specs.ClientMessage.{pong_reading, sub_reading, unsub_reading, method_reading, client_named, client_reading}
 use Rattle.ddp_messages.specs.Written.{client_written}
 use Rattle.ddp_messages.specs.Limits.{ClientKeepsLimits, ClientHasValues}
 
@@ -35,7 +37,8 @@ unsub_ok d m named h = let p = map_some unsub (needed id_of (codes "id") d) m h 
 
 method_ok : (d : Data) (m : ClientMessage) → IsNamed (codes "method") d → method_reading d ≡ Some m → ClientReads d m
 method_ok d m named h =
-    let p = map₄_some method (needed id_of (codes "id") d) (needed as_str (codes "method") d) (defaulted [] values_of (codes "params") d) (optional value_of (codes "randomSeed") d) m h in
+    let p = map₄_some method (needed id_of (codes "id") d) (needed as_str (codes "method") d) (defaulted [] values_of (codes "params") d)
+    (optional value_of (codes "randomSeed") d) m h in
     subst (ClientReads d) p.8 (named, p.4, p.5, p.6, p.7)
 
 named_ok : (d : Data) (name : List ℕ) (m : ClientMessage) → IsNamed name d → client_named d name ≡ Some m → ClientReads d m
@@ -46,7 +49,8 @@ named_ok d name m named h =
     (λ _ h2. by_test (is_name name (codes "pong")) (pong_reading d) _ m (λ is r. pong_ok d m (at (codes "pong") is) r)
     (λ _ h3. by_test (is_name name (codes "sub")) (sub_reading d) _ m (λ is r. sub_ok d m (at (codes "sub") is) r)
     (λ _ h4. by_test (is_name name (codes "unsub")) (unsub_reading d) _ m (λ is r. unsub_ok d m (at (codes "unsub") is) r)
-    (λ _ h5. by_test (is_name name (codes "method")) (method_reading d) None m (λ is r. method_ok d m (at (codes "method") is) r) (λ _ h6. absurd (cc h6)) h5) h4) h3) h2) h1) h
+    (λ _ h5. by_test (is_name name (codes "method")) (method_reading d) None m (λ is r. method_ok d m (at (codes "method") is) r)
+    (λ _ h6. absurd (cc h6)) h5) h4) h3) h2) h1) h
 
 pub client_ok : (d : Data) (m : ClientMessage) → client_reading d ≡ Some m → ClientReads d m
 client_ok d m h = let p = and_then_some (client_named d) (name_of d) m h in named_ok d p.0 m p.1 p.2

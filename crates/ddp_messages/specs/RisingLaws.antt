@@ -23,7 +23,8 @@ use Rattle.ddp_messages.specs.ClientMessage.{ClientMessage}
 use Rattle.ddp_messages.specs.ClientMessage as client
 use Rattle.ddp_messages.specs.ServerMessage.{ServerMessage}
 use Rattle.ddp_messages.specs.ServerMessage as server
-use Rattle.ddp_messages.specs.Written.{Table, with_member, present, text_items, unless_empty, texts_tree, document_tree, fault_table, fault_written, client_table, client_written, data_table, server_table, server_written}
+use Rattle.ddp_messages.specs.Written.{Table, with_member, present, text_items, unless_empty, texts_tree, document_tree, fault_table, fault_written}
+use Rattle.ddp_messages.specs.Written.{client_table, client_written, data_table, server_table, server_written}
 use Rattle.ddp_messages.specs.Limits.{ClientHasValues, DataHasValues, ServerHasValues}
 use Rattle.ddp_messages.specs.TextLaws.{Each, if_mapped}
 

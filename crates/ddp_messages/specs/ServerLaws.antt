@@ -16,8 +16,12 @@ use Rattle.ddp_messages.specs.Wire.{wire_of}
 use Rattle.ddp_messages.specs.WireLaws.{own_only}
 use Rattle.ddp_messages.specs.Forms.{id_of, document_id_of, texts_of, ids_of, value_of, document_of}
 use Rattle.ddp_messages.specs.Fields.{needed, optional, defaulted, name_of, IsNamed}
-use Rattle.ddp_messages.specs.FieldLaws.{map_some, map₂_some, map₃_some, by_test, map₂_from, map₃_from, id_back, ids_back, texts_back, value_back, document_back}
-use Rattle.ddp_messages.specs.ServerMessage.{ServerMessage, connected, failed, ping, pong, nosub, ready, about, finished, updated, refused, unknown, fault_of, HasKey, DataReads, server_names, is_known, ServerReads, key_reading, added_reading, changed_reading, removed_reading, nosub_reading, result_reading, refused_with, error_reading, unknown_unless, server_named, server_reading}
+use Rattle.ddp_messages.specs.FieldLaws.{map_some, map₂_some, map₃_some, by_test, map₂_from, map₃_from, id_back, ids_back, texts_back, value_back}
+use Rattle.ddp_messages.specs.FieldLaws.{document_back}
+use Rattle.ddp_messages.specs.ServerMessage.{ServerMessage, connected, failed, ping, pong, nosub, ready, about, finished, updated, refused, unknown}
+use Rattle.ddp_messages.specs.ServerMessage.{fault_of, HasKey, DataReads, server_names, is_known, ServerReads, key_reading, added_reading}
+use Rattle.ddp_messages.specs.ServerMessage.{changed_reading, removed_reading, nosub_reading, result_reading, refused_with, error_reading}
+use Rattle.ddp_messages.specs.ServerMessage.{unknown_unless, server_named, server_reading}
 use Rattle.ddp_messages.specs.Written.{fault_written, server_written}
 use Rattle.ddp_messages.specs.Limits.{DataKeepsLimits, DataHasValues, ServerKeepsLimits, ServerHasValues}
 
@@ -133,7 +137,8 @@ data_only d (Added key fields) h =
 data_only d (Changed key fields cleared) h =
     to_named d (codes "changed") h.0
     ∙ ap (option_map about)
-    (map₃_from Changed (key_reading d) (defaulted [] document_of (codes "fields") d) (defaulted [] texts_of (codes "cleared") d) key fields cleared (key_only d key h.1) h.2 h.3)
+    (map₃_from Changed (key_reading d) (defaulted [] document_of (codes "fields") d) (defaulted [] texts_of (codes "cleared") d) key fields cleared
+    (key_only d key h.1) h.2 h.3)
 data_only d (Removed key) h = to_named d (codes "removed") h.0 ∙ ap (λ (o : Option Key). option_map about (option_map Removed o)) (key_only d key h.1)
 
 -- a name that no message has

@@ -48,7 +48,8 @@ server_view shape.Unknown = unknown
 abbrev pub fault_made : List ℕ → List ℕ → Option (List ℕ) → List ℕ → Fault
 fault_made code kind message reason = record { code = code; reason = reason }
 
--- The error that an object is: `error` is its code, `errorType` any text, and `reason` and `message` are texts where they are there. A missing reason is the empty text.
+-- The error that an object is: `error` is its code, `errorType` any text, and `reason` and `message` are texts where they are there.
+-- A missing reason is the empty text.
 abbrev pub fault_of : Data → Option Fault
 fault_of d = map₄ fault_made (needed code_of (codes "error") d) (needed as_str (codes "errorType") d) (optional as_str (codes "message") d)
     (defaulted [] as_str (codes "reason") d)

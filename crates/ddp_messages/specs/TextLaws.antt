@@ -18,7 +18,8 @@ use Rattle.ddp_messages.specs.ClientMessage.{ClientMessage}
 use Rattle.ddp_messages.specs.ClientMessage as client
 use Rattle.ddp_messages.specs.ServerMessage.{ServerMessage}
 use Rattle.ddp_messages.specs.ServerMessage as server
-use Rattle.ddp_messages.specs.Written.{Table, with_member, present, text_items, unless_empty, texts_tree, document_tree, fault_written, client_table, client_members, client_written, data_table, data_members, server_table, server_members, server_written}
+use Rattle.ddp_messages.specs.Written.{Table, with_member, present, text_items, unless_empty, texts_tree, document_tree, fault_written, client_table}
+use Rattle.ddp_messages.specs.Written.{client_members, client_written, data_table, data_members, server_table, server_members, server_written}
 use Rattle.ddp_messages.specs.Limits.{IsShallow, AreShallow, ClientKeepsLimits, DataKeepsLimits, ServerKeepsLimits}
 
 -- each tree of the table that is there is such

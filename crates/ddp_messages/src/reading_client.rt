@@ -1,7 +1,8 @@
 //! Reading the messages from a client.
 ghost use Rattle.serde_json.specs.View.{view as json_view};
 ghost use Rattle.ddp_messages.specs.Fields.{Gives};
-ghost use Rattle.ddp_messages.specs.ClientMessage.{client_view, connect_reading, ping_reading, pong_reading, sub_reading, unsub_reading, method_reading, client_named, client_reading};
+ghost use Rattle.ddp_messages.specs.ClientMessage.{client_view, connect_reading, ping_reading, pong_reading, sub_reading, unsub_reading};
+ghost use Rattle.ddp_messages.specs.ClientMessage.{method_reading, client_named, client_reading};
 
 use crate::fault::FieldFault;
 use crate::fields::{

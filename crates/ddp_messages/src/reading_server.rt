@@ -1,7 +1,9 @@
 //! Reading the messages from a server.
 ghost use Rattle.serde_json.specs.View.{view as json_view};
 ghost use Rattle.ddp_messages.specs.Fields.{Gives};
-ghost use Rattle.ddp_messages.specs.ServerMessage.{server_view, key_reading, added_reading, changed_reading, removed_reading, nosub_reading, result_reading, error_reading, data_named as data_message, answer_named as answer_message, server_named, server_reading};
+ghost use Rattle.ddp_messages.specs.ServerMessage.{server_view, key_reading, added_reading, changed_reading, removed_reading, nosub_reading};
+ghost use Rattle.ddp_messages.specs.ServerMessage.{result_reading, error_reading, data_named as data_message, answer_named as answer_message};
+ghost use Rattle.ddp_messages.specs.ServerMessage.{server_named, server_reading};
 
 use crate::fault::FieldFault;
 use crate::fields::{

@@ -1,6 +1,7 @@
 //! What the members of a message's object say, read from the tokens of a text.
 ghost use Rattle.std.specs.Prelude.{◌≡◌, [], ◌<◌, length, OnOk};
-ghost use Rattle.ddp_messages.specs.Places.{text_there, document_there, list_there, StandsRead, OtherRead, MemberRead, IsNoTextKey, Says, MembersSaid, TextSaid};
+ghost use Rattle.ddp_messages.specs.Places.{text_there, document_there, list_there, StandsRead, OtherRead, MemberRead, IsNoTextKey, Says};
+ghost use Rattle.ddp_messages.specs.Places.{MembersSaid, TextSaid};
 
 use ejson_codec::{PlainFault, next_value, put_field};
 use ejson_value::{Doc, Items, Value};

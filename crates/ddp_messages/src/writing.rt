@@ -6,7 +6,8 @@ ghost use Rattle.ejson_value.specs.View.{view};
 ghost use Rattle.ejson_value.specs.declared.message.DataMsg.TheVariants.{Added, Changed, Removed};
 ghost use Rattle.ejson_codec.specs.Tokens.{tree_tokens};
 ghost use Rattle.ddp_messages.specs.ClientMessage.{connect as connect_message, sub as sub_message, unsub as unsub_message, method as method_message};
-ghost use Rattle.ddp_messages.specs.ServerMessage.{nosub as nosub_message, ready as ready_message, finished as result_message, updated as updated_message, refused as error_message};
+ghost use Rattle.ddp_messages.specs.ServerMessage.{nosub as nosub_message, ready as ready_message, finished as result_message};
+ghost use Rattle.ddp_messages.specs.ServerMessage.{updated as updated_message, refused as error_message};
 ghost use Rattle.ddp_messages.specs.Tokens.{field_tokens};
 ghost use Rattle.ddp_messages.specs.Wire.{wire_of};
 ghost use Rattle.ddp_messages.specs.Written.{present, text_tree, client_written, data_members, server_written};
@@ -41,7 +42,8 @@ pub(crate) fn of_text(out: &mut TextWriter, name: &str, key: &str, text: &Text) 
 
 /// A `ping` or a `pong`.
 pub(crate) fn heartbeat(out: &mut TextWriter, name: &str, id: &Option<Text>) -> Result<(), Mem>
-    ensures { OnOk result (out.new ≡ out.old ++ tree_tokens (object (present ((codes "id", option_map string id.now) ∷ (codes "msg", text_tree name.now) ∷ [])))) }
+    ensures { OnOk result
+        (out.new ≡ out.old ++ tree_tokens (object (present ((codes "id", option_map string id.now) ∷ (codes "msg", text_tree name.now) ∷ [])))) }
 {
     out.begin_object()?;
     put_optional_text(out, "id", id)?;

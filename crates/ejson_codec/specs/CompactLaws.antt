@@ -13,7 +13,8 @@ use Rattle.json.specs.Tree as tree
 use Rattle.json.proofs.Printed.Decimals.{IsNumber-decimal, IsNumber-signed_decimal}
 use Rattle.json.proofs.Printed.Tokens.{tokens-print}
 use Rattle.json.proofs.Printed.Trees.{ArePrintable-json_tokens, value-json_tokens}
-use Rattle.serde_json.specs.Data.{Num, unsigned, negative, float, Data, null, boolean, number, string, array, object, Items, no_items, item, Members, no_members, member, put, depth, items_depth, members_depth}
+use Rattle.serde_json.specs.Data.{Num, unsigned, negative, float, Data, null, boolean, number, string, array, object, Items, no_items, item, Members}
+use Rattle.serde_json.specs.Data.{no_members, member, put, depth, items_depth, members_depth}
 use Rattle.serde_json.specs.Read.{of_json, of_items, of_members, number_of, max_depth, read}
 use Rattle.serde_json.specs.Written.{number_text, outline, items_outline, members_outline, compact_text}
 use Rattle.serde_json.proofs.Numbers.{number_of-decimal, number_of-negative}
@@ -133,6 +134,7 @@ pub read-compact_text : (d : Data) → HasExactNumbers d → HasRisingKeys d →
 read-compact_text d h k shallow =
     let j = outline d in
     let shallow' : tree.depth j ≤ max_depth = subst (λ n. n ≤ max_depth) (sym (depth-outline d)) shallow in
-    let lexed = ap tokens (sym (print-outline d)) ∙ (tokens-print (tree.json_tokens j) (ArePrintable-json_tokens j (has_numbers d h)) ∙ sym (append-nil (tree.json_tokens j))) in
+    let lexed = ap tokens (sym (print-outline d))
+    ∙ (tokens-print (tree.json_tokens j) (ArePrintable-json_tokens j (has_numbers d h)) ∙ sym (append-nil (tree.json_tokens j))) in
     ap (λ ts. option_and_then of_json (option_and_then (λ p. json.if_last p.0 p.1) (json.value max_depth ts))) lexed
     ∙ (ap (λ o. option_and_then of_json (option_and_then (λ p. json.if_last p.0 p.1) o)) (value-json_tokens j max_depth [] shallow') ∙ data_reads d h k)

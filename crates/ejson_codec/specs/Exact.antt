@@ -1,6 +1,7 @@
 -- Trees whose compact text says all of them: no floats, and integers that a text of JSON holds (RFC 8259).
 use Rattle.std.specs.Prelude.{suc, ◌<◌, ◌^◌, pos, negsuc}
-use Rattle.serde_json.specs.Data.{Num, unsigned, negative, float, Data, null, boolean, number, string, array, object, Items, no_items, item, Members, no_members, member}
+use Rattle.serde_json.specs.Data.{Num, unsigned, negative, float, Data, null, boolean, number, string, array, object, Items, no_items, item, Members}
+use Rattle.serde_json.specs.Data.{no_members, member}
 
 abbrev pub IsExactNumber : Num → Type 0
 IsExactNumber (unsigned n) = n < 2 ^ 64

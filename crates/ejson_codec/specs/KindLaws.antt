@@ -9,7 +9,8 @@ use Rattle.value_model.specs.ValLaws.{list_of-vals_of}
 use Rattle.ejson_value.specs.ResultLaws.{made-ok}
 use Rattle.ejson_codec.specs.Shape.{keys_of_members, shape_of, first_of}
 use Rattle.ejson_codec.specs.Base64.{bytes_of}
-use Rattle.ejson_codec.specs.Reading.{reading, items_reading, members_reading, number_reading, date_reading, bytes_reading, binary_reading, name_reading, user_made, object_made, by_shape, below, escape_reading, user_reading}
+use Rattle.ejson_codec.specs.Reading.{reading, items_reading, members_reading, number_reading, date_reading, bytes_reading, binary_reading}
+use Rattle.ejson_codec.specs.Reading.{name_reading, user_made, object_made, by_shape, below, escape_reading, user_reading}
 use Rattle.ejson_codec.specs.declared.fault.EjsonFault.{EjsonFault}
 use Rattle.ejson_codec.specs.declared.shape.Shape.{Shape}
 use Rattle.ejson_codec.specs.declared.shape.Shape.TheVariants.{Plain, Date, Binary, Escape, User, Unsupported}

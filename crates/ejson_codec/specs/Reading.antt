@@ -1,5 +1,6 @@
 -- What reading a JSON tree answers: its value, or its first fault in depth-first order, the elements of a list in order and the members of an object by key.
-use Rattle.std.specs.Prelude.{◌≡◌, ℕ, zero, suc, ℤ, pos, neg_ℤ, int_le, Bool, ◌&&◌, nat_lt, nat_le, length, List, [], ◌∷◌, Option, Some, None, Result, Ok, Err, if◌then◌else◌}
+use Rattle.std.specs.Prelude.{◌≡◌, ℕ, zero, suc, ℤ, pos, neg_ℤ, int_le, Bool, ◌&&◌, nat_lt, nat_le, length, List, [], ◌∷◌, Option, Some, None, Result}
+use Rattle.std.specs.Prelude.{Ok, Err, if◌then◌else◌}
 use Rattle.serde_json.specs.Data.{Num, Data, Items, no_items, item, Members, no_members, member}
 use Rattle.serde_json.specs.Data as json
 use Rattle.serde_json.specs.Find.{as_integer}

@@ -1,5 +1,6 @@
 -- Reading answers exactly the value that the tree reads as, where its depth is within the levels.
-use Rattle.std.specs.Prelude.{◌≡◌, ℕ, zero, suc, ◌≤◌, ℤ, pos, neg_ℤ, int_le, ◌≤ℤ◌, true, false, length, nat_lt, nat_le, List, [], ◌∷◌, Option, Some, None, Result, Ok, Err, refl}
+use Rattle.std.specs.Prelude.{◌≡◌, ℕ, zero, suc, ◌≤◌, ℤ, pos, neg_ℤ, int_le, ◌≤ℤ◌, true, false, length, nat_lt, nat_le, List, [], ◌∷◌, Option, Some}
+use Rattle.std.specs.Prelude.{None, Result, Ok, Err, refl}
 use Rattle.std.proofs.Common.{sym, ap, ◌∙◌, subst, arith, inl, inr}
 use Rattle.std.proofs.lemmas.Bool.{cases_Bool, and_from, ltb-true, lt-ltb, leb-true, le-leb}
 use Rattle.std.proofs.lemmas.Int.{ints}
@@ -15,7 +16,9 @@ use Rattle.ejson_codec.specs.Shape.{keys_of_members, shape_of, first_of}
 use Rattle.ejson_codec.specs.Base64.{bytes_of}
 use Rattle.ejson_codec.specs.Base64Laws.{bytes_of_some, bytes_of-base64}
 use Rattle.ejson_codec.specs.Reads.{IsAccepted, IsDate, IsBinary, IsNamed, ByShape, Reads, ItemsRead, MembersRead, EscapeReads, UserReads}
-use Rattle.ejson_codec.specs.Reading.{is_whole, whole_reading, number_reading, date_reading, bytes_reading, binary_reading, is_user_name, name_reading, user_made, below, list_made, object_made, with_item, with_field, by_shape, reading, items_reading, members_reading, escape_reading, user_reading}
+use Rattle.ejson_codec.specs.Reading.{is_whole, whole_reading, number_reading, date_reading, bytes_reading, binary_reading, is_user_name}
+use Rattle.ejson_codec.specs.Reading.{name_reading, user_made, below, list_made, object_made, with_item, with_field, by_shape, reading, items_reading}
+use Rattle.ejson_codec.specs.Reading.{members_reading, escape_reading, user_reading}
 use Rattle.ejson_codec.specs.declared.shape.Shape.{Shape}
 use Rattle.ejson_codec.specs.declared.shape.Shape.TheVariants.{Plain, Date, Binary, Escape, User, Unsupported}
 use Rattle.ejson_codec.specs.declared.fault.EjsonFault.{EjsonFault}

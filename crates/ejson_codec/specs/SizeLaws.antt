@@ -1,5 +1,6 @@
 -- A value's size is the length of its text.
-use Rattle.std.specs.Prelude.{◌≡◌, ℕ, suc, ◌+◌, ◌*◌, ◌/◌, ◌%◌, ◌<◌, max, ℤ, pos, negsuc, Bool, true, false, ◌==◌, nat_lt, List, [], ◌∷◌, ◌++◌, All, length, slice_index, sum_by, replicate, codes, refl}
+use Rattle.std.specs.Prelude.{◌≡◌, ℕ, suc, ◌+◌, ◌*◌, ◌/◌, ◌%◌, ◌<◌, max, ℤ, pos, negsuc, Bool, true, false, ◌==◌, nat_lt, List, [], ◌∷◌, ◌++◌, All}
+use Rattle.std.specs.Prelude.{length, slice_index, sum_by, replicate, codes, refl}
 use Rattle.std.proofs.Common.{sym, ◌∙◌, arith, cond, inl, inr, zero}
 use Rattle.std.proofs.lemmas.Bool.{cases_Bool, eqb-true, cases_eq, ne_eqb}
 use Rattle.std.proofs.lemmas.List.{length-append}
@@ -109,15 +110,33 @@ symbols_plain (a ∷ b ∷ c ∷ rest) h =
     let hb : b < 256 = h 1 0 (omega arith) in
     let hc : c < 256 = h 2 0 (omega arith) in
     let group : sum_by escape_size (encode_group letters a b c) ≡ 4 =
-    omega (arith, symbol_plain (a / 4) (omega arith), symbol_plain (a % 4 * 16 + b / 16) (omega arith), symbol_plain (b % 16 * 4 + c / 64) (omega arith), symbol_plain (c % 64) (omega arith)) in
+    omega (
+      arith,
+      symbol_plain (a / 4) (omega arith),
+      symbol_plain (a % 4 * 16 + b / 16) (omega arith),
+      symbol_plain (b % 16 * 4 + c / 64) (omega arith),
+      symbol_plain (c % 64) (omega arith),
+    ) in
     let more = symbols_plain rest (later_bytes c rest (later_bytes b (c ∷ rest) (later_bytes a (b ∷ c ∷ rest) h))) in
-    omega (arith, sum_by-append escape_size (encode_group letters a b c) (encode_symbols letters rest), length-append (encode_group letters a b c) (encode_symbols letters rest), group, more)
+    omega (
+      arith,
+      sum_by-append escape_size (encode_group letters a b c) (encode_symbols letters rest),
+      length-append (encode_group letters a b c) (encode_symbols letters rest),
+      group,
+      more,
+    )
 
 base64_plain : (s : List ℕ) → All (λ x. x < 256) s → sum_by escape_size (base64 s) ≡ length (base64 s)
 unfolding base64
 base64_plain s h =
     let n : ℕ = padding_len (length s) in
-    omega (arith, sum_by-append escape_size (encode_symbols letters s) (pads n), length-append (encode_symbols letters s) (pads n), symbols_plain s h, pads_plain n)
+    omega (
+      arith,
+      sum_by-append escape_size (encode_symbols letters s) (pads n),
+      length-append (encode_symbols letters s) (pads n),
+      symbols_plain s h,
+      pads_plain n,
+    )
 
 base64_text_size : (s : List ℕ) → All (λ x. x < 256) s → length (quoted (base64 s)) ≡ 2 + base64_size (length s)
 base64_text_size s h = quoted_size (base64 s) ∙ omega (arith, base64_plain s h, length-base64 s)

@@ -17,7 +17,8 @@ use Rattle.value_model.specs.Size.{names_of, is_special}
 use Rattle.ejson_codec.specs.Shape.{keys_of_members}
 use Rattle.ejson_codec.specs.Written.{escaped_if, written, items_written, members_written}
 use Rattle.ejson_codec.specs.WrittenLaws.{keys_of_members-members_written, plain_names}
-use Rattle.ejson_codec.specs.Trees.{IsHeldOnce, HoldsNumbersOnce, ItemsHoldNumbersOnce, MembersHoldNumbersOnce, IsTree, HasRisingKeys, ItemsHaveRisingKeys, MembersHaveRisingKeys, IsEscapedExactly, ItemsAreEscapedExactly, MembersAreEscapedExactly}
+use Rattle.ejson_codec.specs.Trees.{IsHeldOnce, HoldsNumbersOnce, ItemsHoldNumbersOnce, MembersHoldNumbersOnce, IsTree, HasRisingKeys}
+use Rattle.ejson_codec.specs.Trees.{ItemsHaveRisingKeys, MembersHaveRisingKeys, IsEscapedExactly, ItemsAreEscapedExactly, MembersAreEscapedExactly}
 
 -- ---- numbers
 

@@ -1,7 +1,8 @@
 -- Which JSON trees are in the form that a text is read into, and which have `$escape` exactly where it must be.
 use Rattle.std.specs.Prelude.{◌≡◌, pos, ◌<ℤ◌, true}
 use Rattle.std.specs.List.Sorted.{IsStrictlySortedBy}
-use Rattle.serde_json.specs.Data.{Num, unsigned, negative, float, Data, null, boolean, number, string, array, object, Items, no_items, item, Members, no_members, member}
+use Rattle.serde_json.specs.Data.{Num, unsigned, negative, float, Data, null, boolean, number, string, array, object, Items, no_items, item, Members}
+use Rattle.serde_json.specs.Data.{no_members, member}
 use Rattle.value_model.specs.Order.{text_cmp}
 use Rattle.value_model.specs.Size.{is_special}
 use Rattle.ejson_codec.specs.Shape.{keys_of_members, shape_of}

@@ -7,7 +7,8 @@ use Rattle.std.proofs.lemmas.Int.{ints}
 use Rattle.serde_json.specs.Data.{Num, unsigned, negative, float, Data, Items, no_items, item, Members, no_members, member}
 use Rattle.serde_json.specs.Data as json
 use Rattle.serde_json.specs.Find.{of_integer}
-use Rattle.value_model.specs.Val.{Val, null, boolean, int, text, date, bytes, list, object, user, Vals, no_vals, val, Fields, no_fields, field, vals_of, list_of, Entries, fields_of, entries_of}
+use Rattle.value_model.specs.Val.{Val, null, boolean, int, text, date, bytes, list, object, user, Vals, no_vals, val, Fields, no_fields, field}
+use Rattle.value_model.specs.Val.{vals_of, list_of, Entries, fields_of, entries_of}
 use Rattle.value_model.specs.ValLaws.{vals_of-list_of, fields_of-entries_of}
 use Rattle.value_model.specs.TruthLaws.{both_true}
 use Rattle.value_model.specs.Valid.{IsWhole, IsValue, AreValues, HaveValues}
@@ -15,7 +16,8 @@ use Rattle.value_model.specs.Size.{is_name, names_of, is_special}
 use Rattle.ejson_codec.specs.Shape.{keys_of_members, shape_of, shape_of_one, shape_of_two, first_of}
 use Rattle.ejson_codec.specs.Reads.{IsAccepted, IsDate, IsBinary, IsNamed, ByShape, Reads, ItemsRead, MembersRead, EscapeReads, UserReads}
 use Rattle.ejson_codec.specs.Written.{alone, escaped_if, user_object, written, items_written, members_written}
-use Rattle.ejson_codec.specs.Trees.{IsHeldOnce, HoldsNumbersOnce, ItemsHoldNumbersOnce, MembersHoldNumbersOnce, IsEscapedExactly, ItemsAreEscapedExactly, MembersAreEscapedExactly, EscapesSpecial}
+use Rattle.ejson_codec.specs.Trees.{IsHeldOnce, HoldsNumbersOnce, ItemsHoldNumbersOnce, MembersHoldNumbersOnce, IsEscapedExactly}
+use Rattle.ejson_codec.specs.Trees.{ItemsAreEscapedExactly, MembersAreEscapedExactly, EscapesSpecial}
 use Rattle.ejson_codec.specs.declared.shape.Shape.{Shape}
 use Rattle.ejson_codec.specs.declared.shape.Shape.TheVariants.{Plain, Date, Binary, Escape, User, Unsupported}
 
@@ -136,7 +138,8 @@ key_set_two : (a b : List ℕ) (r t : Bool) → (is_name a (codes "$flags") && i
 key_set_two a b true t hr ht = rw hr tt
 key_set_two a b false true hr ht =
     let parts = both_true (is_name a (codes "$type")) (is_name b (codes "$value")) ht in
-    let names : a ∷ b ∷ [] ≡ codes "$type" ∷ codes "$value" ∷ [] = ap₂ (λ (x y : List ℕ). x ∷ y ∷ []) (name_is a (codes "$type") parts.0) (name_is b (codes "$value") parts.1) in
+    let names : a ∷ b ∷ [] ≡ codes "$type" ∷ codes "$value" ∷ [] =
+    ap₂ (λ (x y : List ℕ). x ∷ y ∷ []) (name_is a (codes "$type") parts.0) (name_is b (codes "$value") parts.1) in
     rw (hr, ht) names
 key_set_two a b false false hr ht =
     let shape : shape_of_two a b ≡ Plain = rw (hr, ht) refl in
@@ -200,7 +203,8 @@ binary_only ms v keys is = only_binary (first_of ms) v ms (only_member ms (codes
 plain_only : (ms : Members) (v : Val) (es : Entries) → v ≡ object (fields_of es) → ms ≡ members_written (fields_of es) →
     is_special (keys_of_members ms) ≡ false → json.object ms ≡ written v
 plain_only ms v es is same plain =
-    let names : is_special (names_of (fields_of es)) ≡ false = ap is_special (sym (keys_of_members-members_written (fields_of es)) ∙ ap keys_of_members (sym same)) ∙ plain in
+    let names : is_special (names_of (fields_of es)) ≡ false =
+    ap is_special (sym (keys_of_members-members_written (fields_of es)) ∙ ap keys_of_members (sym same)) ∙ plain in
     ap json.object same ∙ sym (ap (λ (b : Bool). escaped_if b (members_written (fields_of es))) names) ∙ ap written (sym is)
 
 -- an object under `$escape`
@@ -208,7 +212,8 @@ escape_only : (ms inner : Members) (v : Val) (es : Entries) → ms ≡ member (c
     inner ≡ members_written (fields_of es)
     → is_special (keys_of_members inner) ≡ true → json.object ms ≡ written v
 escape_only ms inner v es whole is same special =
-    let names : is_special (names_of (fields_of es)) ≡ true = ap is_special (sym (keys_of_members-members_written (fields_of es)) ∙ ap keys_of_members (sym same)) ∙ special in
+    let names : is_special (names_of (fields_of es)) ≡ true =
+    ap is_special (sym (keys_of_members-members_written (fields_of es)) ∙ ap keys_of_members (sym same)) ∙ special in
     ap json.object whole ∙ ap (λ (x : Members). alone (codes "$escape") (json.object x)) same
     ∙ sym (ap (λ (b : Bool). escaped_if b (members_written (fields_of es))) names) ∙ ap written (sym is)
 
@@ -245,7 +250,8 @@ mutual
       by_shape_cases (shape_of (keys_of_members ms)) ((es : Entries) × MembersRead ms es × (v ≡ object (fields_of es))) (IsDate (first_of ms) v)
       (IsBinary (first_of ms) v) (EscapeReads ms v) (UserReads ms v) (json.object ms ≡ written v)
       (λ shape r.
-      let inside : MembersAreEscapedExactly ms = subst (λ (s : Shape). ByShape s (MembersAreEscapedExactly ms) (Unit {0}) (Unit {0}) (EscapesSpecial ms) (MembersAreEscapedExactly ms)) shape exact in
+      let inside : MembersAreEscapedExactly ms = subst
+      (λ (s : Shape). ByShape s (MembersAreEscapedExactly ms) (Unit {0}) (Unit {0}) (EscapesSpecial ms) (MembersAreEscapedExactly ms)) shape exact in
       let plain : is_special (keys_of_members ms) ≡ false = subst (λ (s : Shape). KeySet s (keys_of_members ms)) shape (key_set (keys_of_members ms)) in
       plain_only ms v r.0 r.2 (members_only_written ms r.0 r.1 once inside) plain)
       (λ shape r. date_only ms v (subst (λ (s : Shape). KeySet s (keys_of_members ms)) shape (key_set (keys_of_members ms))) r once)

@@ -7,7 +7,8 @@ ghost use Rattle.value_model.specs.Depth.{depth};
 ghost use Rattle.ejson_value.specs.View.{view};
 ghost use Rattle.ejson_codec.specs.Shape.{first_of};
 ghost use Rattle.ejson_codec.specs.Reads.{Reads};
-ghost use Rattle.ejson_codec.specs.Reading.{max_levels, number_reading, date_reading, binary_reading, name_reading, below, object_made, reading, items_reading, members_reading, escape_reading, user_reading, Gives};
+ghost use Rattle.ejson_codec.specs.Reading.{max_levels, number_reading, date_reading, binary_reading, name_reading, below, object_made, reading};
+ghost use Rattle.ejson_codec.specs.Reading.{items_reading, members_reading, escape_reading, user_reading, Gives};
 ghost use Rattle.serde_json.specs.Data.{null, object as json_object};
 
 use crate::base64_text::decoded;

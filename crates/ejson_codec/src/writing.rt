@@ -77,7 +77,8 @@ fn user(alloc: Global, name: &BoxedName, tree: Json) -> Result<Json, Mem>
 
 // An object, under `$escape` if it would stand for something else.
 fn escaped(alloc: Global, members: Map<String, Json>) -> Result<Json, Mem>
-    ensures { IfOk result (λ object. json_view object ≡ escaped_if (is_special (keys_of_members (members_view members.entries))) (members_view members.entries)) }
+    ensures { IfOk result
+        (λ object. json_view object ≡ escaped_if (is_special (keys_of_members (members_view members.entries))) (members_view members.entries)) }
 {
     match of_members(&members) {
         Shape::Plain => Ok(Json::Object(members)),

@@ -23,11 +23,13 @@ abbrev pub HaveDistinctKeys : List Change → Type 0
 HaveDistinctKeys cs = IsDistinct (eq_by_cmp key_cmp) (map (λ (c : Change). c.key) cs)
 
 -- another key has what it had
-elsewhere : (rows : Rows) (key other : Key) (w : Option Entries) → IsSorted key_cmp rows → eq_by_cmp key_cmp key other ≡ false → at key_cmp (set key_cmp rows key w) other ≡ at key_cmp rows other
+elsewhere : (rows : Rows) (key other : Key) (w : Option Entries) → IsSorted key_cmp rows → eq_by_cmp key_cmp key other ≡ false →
+    at key_cmp (set key_cmp rows key w) other ≡ at key_cmp rows other
 elsewhere rows key other w s apart =
     at-set key_order rows key w other s ∙ ap (λ b. cond b w (at key_cmp rows other)) ((eq_by_cmp_equiv key_total).symm other key ∙ apart)
 
-still_fit : (rows : Rows) (key : Key) (w : Option Entries) (cs : List Change) → IsSorted key_cmp rows → AllByRecursion (λ q. eq_by_cmp key_cmp key q ≡ false) (map (λ (c : Change). c.key) cs)
+still_fit : (rows : Rows) (key : Key) (w : Option Entries) (cs : List Change) → IsSorted key_cmp rows →
+    AllByRecursion (λ q. eq_by_cmp key_cmp key q ≡ false) (map (λ (c : Change). c.key) cs)
     → AllFit rows cs → AllFit (set key_cmp rows key w) cs
 still_fit rows key w [] s apart fit = All-nil (λ (c : Change). at key_cmp (set key_cmp rows key w) c.key ≡ c.before)
 still_fit rows key w (c ∷ cs) s apart fit =

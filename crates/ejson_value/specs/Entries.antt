@@ -21,7 +21,8 @@ lookup-entries test (e ∷ es) =
     elim (test e.0) as (λ b. cond b (Some (view e.1)) (lookup test (entries es)) ≡ option_map view (cond b (Some e.1) (lookup test es)))
     [ true ↦ refl | false ↦ lookup-entries test es ]
 
-pub entries-insert : (es : List (List ℕ × Value)) (name : List ℕ) (v : Value) → entries (insert_entry text_cmp es name v) ≡ insert_entry text_cmp (entries es) name (view v)
+pub entries-insert : (es : List (List ℕ × Value)) (name : List ℕ) (v : Value) →
+    entries (insert_entry text_cmp es name v) ≡ insert_entry text_cmp (entries es) name (view v)
 entries-insert [] name v = refl
 entries-insert (e ∷ es) name v =
     elim (text_cmp name e.0)

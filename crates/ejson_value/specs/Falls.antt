@@ -52,7 +52,8 @@ members_le (members.Few es) = omega arith
 members_le (members.Many es) = omega arith
 
 -- a document's memory, if it has some
-doc_by : (m : Global) (fields : Option (Arc Entries Global)) → deep-Doc (record { alloc = m; fields = fields }) ≤ 3 * fields_depth (fields_of (doc_fields fields)) + 3
+doc_by : (m : Global) (fields : Option (Arc Entries Global)) →
+    deep-Doc (record { alloc = m; fields = fields }) ≤ 3 * fields_depth (fields_of (doc_fields fields)) + 3
 doc_by m None = omega arith
 doc_by m (Some fields) = omega arith
 
@@ -60,7 +61,8 @@ pub doc_le : (a : DocInside) → deep-Doc a ≤ 3 * fields_depth (fields_of (doc
 doc_le a = doc_by a.alloc a.fields
 
 -- a list's memory, if it has some
-items_by : (m : Global) (items : Option (Arc (Vec Value Global) Global)) → deep-Items (record { alloc = m; items = items }) ≤ 3 * vals_depth (vals_of (views (held_items items))) + 1
+items_by : (m : Global) (items : Option (Arc (Vec Value Global) Global)) →
+    deep-Items (record { alloc = m; items = items }) ≤ 3 * vals_depth (vals_of (views (held_items items))) + 1
 items_by m None = omega arith
 items_by m (Some items) = omega (arith, most_le-depth (arc_value items).items)
 

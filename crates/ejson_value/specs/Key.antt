@@ -37,4 +37,5 @@ pub key_order : IsKeyOrder key_cmp
 key_order = record { total = key_total; exact = key_exact }
 
 abbrev pub key_code : Coded Key
-key_code = code_by (List ℕ × List ℕ) (coded× (coded_list coded_ℕ) (coded_list coded_ℕ)) (λ k. (k.collection, k.id)) (λ p. record { collection = p.0; id = p.1 }) (λ _. refl)
+key_code = code_by (List ℕ × List ℕ) (coded× (coded_list coded_ℕ) (coded_list coded_ℕ)) (λ k. (k.collection, k.id))
+    (λ p. record { collection = p.0; id = p.1 }) (λ _. refl)

@@ -22,7 +22,8 @@ module _ {X Q E : Type 0} (cons : X → Q → Q) where
   made_none (Ok q) = refl
   made_none (Err e) = refl
 
-  pub made_more : (xs : List X) (x : X) (c : Result X E) (r : Result Q E) → c ≡ Ok x → made (λ q. after cons xs q) (with_both cons c r) ≡ made (λ q. after cons (xs ++ x ∷ []) q) r
+  pub made_more : (xs : List X) (x : X) (c : Result X E) (r : Result Q E) → c ≡ Ok x →
+      made (λ q. after cons xs q) (with_both cons c r) ≡ made (λ q. after cons (xs ++ x ∷ []) q) r
   made_more xs x c (Ok q) is = ap (λ o. made (λ q. after cons xs q) (with_both cons o (Ok q))) is ∙ ap (λ s. Ok s) (sym (after-append cons xs x q))
   made_more xs x c (Err e) is = ap (λ o. made (λ q. after cons xs q) (with_both cons o (Err e))) is
 

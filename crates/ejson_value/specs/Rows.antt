@@ -42,4 +42,5 @@ AreDocuments-put (row ∷ rows) key doc all one =
 pub AreDocuments-remove : (test : Key → Bool) (rows : Rows) → AreDocuments rows → AreDocuments (remove_entry test rows)
 AreDocuments-remove test [] all = tt
 AreDocuments-remove test (row ∷ rows) all =
-    elim (test row.0) as (λ b. AreDocuments (cond b rows (row ∷ remove_entry test rows))) [ true ↦ all.1 | false ↦ (all.0, AreDocuments-remove test rows all.1) ]
+    elim (test row.0)
+    as (λ b. AreDocuments (cond b rows (row ∷ remove_entry test rows))) [ true ↦ all.1 | false ↦ (all.0, AreDocuments-remove test rows all.1) ]

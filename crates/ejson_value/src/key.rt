@@ -47,7 +47,8 @@ impl Ord for Key {
 
     ghost matches_partial_cmp = { λ a b. Some-then (text_cmp a.collection b.collection) (text_cmp a.id b.id) };
 
-    ghost matches_eq = { λ a b. both_tied _ _ (text_cmp a.collection b.collection) (text_cmp a.id b.id) (texts_ties a.collection b.collection) (texts_ties a.id b.id) };
+    ghost matches_eq = { λ a b. both_tied _ _ (text_cmp a.collection b.collection) (text_cmp a.id b.id) (texts_ties a.collection b.collection)
+        (texts_ties a.id b.id) };
 
     #[inline(always)]
     fn cmp(&self, other: &Key) -> Ordering {

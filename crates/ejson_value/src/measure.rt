@@ -4,7 +4,8 @@ ghost use Rattle.std.specs.Fmt.{signed_decimal};
 ghost use Rattle.std.specs.List.{list_all};
 ghost use Rattle.value_model.specs.Val.{object, vals_of, fields_of};
 ghost use Rattle.value_model.specs.Depth.{depth, vals_depth, fields_depth};
-ghost use Rattle.value_model.specs.Size.{has_short_escape, escape_size, text_size, binary_wrapper, user_wrapper, base64_size, is_special, names_of, size, vals_size, fields_size};
+ghost use Rattle.value_model.specs.Size.{has_short_escape, escape_size, text_size, binary_wrapper, user_wrapper, base64_size, is_special, names_of};
+ghost use Rattle.value_model.specs.Size.{size, vals_size, fields_size};
 ghost use Rattle.ejson_value.specs.View.{view, pairs, entries};
 ghost use Rattle.ejson_value.specs.Measure.{capped};
 

@@ -1,5 +1,6 @@
 //! The fields of a document in a row by rising name. An edit moves those behind its place, so a row has few.
-ghost use Rattle.std.specs.Prelude.{◌≡◌, ◌+◌, ◌++◌, ◌≤◌, ◌<◌, ◌∷◌, [], length, Some, IsSome, option_map, vec_len, vec_capacity, IfSome, IfNone, IfOk, IfErr, OnOk, OnErr, IsTrue};
+ghost use Rattle.std.specs.Prelude.{◌≡◌, ◌+◌, ◌++◌, ◌≤◌, ◌<◌, ◌∷◌, [], length, Some, IsSome, option_map, vec_len, vec_capacity, IfSome, IfNone, IfOk};
+ghost use Rattle.std.specs.Prelude.{IfErr, OnOk, OnErr, IsTrue};
 ghost use Rattle.std.specs.List.{remove as remove_item};
 ghost use Rattle.std.specs.List.Sorted.{IsStrictlySortedBy, IsSearchInRange};
 ghost use Rattle.map_model.specs.Orders.{IsAbove};

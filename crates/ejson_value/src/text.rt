@@ -1,5 +1,6 @@
 //! Texts.
-ghost use Rattle.std.specs.Prelude.{◌≡◌, ◌+◌, ◌++◌, ◌==◌, ◌↔◌, ◌≤◌, [], drop, length, take, nat_eq, string_bytes, encode_utf8, refl, Decides, IsTrue, IsFalse, IsSome, IfSome, IfOk, OnOk, OnErr};
+ghost use Rattle.std.specs.Prelude.{◌≡◌, ◌+◌, ◌++◌, ◌==◌, ◌↔◌, ◌≤◌, [], drop, length, take, nat_eq, string_bytes, encode_utf8, refl, Decides, IsTrue};
+ghost use Rattle.std.specs.Prelude.{IsFalse, IsSome, IfSome, IfOk, OnOk, OnErr};
 ghost use Rattle.std.specs.Ordering.{nat_cmp, as_partial_cmp};
 ghost use Rattle.std.specs.Cmp.Lexicographic.{pointwise, slice_cmp};
 ghost use Rattle.std.specs.Cmp.{partial_order_from_own_ties};

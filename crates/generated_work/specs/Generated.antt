@@ -1,11 +1,13 @@
--- Generated work: sixteen counters, eight clients that see them all, and as many calls as are wanted, drawn by a linear congruential generator (Numerical Recipes' constants).
+-- Generated work: sixteen counters, eight clients that see them all, and as many calls as are wanted, drawn by a linear congruential generator
+-- (Numerical Recipes' constants).
 use Rattle.std.specs.Prelude.{ℕ, zero, suc, ◌+◌, ◌*◌, ◌/◌, ◌%◌, ◌^◌, List, [], ◌∷◌, ◌++◌, map, flat_map, pos, codes, decimal}
 use Rattle.value_model.specs.Val.{Val, int, text, list, object, vals_of, fields_of}
 use Rattle.ejson_codec.specs.Lines.{line_text}
 
 -- the application, as it is written
 abbrev pub application : List ℕ
-application = codes "{\"collections\":[\"counters\"],\"methods\":{\"inc\":{\"steps\":[[\"update\",\"counters\",{\"_id\":{\"$param\":0}},{\"$inc\":{\"n\":{\"$param\":1}}}]],\"stub\":true}},\"publications\":{\"all\":[{\"collection\":\"counters\"}]}}"
+application = codes
+    "{\"collections\":[\"counters\"],\"methods\":{\"inc\":{\"steps\":[[\"update\",\"counters\",{\"_id\":{\"$param\":0}},{\"$inc\":{\"n\":{\"$param\":1}}}]],\"stub\":true}},\"publications\":{\"all\":[{\"collection\":\"counters\"}]}}"
 
 -- ---- what is drawn
 

@@ -3,7 +3,8 @@ ghost use Rattle.std.specs.Prelude.{◌≡◌, ◌<◌, ◌≤◌, ◌^◌, ◌%
 ghost use Rattle.value_model.specs.Val.{int, text, object, fields_of};
 ghost use Rattle.ejson_value.specs.View.{view, views};
 ghost use Rattle.ejson_codec.specs.Lines.{line_text};
-ghost use Rattle.generated_work.specs.Generated.{application, next, drawn, row, word, client_name, counter_name, counter, insert_line, sub_line, wait_line, call_line, lines_below, generated, generated_lines, written_line, generated_input};
+ghost use Rattle.generated_work.specs.Generated.{application, next, drawn, row, word, client_name, counter_name, counter, insert_line, sub_line};
+ghost use Rattle.generated_work.specs.Generated.{wait_line, call_line, lines_below, generated, generated_lines, written_line, generated_input};
 
 use ejson_codec::{Lines, text};
 use ejson_value::{DocBuilder, Items, ItemsBuilder, Mem, Text, Value, Whole};

@@ -1,5 +1,6 @@
 -- Each act, and each thing that is asked of it, keeps a client polite.
-use Rattle.std.specs.Prelude.{◌≡◌, ℕ, zero, suc, ◌<◌, List, [], ◌∷◌, ◌++◌, length, true, false, not, ◌&&◌, nat_lt, Option, Some, None, is_none, decimal, if◌then◌else◌, refl}
+use Rattle.std.specs.Prelude.{◌≡◌, ℕ, zero, suc, ◌<◌, List, [], ◌∷◌, ◌++◌, length, true, false, not, ◌&&◌, nat_lt, Option, Some, None, is_none}
+use Rattle.std.specs.Prelude.{decimal, if◌then◌else◌, refl}
 use Rattle.std.proofs.Common.{ap, sym, subst, ◌∙◌, arith, length-append, inl}
 use Rattle.std.proofs.lemmas.List.{append_assoc}
 use Rattle.std.proofs.lemmas.Bool.{and_parts, ltb-true}
@@ -40,7 +41,13 @@ new_polite number = record {
   asking = first_asked _ connect_opens;
   taking = record {
     accepted = refl;
-    known = λ e. record { taken = []; is = refl; session = refl; server = refl; counted = record { few = omega arith; outcomes = λ n l. none_there n; updates = λ n l. none_updated n } };
+    known = λ e. record {
+      taken = [];
+      is = refl;
+      session = refl;
+      server = refl;
+      counted = record { few = omega arith; outcomes = λ n l. none_there n; updates = λ n l. none_updated n };
+    };
     taken = [];
     is = refl;
     alone = inl (refl, refl);
@@ -53,7 +60,8 @@ up_polite : (c : Conn) (ts : List (List ℕ)) → c.client.waiting ≡ ts → Is
 up_polite c [] e p = p
 up_polite c (t ∷ ts) e p = record {
   asking = subst (λ (texts : List (List ℕ)). IsAsking texts (length c.client.calls))
-      (ap (λ (ws : List (List ℕ)). c.received ++ (c.upward ++ ws)) e ∙ ap (λ (xs : List (List ℕ)). c.received ++ xs) (sym (append_assoc c.upward (t ∷ []) ts))) p.asking;
+      (ap (λ (ws : List (List ℕ)). c.received ++ (c.upward ++ ws)) e
+      ∙ ap (λ (xs : List (List ℕ)). c.received ++ xs) (sym (append_assoc c.upward (t ∷ []) ts))) p.asking;
   taking = record {
     accepted = p.taking.accepted;
     known = λ none. let k = p.taking.known none in record { taken = k.taken; is = k.is; session = k.session; server = k.server; counted = k.counted };
@@ -105,7 +113,8 @@ take_polite : (app : App) (h : List Entry) (c : Conn) (ts : List (List ℕ)) →
     can_take c.client ≡ true → IsPolite c → IsPolite (takes c ts)
 take_polite app h c [] e l kept may p = p
 take_polite app h c (t ∷ ts) e l kept may p =
-    let goes = text_goes app h c l kept p t ts e (is_none_is c.client.broken (and_parts (not c.client.is_failed) (is_none c.client.broken) may).1) in record { asking = goes.0; taking = goes.1 }
+    let goes = text_goes app h c l kept p t ts e (is_none_is c.client.broken (and_parts (not c.client.is_failed) (is_none c.client.broken) may).1) in
+    record { asking = goes.0; taking = goes.1 }
 
 -- every act
 pub act_polite : (app : App) (h : List Entry) (c : Conn) (a : Act) → enabled app h c a ≡ true → IsLinked app h c → AreKept (moments app c.number h) →
@@ -164,12 +173,19 @@ asked_polite app c (ask.call name params) good may raw p =
     let new : Call = record { outcome = None; is_updated = false } in
     let count : number ≡ length (c.client.calls ++ new ∷ []) = omega (arith, length-append c.client.calls (new ∷ [])) in record {
       asking = subst (λ n. IsAsking (c.received ++ (c.upward ++ (c.client.waiting ++ t ∷ []))) n) count
-          (subst (λ (texts : List (List ℕ)). IsAsking texts number) (longer_texts c t) (call_asked (texts_of c) name params seed (length c.client.calls) less good.0 good.1 tt (omega arith) p.asking));
+          (subst (λ (texts : List (List ℕ)). IsAsking texts number) (longer_texts c t)
+          (call_asked (texts_of c) name params seed (length c.client.calls) less good.0 good.1 tt (omega arith) p.asking));
       taking = record {
         accepted = p.taking.accepted;
         known = λ none.
             let k = p.taking.known none in
-            record { taken = k.taken; is = k.is; session = k.session; server = k.server; counted = call_counted c.client.calls _ (omega (arith, less)) k.counted };
+            record {
+              taken = k.taken;
+              is = k.is;
+              session = k.session;
+              server = k.server;
+              counted = call_counted c.client.calls _ (omega (arith, less)) k.counted;
+            };
         taken = p.taking.taken;
         is = p.taking.is;
         alone = p.taking.alone;

@@ -1,5 +1,6 @@
 -- Laws: A client that sends no text of its own asks for each of its calls once.
-use Rattle.std.specs.Prelude.{◌≡◌, ℕ, suc, ◌+◌, ◌<◌, ◌≤◌, List, [], ◌∷◌, ◌++◌, length, decimal, Bool, true, false, cond, not, ◌&&◌, nat_lt, Option, Some, None, Result, Ok, Err, is_some, codes, refl}
+use Rattle.std.specs.Prelude.{◌≡◌, ℕ, suc, ◌+◌, ◌<◌, ◌≤◌, List, [], ◌∷◌, ◌++◌, length, decimal, Bool, true, false, cond, not, ◌&&◌, nat_lt, Option}
+use Rattle.std.specs.Prelude.{Some, None, Result, Ok, Err, is_some, codes, refl}
 use Rattle.std.proofs.Common.{ap, sym, ◌∙◌, arith}
 use Rattle.std.proofs.lemmas.List.{append_assoc}
 use Rattle.std.proofs.lemmas.Fmt.{decimal_injective, length-decimal-le}
@@ -33,7 +34,8 @@ use Rattle.world_invariant_laws.specs.session_model.Items as item
 use Rattle.world_invariant_laws.specs.session_model.Subscriptions.{sub_named, is_crowded}
 use Rattle.world_invariant_laws.specs.session_model.State.{State, started, after}
 use Rattle.world_invariant_laws.specs.session_model.Moments.{Moment}
-use Rattle.world_invariant_laws.specs.session_model.Taking.{max_text, Taken, at_once, to_queue, taken_as, taken_named, taken_tree, taken_text, connects, message_of, is_connected_by, queued_from}
+use Rattle.world_invariant_laws.specs.session_model.Taking.{max_text, Taken, at_once, to_queue, taken_as, taken_named, taken_tree, taken_text}
+use Rattle.world_invariant_laws.specs.session_model.Taking.{connects, message_of, is_connected_by, queued_from}
 use Rattle.world_invariant_laws.specs.session_model.Answering.{Answers}
 use Rattle.world_invariant_laws.specs.session_model.Fits.{seed_or, opened_by, closed_by, item_for, CanFollow, FitsFrom, Fits}
 use Rattle.world_invariant_laws.specs.session_model.Counting.{one_if, method_by, methods_handled}
@@ -69,7 +71,8 @@ item_counts app number st (client.method x name params s) i id e =
 item_counts app number st (client.sub x name params) i id e =
     let m = client.sub x name params in
     elim (is_some (sub_named x st.subs)) as
-    (λ b. cond b (item.same m) (cond (is_crowded st.subs) (item.nosub m (Some fault.TooMany)) (opened_by st.opened m (making app name params))) ≡ i → method_by id i ≤ 0) [
+    (λ b. cond b (item.same m) (cond (is_crowded st.subs) (item.nosub m (Some fault.TooMany)) (opened_by st.opened m (making app name params))) ≡ i →
+    method_by id i ≤ 0) [
       | true ↦ λ f. omega (arith, ap (method_by id) f)
       | false ↦ elim (is_crowded st.subs) as
           (λ b. cond b (item.nosub m (Some fault.TooMany)) (opened_by st.opened m (making app name params)) ≡ i → method_by id i ≤ 0) [

@@ -1,5 +1,6 @@
 -- A settled world's sessions are at rest: quiescent, or for one of the named reasons not.
-use Rattle.std.specs.Prelude.{◌≡◌, ◌≤◌, ℕ, suc, List, [], ◌∷◌, ◌++◌, length, decimal, map, Bool, true, false, not, ◌&&◌, Option, Some, None, is_none, is_some, IsSome, IfSome, refl}
+use Rattle.std.specs.Prelude.{◌≡◌, ◌≤◌, ℕ, suc, List, [], ◌∷◌, ◌++◌, length, decimal, map, Bool, true, false, not, ◌&&◌, Option, Some, None, is_none}
+use Rattle.std.specs.Prelude.{is_some, IsSome, IfSome, refl}
 use Rattle.std.specs.List.{list_any}
 use Rattle.std.proofs.Common.{ap, sym, subst, ◌∙◌, arith, append-nil, inl, inr}
 use Rattle.std.proofs.lemmas.Bool.{leb-true, or_parts}
@@ -73,7 +74,8 @@ module _ (app : App) (h : List Entry) (c : Conn) (l : IsLinked app h c) (kept : 
   all_taken_ : messages_in k.taken ≡ said
   all_taken_ =
       let taken : k.taken ≡ c.sent = sym (append-nil k.taken) ∙ (ap (λ (ts : List (List ℕ)). k.taken ++ ts) (sym r.downward) ∙ k.is) in
-      let sent : c.sent ≡ out_texts (moments app c.number h) c.number c.items = sym (append-nil c.sent) ∙ (ap (λ (ts : List (List ℕ)). c.sent ++ ts) (sym r.outbox) ∙ l.served.session.texts) in
+      let sent : c.sent ≡ out_texts (moments app c.number h) c.number c.items = sym (append-nil c.sent)
+      ∙ (ap (λ (ts : List (List ℕ)). c.sent ++ ts) (sym r.outbox) ∙ l.served.session.texts) in
       ap messages_in (taken ∙ sent) ∙ (out_reads app c.number (moments app c.number h) c.items kept l.served.session.fits).1
 
   received_all : texts_of c ≡ c.received
@@ -83,7 +85,8 @@ module _ (app : App) (h : List Entry) (c : Conn) (l : IsLinked app h c) (kept : 
 
   pub has_session : IsSome c.client.session
   has_session =
-      let begins : is_connected_by false c.received ≡ true = ap (is_connected_by false) (sym received_all ∙ p.asking.begins) ∙ first_connects p.asking.first p.asking.more p.asking.opens in
+      let begins : is_connected_by false c.received ≡ true = ap (is_connected_by false) (sym received_all ∙ p.asking.begins)
+      ∙ first_connects p.asking.first p.asking.more p.asking.opens in
       let connected : (state_in c).connected ≡ true = sym l.served.session.answers.connected ∙ begins in
       ap (λ o. is_some o) (k.session ∙ ap (session_after None) all_taken_) ∙ connected_says (moments app c.number h) c.number c.items connected
 
@@ -95,7 +98,8 @@ module _ (app : App) (h : List Entry) (c : Conn) (l : IsLinked app h c) (kept : 
       let answers = l.served.session.answers in
       let counts = methods_are_answered app c.number C c.items fits id in
       let waiting : map (λ (w : Waiting). w.message) c.queue ≡ [] = ap (map (λ (w : Waiting). w.message)) r.queue in
-      let in_turn : queued_from false c.received ≡ handled c.items = answers.in_turn ∙ (ap (λ (ms : List ClientMessage). handled c.items ++ ms) waiting ∙ append-nil (handled c.items)) in
+      let in_turn : queued_from false c.received ≡ handled c.items = answers.in_turn
+      ∙ (ap (λ (ms : List ClientMessage). handled c.items ++ ms) waiting ∙ append-nil (handled c.items)) in
       let asked : asks_for id c.received ≡ one_if (is_some (number_of (length c.client.calls) id)) = ap (asks_for id) (sym received_all) ∙ p.asking.each id in
       omega (
         arith,
@@ -112,7 +116,8 @@ module _ (app : App) (h : List Entry) (c : Conn) (l : IsLinked app h c) (kept : 
 
   pub has_updates : are_updated c.client.calls ≡ true
   has_updates = all_updated c.client.calls
-      (λ n less. k.counted.updates (suc n) (omega (arith, less, k.counted.few)) ∙ (one_told (decimal (suc n)) ∙ ap one_if (number_there (length c.client.calls) n less)))
+      (λ n less. k.counted.updates (suc n) (omega (arith, less, k.counted.few))
+      ∙ (one_told (decimal (suc n)) ∙ ap one_if (number_there (length c.client.calls) n less)))
 
 -- ---- at rest
 

@@ -1,5 +1,6 @@
 -- Laws: What a client knows of its session and its calls is what the messages that it took say.
-use Rattle.std.specs.Prelude.{◌≡◌, ℕ, zero, suc, ◌+◌, ◌<◌, List, [], ◌∷◌, ◌++◌, length, decimal, slice_get, Bool, true, false, cond, not, ◌&&◌, ◌||◌, Option, Some, None, is_some, option_and_then, refl}
+use Rattle.std.specs.Prelude.{◌≡◌, ℕ, zero, suc, ◌+◌, ◌<◌, List, [], ◌∷◌, ◌++◌, length, decimal, slice_get, Bool, true, false, cond, not, ◌&&◌, ◌||◌}
+use Rattle.std.specs.Prelude.{Option, Some, None, is_some, option_and_then, refl}
 use Rattle.std.specs.Ordering.{nat_cmp, eq_by_cmp}
 use Rattle.std.proofs.Common.{ap, sym, subst, ◌∙◌, arith}
 use Rattle.std.proofs.lemmas.Fmt.{decimal_injective}
@@ -13,7 +14,8 @@ use Rattle.view_model.specs.PendingLaws.{number_order}
 use Rattle.ddp_messages.specs.ServerMessage.{ServerMessage}
 use Rattle.ddp_messages.specs.ServerMessage as server
 use Rattle.client_model.specs.Client.{Call, Client}
-use Rattle.client_model.specs.Taking.{number_of, call_at, call_of, result_refusal, early_refusal, late_refusal, awaits_update, updated_refusal, call_changed, number_changed, all_changed, outcome_by, with_outcome, with_update, calls_in}
+use Rattle.client_model.specs.Taking.{number_of, call_at, call_of, result_refusal, early_refusal, late_refusal, awaits_update, updated_refusal}
+use Rattle.client_model.specs.Taking.{call_changed, number_changed, all_changed, outcome_by, with_outcome, with_update, calls_in}
 use Rattle.client_model.specs.CallLaws.{others_stay}
 use Rattle.world_invariant_laws.specs.session_model.Counting.{one_if, result_in, updated_in, results, updateds}
 use Rattle.world_invariant_laws.specs.session_journal_laws.CountsLaws.{total-append}
@@ -78,7 +80,8 @@ marked g f calls id n0 n call there before after is small less =
       | true ↦ λ t.
           let same : n ≡ n0 = key_is number_order n n0 t in
           let old : g (call_at calls n) ≡ 0 = ap (λ k. g (call_at calls k)) same ∙ (ap g there ∙ before) in
-          let new : g (call_at (number_changed n0 f calls) n) ≡ 1 = ap (λ k. g (call_at (number_changed n0 f calls) k)) same ∙ (ap g (number_here n0 f calls call there) ∙ after) in
+          let new : g (call_at (number_changed n0 f calls) n) ≡ 1 = ap (λ k. g (call_at (number_changed n0 f calls) k)) same
+          ∙ (ap g (number_here n0 f calls call there) ∙ after) in
           let one : one_if (is_name (decimal n) id) ≡ 1 = ap one_if (name_self (decimal n) id (ap decimal same ∙ sym is)) in
           omega (arith, old, new, one)
       | false ↦ λ t.
@@ -177,7 +180,8 @@ pub late_counted : (c : Client) (ms : List ServerMessage) (m : ServerMessage) �
 late_counted c ms (server.finished id fault value) ok plain k = finished_counted c.calls ms id fault value (number_of (length c.calls) id) refl ok k
 late_counted c ms (server.updated ids) ok plain k =
     subst (λ (xs : List (List ℕ)). AreCounted (calls_in c.calls (server.updated xs)) (ms ++ server.updated xs ∷ [])) (sym plain.1)
-    (updated_counted c.calls ms plain.0 (number_of (length c.calls) plain.0) refl (awaits (subst (λ (xs : List (List ℕ)). updated_refusal c.calls xs ≡ None) plain.1 ok)) k)
+    (updated_counted c.calls ms plain.0 (number_of (length c.calls) plain.0) refl
+    (awaits (subst (λ (xs : List (List ℕ)). updated_refusal c.calls xs ≡ None) plain.1 ok)) k)
   where
     awaits : updated_refusal c.calls (plain.0 ∷ []) ≡ None → awaits_update (call_of c.calls plain.0) ≡ true
     awaits e = by (awaits_update (call_of c.calls plain.0)) e

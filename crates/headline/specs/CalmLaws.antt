@@ -22,7 +22,8 @@ use Rattle.world_model.specs.session_model.Methods.{id_at}
 use Rattle.world_model.specs.session_model.State.{State, started, after}
 use Rattle.world_model.specs.session_model.Moments.{Moment, end_at}
 use Rattle.world_model.specs.session_model.Shown.{Calls, call_of, merge_of, difference}
-use Rattle.world_model.specs.session_model.Out.{about, ready, updated, result_by, results_by, all_refused_with, history_full, own_messages, told_after, out_from, out_texts}
+use Rattle.world_model.specs.session_model.Out.{about, ready, updated, result_by, results_by, all_refused_with, history_full, own_messages}
+use Rattle.world_model.specs.session_model.Out.{told_after, out_from, out_texts}
 use Rattle.world_model.specs.session_model.Fits.{Fits}
 use Rattle.world_model.specs.session_model.Kept.{AreKept}
 use Rattle.session_journal_laws.specs.ReadableLaws.{out_reads}
@@ -79,7 +80,8 @@ mild_from C number past st (i ∷ items) =
     let changes = difference (merge_of past) (merge_of (call_of C st i ∷ past)) in
     let words = own_messages C number st i ++ map updated (told_after st i) in
     mild_both (map about changes ++ words) (out_from C number (call_of C st i ∷ past) (after st i) items)
-    (mild_both (map about changes) words (mild_data changes) (mild_both (own_messages C number st i) (map updated (told_after st i)) (mild_own C number st i) (mild_updated (told_after st i))))
+    (mild_both (map about changes) words (mild_data changes)
+    (mild_both (own_messages C number st i) (map updated (told_after st i)) (mild_own C number st i) (mild_updated (told_after st i))))
     (mild_from C number (call_of C st i ∷ past) (after st i) items)
 
 -- ---- texts

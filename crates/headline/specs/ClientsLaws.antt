@@ -1,5 +1,6 @@
 -- Laws: What an act of a client and its session leaves to be done by them.
-use Rattle.std.specs.Prelude.{◌≡◌, ℕ, zero, suc, ◌+◌, ◌*◌, ◌≤◌, ◌<◌, ◌==◌, nat_lt, nat_le, List, [], ◌∷◌, ◌++◌, length, sum_by, true, false, cond, ◌&&◌, Option, Some, None, is_some, is_none, IfSome, refl}
+use Rattle.std.specs.Prelude.{◌≡◌, ℕ, zero, suc, ◌+◌, ◌*◌, ◌≤◌, ◌<◌, ◌==◌, nat_lt, nat_le, List, [], ◌∷◌, ◌++◌, length, sum_by, true, false, cond}
+use Rattle.std.specs.Prelude.{◌&&◌, Option, Some, None, is_some, is_none, IfSome, refl}
 use Rattle.std.proofs.Common.{ap, sym, subst, ◌∙◌, arith}
 use Rattle.std.proofs.lemmas.Bool.{and_parts, ltb-true, leb-true, eqb-true}
 use Rattle.std.proofs.lemmas.List.{length-append}
@@ -9,7 +10,8 @@ use Rattle.world_model.specs.history_model.declared.entry.Entry.{Entry}
 use Rattle.world_model.specs.session_model.Items.{Item}
 use Rattle.world_model.specs.session_model.Items as item
 use Rattle.world_model.specs.session_model.Subscriptions.{Live, cursor_of, may_load, loaded, moved, advanced, is_open}
-use Rattle.world_model.specs.session_model.Methods.{Phase, running, refused, finished, told, Method, Blocking, is_blocked_by, freed, phase_at, turned, fired, fire}
+use Rattle.world_model.specs.session_model.Methods.{Phase, running, refused, finished, told, Method, Blocking, is_blocked_by, freed, phase_at, turned}
+use Rattle.world_model.specs.session_model.Methods.{fired, fire}
 use Rattle.world_model.specs.session_model.Counting.{is_running as runs_on, one_if}
 use Rattle.world_model.specs.session_model.State.{State, after, started}
 use Rattle.world_model.specs.session_model.Taking.{Taken, at_once, to_queue, taken_text}
@@ -65,7 +67,8 @@ loads_lower entries s place [] may = absurd (cc may)
 loads_lower entries s place (l ∷ ls) may =
     let turn : Live = record l { cursor = Some place } in
     elim (s == l.sub) as
-    (λ b. cond b (is_none l.cursor && nat_le l.floor place) (may_load s place ls) ≡ true → sum_by (left_by entries) (cond b (turn ∷ ls) (l ∷ loaded s place ls)) < sum_by (left_by entries) (l ∷ ls)) [
+    (λ b. cond b (is_none l.cursor && nat_le l.floor place) (may_load s place ls) ≡ true →
+    sum_by (left_by entries) (cond b (turn ∷ ls) (l ∷ loaded s place ls)) < sum_by (left_by entries) (l ∷ ls)) [
       | true ↦ λ m.
           let none = none_is l.cursor (and_parts (is_none l.cursor) (nat_le l.floor place) m).0 in
           omega (arith, sum_by-cons (left_by entries) turn ls, sum_by-cons (left_by entries) l ls, ap (cursor_left entries) none)
@@ -88,7 +91,8 @@ advances_lower entries s count [] may = absurd (cc may)
 advances_lower entries s count (l ∷ ls) may =
     let turn : Live = record l { cursor = moved count l.cursor } in
     elim (s == l.sub) as
-    (λ b. may_advance entries count (cond b l.cursor (cursor_of s ls)) ≡ true → sum_by (left_by entries) (cond b (turn ∷ ls) (l ∷ advanced s count ls)) < sum_by (left_by entries) (l ∷ ls)) [
+    (λ b. may_advance entries count (cond b l.cursor (cursor_of s ls)) ≡ true →
+    sum_by (left_by entries) (cond b (turn ∷ ls) (l ∷ advanced s count ls)) < sum_by (left_by entries) (l ∷ ls)) [
       | true ↦ λ m. omega (arith, sum_by-cons (left_by entries) turn ls, sum_by-cons (left_by entries) l ls, moves_lower entries count l.cursor m)
       | false ↦ λ m. omega
           (arith, sum_by-cons (left_by entries) l (advanced s count ls), sum_by-cons (left_by entries) l ls, advances_lower entries s count ls m)
@@ -117,7 +121,13 @@ fired_same ls p = refl
 pub fire_same : (ls : List Live) (ms : List Method) → sum_by run_of (fire ls ms) ≡ sum_by run_of ms
 fire_same ls [] = refl
 fire_same ls (m ∷ ms) =
-    omega (arith, sum_by-cons run_of (record m { phase = fired ls m.phase }) (fire ls ms), sum_by-cons run_of m ms, fire_same ls ms, ap one_if (fired_same ls m.phase))
+    omega (
+      arith,
+      sum_by-cons run_of (record m { phase = fired ls m.phase }) (fire ls ms),
+      sum_by-cons run_of m ms,
+      fire_same ls ms,
+      ap one_if (fired_same ls m.phase),
+    )
 
 turned_less : (k : ℕ) (p : Phase) (ms : List Method) → phase_at k ms ≡ Some running → runs_on p ≡ false → suc (sum_by run_of (turned k p ms)) ≡ sum_by run_of ms
 turned_less k p [] is still = absurd (cc is)

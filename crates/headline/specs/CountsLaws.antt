@@ -1,5 +1,6 @@
 -- Laws: In a session at rest each method that was asked for was handled, and told `updated`.
-use Rattle.std.specs.Prelude.{◌≡◌, ◌⊎◌, ℕ, zero, suc, ◌<◌, ◌≤◌, List, [], ◌∷◌, ◌++◌, length, decimal, slice_get, Bool, true, false, cond, not, ◌&&◌, Option, Some, None, Ok, Err, is_some, option_and_then, if◌then◌else◌, refl}
+use Rattle.std.specs.Prelude.{◌≡◌, ◌⊎◌, ℕ, zero, suc, ◌<◌, ◌≤◌, List, [], ◌∷◌, ◌++◌, length, decimal, slice_get, Bool, true, false, cond, not, ◌&&◌}
+use Rattle.std.specs.Prelude.{Option, Some, None, Ok, Err, is_some, option_and_then, if◌then◌else◌, refl}
 use Rattle.std.proofs.Common.{ap, sym, subst, ◌∙◌, arith, inl, inr}
 use Rattle.std.proofs.lemmas.Bool.{and_parts, le-leb, cases_order}
 use Rattle.value_model.specs.Size.{is_name}
@@ -52,7 +53,8 @@ item_counts app number st (client.method x name params s) i id e =
 item_counts app number st (client.sub x name params) i id e =
     let m = client.sub x name params in
     elim (is_some (sub_named x st.subs)) as
-    (λ b. cond b (item.same m) (cond (is_crowded st.subs) (item.nosub m (Some fault.TooMany)) (opened_by st.opened m (making app name params))) ≡ i → method_by id i ≡ 0) [
+    (λ b. cond b (item.same m) (cond (is_crowded st.subs) (item.nosub m (Some fault.TooMany)) (opened_by st.opened m (making app name params))) ≡ i →
+    method_by id i ≡ 0) [
       | true ↦ λ f. ap (method_by id) (sym f)
       | false ↦ elim (is_crowded st.subs) as
           (λ b. cond b (item.nosub m (Some fault.TooMany)) (opened_by st.opened m (making app name params)) ≡ i → method_by id i ≡ 0) [
@@ -155,7 +157,11 @@ none_armed : (id : List ℕ) (entries : ℕ) (ls : List Live) (ms : List Method)
     number_in is_armed id ms ≡ 0
 none_armed id entries ls [] end early shut = refl
 none_armed id entries ls (m ∷ ms) end early shut =
-    omega (arith, ap (λ b. if b then one_if (is_name id m.id) else 0) (unarmed entries ls m.phase end early.0 shut.0), none_armed id entries ls ms end early.1 shut.1)
+    omega (
+      arith,
+      ap (λ b. if b then one_if (is_name id m.id) else 0) (unarmed entries ls m.phase end early.0 shut.0),
+      none_armed id entries ls ms end early.1 shut.1,
+    )
 
 -- once each live subscription is at the end of the history
 pub none_waits : (app : App) (number : ℕ) (C : List Moment) (items : List Item) (id : List ℕ) (entries : ℕ) → Fits app number C items →

@@ -1,4 +1,5 @@
--- The messages of a session fit its client: `connected` or `failed` comes first and once, and each message about a document fits the documents that those before it lead to.
+-- The messages of a session fit its client: `connected` or `failed` comes first and once, and each message about a document fits the documents that
+-- those before it lead to.
 use Rattle.std.specs.Prelude.{◌≡◌, ℕ, List, [], ◌∷◌, Bool, false, Option, Some, None, IfSome}
 use Rattle.map_model.specs.Maps.{at, set}
 use Rattle.map_model.specs.Differences.{Step, taken, all_taken}

@@ -1,4 +1,5 @@
--- Laws: The messages of a session fit its client: `connected` or `failed` comes first and once, and each message about a document fits the documents that those before it lead to.
+-- Laws: The messages of a session fit its client: `connected` or `failed` comes first and once, and each message about a document fits the documents
+-- that those before it lead to.
 use Rattle.std.specs.Prelude.{◌≡◌, ℕ, ◌==◌, List, [], ◌∷◌, ◌++◌, map, Bool, true, false, cond, Option, Some, None, IfSome, is_some, codes, refl}
 use Rattle.std.specs.Ordering.{eq_by_cmp}
 use Rattle.std.proofs.Common.{ap, ap₂, sym, subst, ◌∙◌}
@@ -28,7 +29,8 @@ use Rattle.world_invariant_laws.specs.session_model.State.{State, after}
 use Rattle.world_invariant_laws.specs.session_model.Moments.{Moment, moment_at, end_at}
 use Rattle.world_invariant_laws.specs.session_model.Shown.{Calls, call_of, merge_of, difference}
 use Rattle.world_invariant_laws.specs.session_model.Data.{data_in, data_of}
-use Rattle.world_invariant_laws.specs.session_model.Out.{session_name, about, ready, updated, result_by, results_by, history_full, refused_with, all_refused_with, own_messages, told_after, words_of, messages_of, out_from, out}
+use Rattle.world_invariant_laws.specs.session_model.Out.{session_name, about, ready, updated, result_by, results_by, history_full, refused_with}
+use Rattle.world_invariant_laws.specs.session_model.Out.{all_refused_with, own_messages, told_after, words_of, messages_of, out_from, out}
 use Rattle.world_invariant_laws.specs.session_model.Fits.{IsRefusedAt, CanFollow, FitsFrom, Fits}
 use Rattle.world_invariant_laws.specs.session_journal_laws.Shows.{merge_is}
 use Rattle.world_invariant_laws.specs.session_journal_laws.Taken.{said_of_step, data_of-about, all_taken-append, difference_taken}
@@ -70,7 +72,8 @@ difference_fits past later =
     let a = merge_of past in
     let b = merge_of later in
     sorted_fit a (difference a b) (merge_is past).by_key (diff_is key_order text_cmp (eq_by_cmp compare) a b (merge_is later).by_key).by_key
-    (λ q. subst (λ o. IfSome o (λ s. refusal (at key_cmp a q) s ≡ None)) (sym (at-diff key_order text_cmp (eq_by_cmp compare) a b q)) (between_fits (at key_cmp a q) (at key_cmp b q)))
+    (λ q. subst (λ o. IfSome o (λ s. refusal (at key_cmp a q) s ≡ None)) (sym (at-diff key_order text_cmp (eq_by_cmp compare) a b q))
+    (between_fits (at key_cmp a q) (at key_cmp b q)))
 
 -- ---- all messages
 
@@ -180,15 +183,19 @@ module _ (app : App) (number : ℕ) (C : List Moment) (name : List ℕ) where
       let ms = messages_of C number past st i in
       let rest = out_from C number past2 (after st i) items in
       let mid = rows_after (merge_of past) (map about ds) in
-      let quiet = accepts_quiet name mid words (quiet_more (own_messages C number st i) (map updated (told_after st i)) (own_quiet app number C st i f.0 c) (updated_quiet (told_after st i))) in
+      let quiet = accepts_quiet name mid words (quiet_more (own_messages C number st i) (map updated (told_after st i))
+      (own_quiet app number C st i f.0 c) (updated_quiet (told_after st i))) in
       let session : session_after (Some name) (map about ds) ≡ Some name = data_session (Some name) ds in
-      let rows : mid ≡ merge_of past2 = rows_told (merge_of past) (map about ds) ∙ (ap (all_taken text_cmp key_cmp (merge_of past)) (data_of-about ds) ∙ difference_taken past past2) in
+      let rows : mid ≡ merge_of past2 = rows_told (merge_of past) (map about ds)
+      ∙ (ap (all_taken text_cmp key_cmp (merge_of past)) (data_of-about ds) ∙ difference_taken past past2) in
       let one : Accepts (Some name) (merge_of past) ms =
       Accepts-append (Some name) (merge_of past) (map about ds) words (accepts_data name (merge_of past) ds (difference_fits past past2))
       (subst (λ s. Accepts s mid words) (sym session) quiet.0) in
       Accepts-append (Some name) (merge_of past) ms rest one
-      (subst (λ s. Accepts s (rows_after (merge_of past) ms) rest) (sym (after_session (map about ds) words (Some name) ∙ (ap (λ s. session_after s words) session ∙ quiet.1.0)))
-      (subst (λ (r : Rows). Accepts (Some name) r rest) (sym (after_rows (map about ds) words (merge_of past) ∙ (quiet.1.1 ∙ rows))) (accepts_from past2 (after st i) items f.1 (stays_connected st i c))))
+      (subst (λ s. Accepts s (rows_after (merge_of past) ms) rest)
+      (sym (after_session (map about ds) words (Some name) ∙ (ap (λ s. session_after s words) session ∙ quiet.1.0)))
+      (subst (λ (r : Rows). Accepts (Some name) r rest) (sym (after_rows (map about ds) words (merge_of past) ∙ (quiet.1.1 ∙ rows)))
+      (accepts_from past2 (after st i) items f.1 (stays_connected st i c))))
     where
       after_session : (xs ys : List ServerMessage) (s : Option (List ℕ)) → session_after s (xs ++ ys) ≡ session_after (session_after s xs) ys
       after_session [] ys s = refl

@@ -1,4 +1,5 @@
--- What a journal that fits says of its session's subscriptions and calls: each place is one of the history, and a call that runs blocks or has let the next message be handled.
+-- What a journal that fits says of its session's subscriptions and calls: each place is one of the history, and a call that runs blocks or has let
+-- the next message be handled.
 use Rattle.std.specs.Prelude.{◌≡◌, ◌⊎◌, ℕ, ◌≤◌, ◌<◌, List, [], ◌∷◌, true, Some, IfSome}
 use Rattle.world_model.specs.session_model.Subscriptions.{Live}
 use Rattle.world_model.specs.session_model.Methods.{running, is_blocked_by, phase_at}

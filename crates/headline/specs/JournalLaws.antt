@@ -1,5 +1,7 @@
--- Laws: What a journal that fits says of its session's subscriptions and calls: each place is one of the history, and a call that runs blocks or has let the next message be handled.
-use Rattle.std.specs.Prelude.{◌≡◌, ◌⊎◌, ℕ, zero, suc, ◌+◌, ◌≤◌, ◌<◌, ◌==◌, max, List, [], ◌∷◌, ◌++◌, length, Bool, true, false, cond, not, Option, Some, None, IfSome, option_map, option_and_then, refl}
+-- Laws: What a journal that fits says of its session's subscriptions and calls: each place is one of the history, and a call that runs blocks or has
+-- let the next message be handled.
+use Rattle.std.specs.Prelude.{◌≡◌, ◌⊎◌, ℕ, zero, suc, ◌+◌, ◌≤◌, ◌<◌, ◌==◌, max, List, [], ◌∷◌, ◌++◌, length, Bool, true, false, cond, not, Option}
+use Rattle.std.specs.Prelude.{Some, None, IfSome, option_map, option_and_then, refl}
 use Rattle.std.proofs.Common.{ap, sym, subst, ◌∙◌, arith, inl, inr}
 use Rattle.std.proofs.lemmas.Bool.{eqb-true, eq-eqb, cases_order}
 use Rattle.program_steps.specs.declared.outcome.Status.{Status}
@@ -128,7 +130,8 @@ within_loaded : (n r s place : ℕ) (ls : List Live) → place < n → AreWithin
 within_loaded n r s place [] less w = tt
 within_loaded n r s place (l ∷ ls) less w =
     elim (s == l.sub) as
-    (λ b. AreWithin n r (cond b (record l { cursor = Some place } ∷ ls) (l ∷ loaded s place ls))) [ true ↦ ((w.0.0, less), w.1) | false ↦ (w.0, within_loaded n r s place ls less w.1) ]
+    (λ b. AreWithin n r (cond b (record l { cursor = Some place } ∷ ls) (l ∷ loaded s place ls)))
+    [ true ↦ ((w.0.0, less), w.1) | false ↦ (w.0, within_loaded n r s place ls less w.1) ]
 
 moved_within : (n count : ℕ) (o : Option ℕ) → MayAdvance n count o → IfSome (moved count o) (λ cursor. cursor < n)
 moved_within n count None may = absurd may
@@ -138,7 +141,8 @@ within_advanced : (n r s count : ℕ) (ls : List Live) → MayAdvance n count (c
 within_advanced n r s count [] may w = tt
 within_advanced n r s count (l ∷ ls) may w =
     elim (s == l.sub) as
-    (λ b. MayAdvance n count (cond b l.cursor (cursor_of s ls)) → AreWithin n r (cond b (record l { cursor = moved count l.cursor } ∷ ls) (l ∷ advanced s count ls))) [
+    (λ b. MayAdvance n count (cond b l.cursor (cursor_of s ls)) →
+    AreWithin n r (cond b (record l { cursor = moved count l.cursor } ∷ ls) (l ∷ advanced s count ls))) [
       | true ↦ λ m. ((w.0.0, moved_within n count l.cursor m), w.1)
       | false ↦ λ m. (w.0, within_advanced n r s count ls m w.1)
     ] may

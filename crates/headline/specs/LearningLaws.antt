@@ -1,5 +1,6 @@
 -- Laws: What a session learns of a call leaves less to learn, and no more to begin.
-use Rattle.std.specs.Prelude.{◌≡◌, ℕ, ◌≤◌, ◌<◌, nat_le, List, length, Bool, true, false, cond, ◌&&◌, ◌||◌, Option, Some, None, option_map, IfSome, refl, if◌then◌else◌}
+use Rattle.std.specs.Prelude.{◌≡◌, ℕ, ◌≤◌, ◌<◌, nat_le, List, length, Bool, true, false, cond, ◌&&◌, ◌||◌, Option, Some, None, option_map, IfSome}
+use Rattle.std.specs.Prelude.{refl, if◌then◌else◌}
 use Rattle.std.proofs.Common.{ap, sym, subst, ◌∙◌, arith}
 use Rattle.std.proofs.lemmas.Bool.{eqb-true}
 use Rattle.app_model.specs.App.{App}
@@ -72,7 +73,9 @@ news_is app history c k place i tidy e = by (is_kept k c.kept) refl e
     within false free one = absurd (cc one)
 
     by : (b : Bool) → is_kept k c.kept ≡ b →
-        (if b then option_map (λ (r : Refusal). item.refused k r.at) c.kept else (if nat_le place (length history) then news_by (state_in c) k (status_at (programs app) history place c.number k) else None)) ≡ Some i → IsNews app history c k i
+        (if b then option_map (λ (r : Refusal). item.refused k r.at) c.kept else
+        (if nat_le place (length history) then news_by (state_in c) k (status_at (programs app) history place c.number k) else None)) ≡ Some i →
+        IsNews app history c k i
     by true h one = kept_news app history c k i c.kept tidy refl h tidy.kept one
     by false h one = within (nat_le place (length history)) h one
 
@@ -88,7 +91,8 @@ pub learn_less : (app : App) (history : List Entry) (c : Conn) (k place : ℕ) (
     learns_in (learns app history c k place) < learns_in c
 learn_less app history c k place i tidy e =
     subst (λ (o : Option Item). learns_in (learns_item app history (kept_after k c) o) < learns_in c) (sym e)
-    (subst (λ (st : State). state_learns st < state_learns (state_in c)) (sym (item_state app history (kept_after k c) i)) (news_less app history c k i (news_is app history c k place i tidy e)))
+    (subst (λ (st : State). state_learns st < state_learns (state_in c)) (sym (item_state app history (kept_after k c) i))
+    (news_less app history c k i (news_is app history c k place i tidy e)))
 
 -- ---- no more to begin
 
@@ -175,7 +179,12 @@ wanted_fewer app history later n kept (Some b) more = by (has_run app history n 
 pub calls_fewer : (app : App) (history later : List Entry) (c : Conn) →
     ((k : ℕ) → has_run app history c.number k ≡ true → has_run app later c.number k ≡ true) → calls_in app later c ≤ calls_in app history c
 calls_fewer app history later c more =
-    omega (arith, wanted_fewer app history later c.number c.kept (state_in c).blocking more, ap number_of (unbegun_is app history c), ap number_of (unbegun_is app later c))
+    omega (
+      arith,
+      wanted_fewer app history later c.number c.kept (state_in c).blocking more,
+      ap number_of (unbegun_is app history c),
+      ap number_of (unbegun_is app later c),
+    )
 
 -- where the same calls have one, there are as many
 pub calls_same : (app : App) (history later : List Entry) (c : Conn) → ((k : ℕ) → has_run app later c.number k ≡ has_run app history c.number k) →

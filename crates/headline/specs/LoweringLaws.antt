@@ -1,5 +1,6 @@
 -- Laws: Each act that is made leaves less to be done.
-use Rattle.std.specs.Prelude.{◌≡◌, ◌⊎◌, ℕ, ◌+◌, ◌<◌, nat_lt, nat_le, List, [], ◌∷◌, ◌++◌, length, Bool, true, false, cond, not, ◌&&◌, Option, Some, None, is_some, is_none, IfSome, refl, if◌then◌else◌}
+use Rattle.std.specs.Prelude.{◌≡◌, ◌⊎◌, ℕ, ◌+◌, ◌<◌, nat_lt, nat_le, List, [], ◌∷◌, ◌++◌, length, Bool, true, false, cond, not, ◌&&◌, Option, Some}
+use Rattle.std.specs.Prelude.{None, is_some, is_none, IfSome, refl, if◌then◌else◌}
 use Rattle.std.specs.BTreeMap.{insert_entry}
 use Rattle.std.proofs.Common.{ap, sym, subst, ◌∙◌, append-nil, arith, inl, inr}
 use Rattle.std.proofs.lemmas.Bool.{not-true, eq-eqb}
@@ -22,7 +23,9 @@ use Rattle.world_model.specs.declared.events.Act.TheVariants as act
 use Rattle.world_model.specs.declared.events.Answer.TheVariants as answer
 use Rattle.world_model.specs.Store.{held_in}
 use Rattle.world_model.specs.Conn.{Waiting, Refusal, Conn, state_in, link_limit, outbox_limit, is_full, is_at_work, has_some}
-use Rattle.world_model.specs.Acts.{goes_up, received_as, receives, handles, with_item, is_kept, unbegun, is_refused, begin_entry, begun, refusal_kept, learnt, learns_item, learns, may_advance, sends, takes, enabled, is_of_session, is_queue_full, is_done, can, does, entries}
+use Rattle.world_model.specs.Acts.{goes_up, received_as, receives, handles, with_item, is_kept, unbegun, is_refused, begin_entry, begun, refusal_kept}
+use Rattle.world_model.specs.Acts.{learnt, learns_item, learns, may_advance, sends, takes, enabled, is_of_session, is_queue_full, is_done, can, does}
+use Rattle.world_model.specs.Acts.{entries}
 use Rattle.world_model.specs.World.{World, conn_of, with_conn, acted, done_by, done, can_by, can_in}
 use Rattle.world_model.specs.Settle.{texts_in, cursors_in, cursors, learns_in, all_learns, calls_in, calls, asks_in, asks, measures}
 use Rattle.headline.specs.SumsLaws.{present_less, present_same, present_lower, present_equal}
@@ -149,13 +152,19 @@ module _ (w : World) (name : List ℕ) (c : Conn) (sorted : IsSorted text_cmp w.
       calls_in w.app w.history d ≡ calls_in w.app w.history c → learns_in d ≡ learns_in c →
       cursors_in (length w.history) d < cursors_in (length w.history) c → Below measures (put d) w
   by_cursors d there same a k l less =
-      inl (inr ((same_learns d same l, (refl, (same_calls d same k, (same_asks d same a, tt)))), present_less (cursors_in (length w.history)) w.conns name c d sorted is there (same ∙ there) less))
+      inl (inr (
+        (same_learns d same l, (refl, (same_calls d same k, (same_asks d same a, tt)))),
+        present_less (cursors_in (length w.history)) w.conns name c d sorted is there (same ∙ there) less,
+      ))
 
   by_texts : (d : Conn) → c.is_dropped ≡ false → d.is_dropped ≡ c.is_dropped → asks_in d ≡ asks_in c →
       calls_in w.app w.history d ≡ calls_in w.app w.history c → learns_in d ≡ learns_in c →
       cursors_in (length w.history) d ≡ cursors_in (length w.history) c → texts_in d < texts_in c → Below measures (put d) w
   by_texts d there same a k l q less =
-      inr ((same_cursors d same q, (same_learns d same l, (refl, (same_calls d same k, (same_asks d same a, tt))))), present_less texts_in w.conns name c d sorted is there (same ∙ there) less)
+      inr (
+        (same_cursors d same q, (same_learns d same l, (refl, (same_calls d same k, (same_asks d same a, tt))))),
+        present_less texts_in w.conns name c d sorted is there (same ∙ there) less,
+      )
 
   -- ---- entries
 
@@ -165,7 +174,8 @@ module _ (w : World) (name : List ℕ) (c : Conn) (sorted : IsSorted text_cmp w.
   by_step : (k : ℕ) → goes_on (at run_cmp (held_in w.app w.history).runs (c.number, k)) ≡ true → Below measures (entered (entry.Step c.number k) c) w
   by_step k goes =
       let later = w.history ++ entry.Step c.number k ∷ [] in
-      let as_many = present_equal (calls_in w.app w.history) (calls_in w.app later) (insert_entry text_cmp w.conns name c) (λ d. calls_same w.app w.history later d (λ j. step_begins_none w.app w.history c.number k d.number j)) in
+      let as_many = present_equal (calls_in w.app w.history) (calls_in w.app later) (insert_entry text_cmp w.conns name c)
+      (λ d. calls_same w.app w.history later d (λ j. step_begins_none w.app w.history c.number k d.number j)) in
       inl (inl (inl (inr ((as_many ∙ same_calls c refl refl, (same_asks c refl refl, tt)), step_leaves_fewer w.app w.history c.number k goes))))
 
   by_begin : (b : Blocking) → c.is_dropped ≡ false → unbegun w.app w.history c ≡ Some b → Below measures (entered (begin_entry c.number b) c) w
@@ -200,12 +210,18 @@ module _ (w : World) (name : List ℕ) (c : Conn) (sorted : IsSorted text_cmp w.
 
   begin_lowers : (o : Option Blocking) → unbegun w.app w.history c ≡ o → is_some o ≡ true → c.is_dropped ≡ false →
       Below measures
-      (record w { history = w.history ++ begun w.app w.history c.number o; conns = insert_entry text_cmp w.conns name (record c { kept = refusal_kept w.app w.history o c.kept }) }) w
+      (record w {
+        history = w.history ++ begun w.app w.history c.number o;
+        conns = insert_entry text_cmp w.conns name (record c { kept = refusal_kept w.app w.history o c.kept });
+      }) w
   begin_lowers None free some there = absurd (cc some)
   begin_lowers (Some b) free some there =
       let r : Refusal = record { k = b.k; at = length w.history } in
       elim (is_refused w.app w.history b)
-      as (λ x. Below measures (record w { history = w.history ++ cond x [] (begin_entry c.number b ∷ []); conns = insert_entry text_cmp w.conns name (record c { kept = cond x (Some r) c.kept }) }) w) [
+      as (λ x. Below measures (record w {
+        history = w.history ++ cond x [] (begin_entry c.number b ∷ []);
+        conns = insert_entry text_cmp w.conns name (record c { kept = cond x (Some r) c.kept });
+      }) w) [
         | true ↦ plain (record c { kept = Some r }) [] refl (by_refusal b r there free (eq-eqb b.k b.k refl))
         | false ↦ by_begin b there free
       ]
@@ -227,11 +243,13 @@ module _ (w : World) (name : List ℕ) (c : Conn) (sorted : IsSorted text_cmp w.
   lowers act.Recv tidy e =
       let is_there = both (is_at_work c) (has_some c.upward) e in
       plain (receives w.app w.history c c.upward) [] refl
-      (by_asks (receives w.app w.history c c.upward) (at_work c is_there.0) (recv_there w.app w.history c c.upward) (recv_less w.app w.history c c.upward refl is_there.1))
+      (by_asks (receives w.app w.history c c.upward) (at_work c is_there.0) (recv_there w.app w.history c c.upward)
+      (recv_less w.app w.history c c.upward refl is_there.1))
   lowers act.Handle tidy e =
       let is_there = all_three (is_at_work c) (has_some c.queue) (is_none (state_in c).blocking) e in
       plain (handles w.app w.history c c.queue) [] refl
-      (by_asks (handles w.app w.history c c.queue) (at_work c is_there.0) (handle_there w.app w.history c c.queue) (handle_less w.app w.history c c.queue refl is_there.1))
+      (by_asks (handles w.app w.history c c.queue) (at_work c is_there.0) (handle_there w.app w.history c c.queue)
+      (handle_less w.app w.history c c.queue refl is_there.1))
   lowers act.Begin tidy e =
       let is_there = both (not c.is_dropped) (is_some (unbegun w.app w.history c)) e in
       begin_lowers (unbegun w.app w.history c) refl is_there.1 (not-true c.is_dropped is_there.0)
@@ -243,24 +261,28 @@ module _ (w : World) (name : List ℕ) (c : Conn) (sorted : IsSorted text_cmp w.
       let is_there = all_three (is_at_work c) (nat_le place (length w.history)) (may_load sub place (state_in c).subs) e in
       let d = with_item w.app w.history c (item.load sub place) in
       plain d [] refl
-      (by_cursors d (at_work c is_there.0) refl refl (item_calls w.app w.history c (item.load sub place) refl) (load_learns w.app w.history c sub place) (load_less w.app w.history c sub place is_there.2))
+      (by_cursors d (at_work c is_there.0) refl refl (item_calls w.app w.history c (item.load sub place) refl)
+      (load_learns w.app w.history c sub place) (load_less w.app w.history c sub place is_there.2))
   lowers (act.Advance sub count) tidy e =
       let is_there = both (is_at_work c) (may_advance (length w.history) count (cursor_of sub (state_in c).subs)) e in
       let d = with_item w.app w.history c (item.advance sub count) in
       plain d [] refl
-      (by_cursors d (at_work c is_there.0) refl refl (item_calls w.app w.history c (item.advance sub count) refl) (advance_learns w.app w.history c sub count) (advance_less w.app w.history c sub count is_there.1))
+      (by_cursors d (at_work c is_there.0) refl refl (item_calls w.app w.history c (item.advance sub count) refl)
+      (advance_learns w.app w.history c sub count) (advance_less w.app w.history c sub count is_there.1))
   lowers act.Send tidy e =
       let is_there = all_three (not c.is_dropped) (has_some c.outbox) (nat_lt (length c.downward) link_limit) e in
       let d = sends c c.outbox in
       plain d [] refl
-      (by_texts d (not-true c.is_dropped is_there.0) (send_there c c.outbox) (send_same asks_in c c.outbox (λ x t ts. refl)) (send_same (calls_in w.app w.history) c c.outbox (λ x t ts. refl))
+      (by_texts d (not-true c.is_dropped is_there.0) (send_there c c.outbox) (send_same asks_in c c.outbox (λ x t ts. refl))
+      (send_same (calls_in w.app w.history) c c.outbox (λ x t ts. refl))
       (send_same learns_in c c.outbox (λ x t ts. refl)) (send_same (cursors_in (length w.history)) c c.outbox (λ x t ts. refl))
       (send_less c c.outbox refl is_there.1))
   lowers act.Take tidy e =
       let is_there = all_three (not c.is_dropped) (has_some c.downward) (can_take c.client) e in
       let d = takes c c.downward in
       plain d [] refl
-      (by_texts d (not-true c.is_dropped is_there.0) (take_there c c.downward) (take_asks c c.downward (tidy.calm is_there.2)) (take_calls w.app w.history c c.downward)
+      (by_texts d (not-true c.is_dropped is_there.0) (take_there c c.downward) (take_asks c c.downward (tidy.calm is_there.2))
+      (take_calls w.app w.history c c.downward)
       (take_learns c c.downward) (take_cursors (length w.history) c c.downward) (take_less c c.downward refl is_there.1))
 
 -- ---- in any world

@@ -1,5 +1,6 @@
 -- The next text on the link to a client is none that it refuses, but for its length; where there is no more than one `method` for each of its calls.
-use Rattle.std.specs.Prelude.{◌≡◌, ℕ, zero, suc, ◌+◌, ◌<◌, ◌≤◌, List, [], ◌∷◌, ◌++◌, length, decimal, slice_get, Bool, true, false, cond, not, ◌&&◌, nat_lt, Option, Some, None, is_some, option_and_then, refl}
+use Rattle.std.specs.Prelude.{◌≡◌, ℕ, zero, suc, ◌+◌, ◌<◌, ◌≤◌, List, [], ◌∷◌, ◌++◌, length, decimal, slice_get, Bool, true, false, cond, not, ◌&&◌}
+use Rattle.std.specs.Prelude.{nat_lt, Option, Some, None, is_some, option_and_then, refl}
 use Rattle.std.proofs.Common.{ap, sym, subst, ◌∙◌, arith, append-nil}
 use Rattle.std.proofs.lemmas.List.{append_assoc, map-append}
 use Rattle.map_model.specs.Differences.{all_taken}
@@ -16,7 +17,9 @@ use Rattle.ddp_messages.specs.ServerMessage as server
 use Rattle.app_model.specs.App.{App}
 use Rattle.world_invariant_laws.specs.history_model.declared.entry.Entry.{Entry}
 use Rattle.client_model.specs.Client.{Call}
-use Rattle.client_model.specs.Taking.{max_server_text, number_of, call_at, call_of, result_refusal, awaits_update, updated_refusal, early_refusal, late_refusal, message_refusal, session_in, documents_in, calls_in, breaks, told_message, told_unless, told_answer, told_text}
+use Rattle.client_model.specs.Taking.{max_server_text, number_of, call_at, call_of, result_refusal, awaits_update, updated_refusal, early_refusal}
+use Rattle.client_model.specs.Taking.{late_refusal, message_refusal, session_in, documents_in, calls_in, breaks, told_message, told_unless}
+use Rattle.client_model.specs.Taking.{told_answer, told_text}
 use Rattle.world_invariant_laws.specs.session_model.Texts.{message_in, messages_in}
 use Rattle.world_invariant_laws.specs.session_model.Data.{data_in, data_of}
 use Rattle.world_invariant_laws.specs.session_model.Out.{out, out_texts}
@@ -92,7 +95,8 @@ module _ (calls : List Call) (ms : List ServerMessage) (k : AreCounted calls ms)
       let some = some_is (number_of (length calls) id) (omega (arith, le)) in
       let number = number_is (length calls) id some.0 some.1 in
       let none : results id ms ≡ 0 = omega (arith, le, at_most_one (is_some (number_of (length calls) id))) in
-      let zero_ : has_outcome (call_at calls some.0) ≡ 0 = k.outcomes some.0 (omega (arith, number.within, k.few)) ∙ (ap (λ x. results x ms) (sym number.is) ∙ none) in
+      let zero_ : has_outcome (call_at calls some.0) ≡ 0 = k.outcomes some.0 (omega (arith, number.within, k.few))
+      ∙ (ap (λ x. results x ms) (sym number.is) ∙ none) in
       ap (λ o. result_refusal (option_and_then (call_at calls) o)) some.1 ∙ result_free (call_at calls some.0) (number_there calls id some.0 some.1) zero_
 
   update_fits : (id : List ℕ) → suc (updateds id ms) ≤ one_if (is_some (number_of (length calls) id)) → awaits_update (call_of calls id) ≡ true
@@ -100,7 +104,8 @@ module _ (calls : List Call) (ms : List ServerMessage) (k : AreCounted calls ms)
       let some = some_is (number_of (length calls) id) (omega (arith, le)) in
       let number = number_is (length calls) id some.0 some.1 in
       let none : updateds id ms ≡ 0 = omega (arith, le, at_most_one (is_some (number_of (length calls) id))) in
-      let zero_ : has_update (call_at calls some.0) ≡ 0 = k.updates some.0 (omega (arith, number.within, k.few)) ∙ (ap (λ x. updateds x ms) (sym number.is) ∙ none) in
+      let zero_ : has_update (call_at calls some.0) ≡ 0 = k.updates some.0 (omega (arith, number.within, k.few))
+      ∙ (ap (λ x. updateds x ms) (sym number.is) ∙ none) in
       ap (λ o. awaits_update (option_and_then (call_at calls) o)) some.1 ∙ update_free (call_at calls some.0) (number_there calls id some.0 some.1) zero_
 
 -- ---- the next message
@@ -134,7 +139,8 @@ module _ (app : App) (h : List Entry) (c : Conn) (p : IsLinked app h c) (k : IsK
 
   next_fits : (refusal_by c.client.session c.client.documents.server (message_in t) ≡ None) × IsPlain (message_in t)
   next_fits =
-      let a = accepts_next None [] told (message_in t) (messages_in (ts ++ c.outbox)) (subst (λ ms. Accepts None [] ms) (sym all_said) (out_accepted app c.number (moments app c.number h) c.items p.served.session.fits)) in (
+      let a = accepts_next None [] told (message_in t) (messages_in (ts ++ c.outbox))
+      (subst (λ ms. Accepts None [] ms) (sym all_said) (out_accepted app c.number (moments app c.number h) c.items p.served.session.fits)) in (
         ap (λ s. refusal_by s c.client.documents.server (message_in t)) k.session
             ∙ (ap (λ (r : Rows). refusal_by (session_after None told) r (message_in t)) (k.server ∙ sym (rows_told [] told)) ∙ a.0),
         a.1,
@@ -169,8 +175,10 @@ module _ (app : App) (h : List Entry) (c : Conn) (p : IsLinked app h c) (k : IsK
         result_fits c.client.calls told k.counted id (omega (arith, result_next id, own, (most id).0))
     late_fits (server.updated ids) e l plain =
         let id = plain.0 in
-        let own : updated_in id (message_in t) ≡ 1 = ap (updated_in id) (sym e) ∙ (ap (λ xs. updated_in id (server.updated xs)) plain.1 ∙ ap (λ b. one_if b + 0) (name_self id id refl)) in
-        let awaits : awaits_update (call_of c.client.calls id) ≡ true = update_fits c.client.calls told k.counted id (omega (arith, update_next id, own, (most id).1)) in
+        let own : updated_in id (message_in t) ≡ 1 = ap (updated_in id) (sym e)
+        ∙ (ap (λ xs. updated_in id (server.updated xs)) plain.1 ∙ ap (λ b. one_if b + 0) (name_self id id refl)) in
+        let awaits : awaits_update (call_of c.client.calls id) ≡ true =
+        update_fits c.client.calls told k.counted id (omega (arith, update_next id, own, (most id).1)) in
         ap (λ xs. updated_refusal c.client.calls xs) plain.1 ∙ ap (λ b. cond ((b && true) && true) None (Some 9)) awaits
     late_fits (server.ping id) e l plain = refl
     late_fits (server.pong id) e l plain = refl

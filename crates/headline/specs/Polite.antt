@@ -1,5 +1,6 @@
 -- What a client keeps to that sends no text as it stands.
-use Rattle.std.specs.Prelude.{◌≡◌, ◌⊎◌, ℕ, zero, suc, ◌<◌, List, [], ◌∷◌, ◌++◌, length, filter, map, slice_get, Bool, true, false, cond, ◌||◌, Option, Some, None, is_none, refl}
+use Rattle.std.specs.Prelude.{◌≡◌, ◌⊎◌, ℕ, zero, suc, ◌<◌, List, [], ◌∷◌, ◌++◌, length, filter, map, slice_get, Bool, true, false, cond, ◌||◌, Option}
+use Rattle.std.specs.Prelude.{Some, None, is_none, refl}
 use Rattle.std.specs.List.{list_any}
 use Rattle.std.proofs.Common.{ap, sym, subst, ◌∙◌, arith, append-nil, inl, inr, length-append}
 use Rattle.std.proofs.lemmas.List.{append_assoc, map-append}
@@ -14,7 +15,8 @@ use Rattle.program_steps.specs.Runs.{Outcome, done, failed, End}
 use Rattle.app_model.specs.App.{App}
 use Rattle.headline.specs.history_model.declared.entry.Entry.{Entry}
 use Rattle.client_model.specs.Client.{Call, Client}
-use Rattle.client_model.specs.Taking.{numbers_of, outcome_by, with_outcome, with_update, call_at, call_changed, number_changed, all_changed, failed_in, answers_in, calls_in, breaks, told_message, told_answer, told_text}
+use Rattle.client_model.specs.Taking.{numbers_of, outcome_by, with_outcome, with_update, call_at, call_changed, number_changed, all_changed}
+use Rattle.client_model.specs.Taking.{failed_in, answers_in, calls_in, breaks, told_message, told_answer, told_text}
 use Rattle.headline.specs.session_model.Texts.{message_in, messages_in}
 use Rattle.headline.specs.session_model.Items.{Item, id_of}
 use Rattle.headline.specs.session_model.Items as item
@@ -23,7 +25,8 @@ use Rattle.headline.specs.session_model.Methods.{id_at}
 use Rattle.headline.specs.session_model.State.{State, started, after}
 use Rattle.headline.specs.session_model.Moments.{Moment, end_at}
 use Rattle.headline.specs.session_model.Shown.{Calls, call_of, merge_of, difference}
-use Rattle.headline.specs.session_model.Out.{about, ready, updated, result_by, results_by, history_full, refused_with, all_refused_with, own_messages, told_after, words_of, messages_of, out_from, out, out_texts}
+use Rattle.headline.specs.session_model.Out.{about, ready, updated, result_by, results_by, history_full, refused_with, all_refused_with, own_messages}
+use Rattle.headline.specs.session_model.Out.{told_after, words_of, messages_of, out_from, out, out_texts}
 use Rattle.headline.specs.session_model.Kept.{AreKept}
 use Rattle.headline.specs.session_model.Taking.{answered_from}
 use Rattle.headline.specs.session_model.Answering.{is_at_once, at_once_in, Answers}
@@ -145,7 +148,8 @@ module _ (C : List Moment) (number : ℕ) where
       let ds = difference (merge_of past) (merge_of past2) in
       unfailed_more (messages_of C number past st i) (out_from C number past2 (after st i) items)
       (unfailed_more (map about ds) (words_of C number st i) (each_unfailed about (λ d. tt) ds)
-      (unfailed_more (own_messages C number st i) (map updated (told_after st i)) (own_unfailed st i parts.0) (each_unfailed updated (λ id. tt) (told_after st i))))
+      (unfailed_more (own_messages C number st i) (map updated (told_after st i)) (own_unfailed st i parts.0)
+      (each_unfailed updated (λ id. tt) (told_after st i))))
       (out_unfailed past2 (after st i) items parts.1)
 
 -- ---- a text is taken
@@ -238,7 +242,8 @@ module _ (app : App) (h : List Entry) (c : Conn) (l : IsLinked app h c) (kept : 
   short_goes short =
       let m = message_in t in
       let plain : IsPlain m = next_plain app h c l k kept t ts next in
-      let waits : c.client.waiting ++ answers_in m ≡ c.client.waiting = ap (λ (xs : List (List ℕ)). c.client.waiting ++ xs) (plain_silent m plain) ∙ append-nil c.client.waiting in (
+      let waits : c.client.waiting ++ answers_in m ≡ c.client.waiting = ap (λ (xs : List (List ℕ)). c.client.waiting ++ xs) (plain_silent m plain)
+      ∙ append-nil c.client.waiting in (
         subst (λ n. IsAsking (c.received ++ (c.upward ++ (c.client.waiting ++ answers_in m))) n) (sym (calls_length c.client.calls m))
             (subst (λ (ws : List (List ℕ)). IsAsking (c.received ++ (c.upward ++ ws)) (length c.client.calls)) (sym waits) p.asking),
         record {

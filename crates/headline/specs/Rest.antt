@@ -1,5 +1,8 @@
--- A client and its session for whom no act of a round is made: nothing waits anywhere, each call has ended, and each live subscription is at the end of the history.
-use Rattle.std.specs.Prelude.{◌≡◌, ◌⊎◌, ℕ, zero, suc, ◌+◌, ◌-◌, ◌≤◌, ◌<◌, ◌==◌, nat_lt, nat_le, List, [], ◌∷◌, ◌++◌, length, map, codes, replicate, take, Bool, true, false, cond, not, ◌&&◌, ◌||◌, Option, Some, None, is_some, is_none, option_map, IfSome, refl, if◌then◌else◌}
+-- A client and its session for whom no act of a round is made: nothing waits anywhere, each call has ended, and each live subscription is at the end
+-- of the history.
+use Rattle.std.specs.Prelude.{◌≡◌, ◌⊎◌, ℕ, zero, suc, ◌+◌, ◌-◌, ◌≤◌, ◌<◌, ◌==◌, nat_lt, nat_le, List, [], ◌∷◌, ◌++◌, length, map, codes, replicate}
+use Rattle.std.specs.Prelude.{take, Bool, true, false, cond, not, ◌&&◌, ◌||◌, Option, Some, None, is_some, is_none, option_map, IfSome, refl}
+use Rattle.std.specs.Prelude.{if◌then◌else◌}
 use Rattle.std.specs.List.{list_all}
 use Rattle.std.specs.Ordering.{is_eq}
 use Rattle.std.specs.declared.cmp.Ordering.{Ordering}
@@ -38,8 +41,10 @@ use Rattle.world_model.specs.declared.events.Answer.TheVariants as answer
 use Rattle.world_model.specs.Store.{programs, held_in, moments}
 use Rattle.world_model.specs.StoreLaws.{moments_many, moments_at, moments_past}
 use Rattle.world_model.specs.Conn.{Waiting, Refusal, Conn, state_in, link_limit, outbox_limit, waiting_bytes, is_full, is_crowded, is_at_work, has_some}
-use Rattle.world_model.specs.Acts.{is_crowded_out, is_crowded_by, is_kept, without_run, unbegun, is_running, news_of, news_by, learnt, may_advance, enabled, is_of_session, is_queue_full, is_done, can}
-use Rattle.world_model.specs.Settle.{Phase, ups, recvs, handles, begins, steps, learns, loadings, advancings, sendings, takings, steps_of, running_from, load_at, loads, advance_to, advances, acts_of}
+use Rattle.world_model.specs.Acts.{is_crowded_out, is_crowded_by, is_kept, without_run, unbegun, is_running, news_of, news_by, learnt, may_advance}
+use Rattle.world_model.specs.Acts.{enabled, is_of_session, is_queue_full, is_done, can}
+use Rattle.world_model.specs.Settle.{Phase, ups, recvs, handles, begins, steps, learns, loadings, advancings, sendings, takings, steps_of}
+use Rattle.world_model.specs.Settle.{running_from, load_at, loads, advance_to, advances, acts_of}
 use Rattle.world_model.specs.Headline.{AreAtEnd, have_ended}
 use Rattle.headline.specs.Runs.{has_run}
 use Rattle.headline.specs.RunsLaws.{run_then}
@@ -94,7 +99,8 @@ step_among f n k (r ∷ rs) b is going e =
           let same : (n, k) ≡ r.0 = run_order.exact (n, k) r.0 o in
           let mine : r.1 ≡ b = cc there in
           let own : n == r.0.0 ≡ true = eq-eqb n r.0.0 (ap (λ (q : RunKey). q.0) same) in
-          let its : list_all f (replicate (length r.1.run.left) (act.Step r.0.1) ++ steps_of n rs) ≡ true = sym (ap (λ b. list_all f (cond b (replicate (length r.1.run.left) (act.Step r.0.1) ++ steps_of n rs) (steps_of n rs))) own) ∙ e in
+          let its : list_all f (replicate (length r.1.run.left) (act.Step r.0.1) ++ steps_of n rs) ≡ true =
+          sym (ap (λ b. list_all f (cond b (replicate (length r.1.run.left) (act.Step r.0.1) ++ steps_of n rs) (steps_of n rs))) own) ∙ e in
           let one = first_step f r.0.1 r.1.run.left (steps_of n rs) (ap (λ (x : Begun). no_steps x.run.left) mine ∙ going) its in
           ap (λ (q : RunKey). f (act.Step q.1)) same ∙ one
     ] refl is
@@ -123,7 +129,8 @@ run_among : (f : ℕ → Bool) (g : ℕ → Act) (t : Act → Bool) → ((k : �
 run_among f g t same j k [] is e = cc is
 run_among f g t same j zero (m ∷ ms) is e =
     let mine : m.phase ≡ running = cc is in
-    let one : list_all t (map g (j ∷ running_from (suc j) ms)) ≡ true = sym (ap (λ p. list_all t (map g (cond (runs_on p) (j ∷ running_from (suc j) ms) (running_from (suc j) ms)))) mine) ∙ e in
+    let one : list_all t (map g (j ∷ running_from (suc j) ms)) ≡ true =
+    sym (ap (λ p. list_all t (map g (cond (runs_on p) (j ∷ running_from (suc j) ms) (running_from (suc j) ms)))) mine) ∙ e in
     let at_j : j + 0 ≡ j = omega arith in
     ap f at_j ∙ (sym (same j) ∙ (both (t (g j)) (list_all t (map g (running_from (suc j) ms))) one).0)
 run_among f g t same j (suc k) (m ∷ ms) is e =
@@ -191,7 +198,8 @@ not_crowded t connected (at_once i) is = refl
 not_crowded t connected (to_queue message) is = known (nat_lt max_text (length t)) (λ long. absurd (longer long)) (λ short. few short)
   where
     longer : nat_lt max_text (length t) ≡ true → ⊥
-    longer long = let e : at_once (item.bad (codes "Bad request") None) ≡ to_queue message = sym (ap (λ b. cond b (at_once (item.bad (codes "Bad request") None)) (taken_tree connected (json.read t))) long) ∙ is in cc e
+    longer long = let e : at_once (item.bad (codes "Bad request") None) ≡ to_queue message =
+        sym (ap (λ b. cond b (at_once (item.bad (codes "Bad request") None)) (taken_tree connected (json.read t))) long) ∙ is in cc e
 
     few : nat_lt max_text (length t) ≡ false → is_crowded [] (length t) ≡ false
     few short = let le = ltb-false max_text (length t) short in le-ltb waiting_bytes (0 + length t) (omega (arith, le))
@@ -217,7 +225,8 @@ module _ (app : App) (history : List Entry) (c : Conn)
 
   made : (a : Act) → enabled app history c a ≡ true → is_queue_full c a ≡ false → can app history c a ≡ true
   made a e q =
-      ap (λ b. is_done (if not b then answer.Idle else (if is_of_session a && is_full c then answer.JournalFull else (if is_queue_full c a then answer.QueueFull else answer.Done)))) e
+      ap (λ b. is_done (if not b then answer.Idle else
+      (if is_of_session a && is_full c then answer.JournalFull else (if is_queue_full c a then answer.QueueFull else answer.Done)))) e
       ∙ (ap (λ b. is_done (if is_of_session a && b then answer.JournalFull else (if is_queue_full c a then answer.QueueFull else answer.Done))) room
       ∙ (no_item (is_of_session a) ∙ ap (λ b. is_done (if b then answer.QueueFull else answer.Done)) q))
     where
@@ -246,7 +255,8 @@ module _ (app : App) (history : List Entry) (c : Conn)
   pub no_outbox : c.outbox ≡ []
   no_outbox =
       nothing c.outbox act.Send
-      (λ some. three (not c.is_dropped) (has_some c.outbox) (nat_lt (length c.downward) link_limit) present some (ap (λ (ts : List (List ℕ)). nat_lt (length ts) link_limit) no_downward)) (λ some. refl) (none sendings)
+      (λ some. three (not c.is_dropped) (has_some c.outbox) (nat_lt (length c.downward) link_limit) present some
+      (ap (λ (ts : List (List ℕ)). nat_lt (length ts) link_limit) no_downward)) (λ some. refl) (none sendings)
 
   works : is_at_work c ≡ true
   works = three (not c.is_dropped) (not (state_in c).failed) (nat_lt (length c.outbox) outbox_limit) present (ap not going)
@@ -282,9 +292,11 @@ module _ (app : App) (history : List Entry) (c : Conn)
   has_news k is ran =
       let held_is = runs.held_is (programs app) history in
       let s = status_ended k (at run_cmp (held_in app history).runs (c.number, k)) refl ran (held_is.begun (c.number, k)) in
-      let now : status_at (programs app) history (length history) c.number k ≡ Some s.0 = ap (λ (es : List Entry). status_in (held (programs app) es) c.number k) (whole_take history) ∙ s.1 in
+      let now : status_at (programs app) history (length history) c.number k ≡ Some s.0 =
+      ap (λ (es : List Entry). status_in (held (programs app) es) c.number k) (whole_take history) ∙ s.1 in
       ap (λ (o : Option Status). is_some (news_by (state_in c) k o)) now
-      ∙ (ap (λ (p : Option CallPhase). is_some (if is_running p then news_of (state_in c) k s.0.unblocked s.0.ended else None)) is ∙ by s.0.unblocked s.0.ended s.2)
+      ∙ (ap (λ (p : Option CallPhase). is_some (if is_running p then news_of (state_in c) k s.0.unblocked s.0.ended else None)) is
+      ∙ by s.0.unblocked s.0.ended s.2)
     where
       by : (u : Bool) (o : Option End) → is_some o ≡ true → is_some (news_of (state_in c) k u o) ≡ true
       by u None e = cc e
@@ -299,10 +311,13 @@ module _ (app : App) (history : List Entry) (c : Conn)
       is_some (learnt app history c k (length history)) ≡ true
   is_learnt k is why =
       known (is_kept k c.kept)
-      (λ kept. ap (λ b. is_some (cond b (option_map (λ (r : Refusal). item.refused k r.at) c.kept) (if nat_le (length history) (length history) then news_by (state_in c) k (status_at (programs app) history (length history) c.number k) else None))) kept ∙ kept_some k c.kept kept)
+      (λ kept. ap (λ b. is_some (cond b (option_map (λ (r : Refusal). item.refused k r.at) c.kept) (if nat_le (length history) (length history)
+      then news_by (state_in c) k (status_at (programs app) history (length history) c.number k) else None))) kept ∙ kept_some k c.kept kept)
       (λ free.
-      ap (λ b. is_some (cond b (option_map (λ (r : Refusal). item.refused k r.at) c.kept) (if nat_le (length history) (length history) then news_by (state_in c) k (status_at (programs app) history (length history) c.number k) else None))) free
-      ∙ (ap (λ b. is_some (cond b (news_by (state_in c) k (status_at (programs app) history (length history) c.number k)) None)) (le-leb (length history) (length history) (omega arith))
+      ap (λ b. is_some (cond b (option_map (λ (r : Refusal). item.refused k r.at) c.kept) (if nat_le (length history)
+      (length history) then news_by (state_in c) k (status_at (programs app) history (length history) c.number k) else None))) free
+      ∙ (ap (λ b. is_some (cond b (news_by (state_in c) k (status_at (programs app) history (length history) c.number k)) None))
+      (le-leb (length history) (length history) (omega arith))
       ∙ has_news k is (ran free why)))
     where
       ran : is_kept k c.kept ≡ false → (is_kept k c.kept ≡ true) ⊎ (has_run app history c.number k ≡ true) → has_run app history c.number k ≡ true
@@ -316,11 +331,14 @@ module _ (app : App) (history : List Entry) (c : Conn)
   blocked_why k (Some b) is blocked =
       let same : k ≡ b.k = eqb-true k b.k blocked in
       subst (λ j. (is_kept j c.kept ≡ true) ⊎ (has_run app history c.number j ≡ true)) (sym same)
-      (known (has_run app history c.number b.k) (λ ran. inr ran) (λ free. known (is_kept b.k c.kept) (λ kept. inl kept) (λ none_kept. differ (wants free none_kept))))
+      (known (has_run app history c.number b.k) (λ ran. inr ran)
+      (λ free. known (is_kept b.k c.kept) (λ kept. inl kept) (λ none_kept. differ (wants free none_kept))))
     where
       wants : has_run app history c.number b.k ≡ false → is_kept b.k c.kept ≡ false → true ≡ false
       wants free none_kept =
-          sym (ap (λ (o : Option Blocking). is_some (without_run (held_in app history) c o)) is ∙ (ap (λ x. is_some (cond (x || is_kept b.k c.kept) None (Some b))) free ∙ ap (λ x. is_some (cond x None (Some b))) none_kept)) ∙ nothing_begun
+          sym (ap (λ (o : Option Blocking). is_some (without_run (held_in app history) c o)) is
+          ∙ (ap (λ x. is_some (cond (x || is_kept b.k c.kept) None (Some b))) free ∙ ap (λ x. is_some (cond x None (Some b))) none_kept))
+          ∙ nothing_begun
 
   unblocked_ran : (k : ℕ) → HasUnblocked (moments app c.number history) k → has_run app history c.number k ≡ true
   unblocked_ran k u = known (nat_le u.place (length history)) (λ le. within (leb-true u.place (length history) le))
@@ -336,7 +354,8 @@ module _ (app : App) (history : List Entry) (c : Conn)
   no_call k is =
       let some = is_learnt k is (why (runs_block_or_unblocked app c.number (moments app c.number history) c.items fits k is)) in
       let on = two (is_at_work c) (is_some (learnt app history c k (length history))) works some in
-      let listed = run_among (λ j. idle (act.Learn j (length history))) (λ j. act.Learn j (length history)) idle (λ j. refl) 0 k (state_in c).methods is (none learns) in
+      let listed = run_among (λ j. idle (act.Learn j (length history))) (λ j. act.Learn j (length history)) idle (λ j. refl) 0 k
+      (state_in c).methods is (none learns) in
       let k_is : 0 + k ≡ k = omega arith in
       let off = disabled (act.Learn k (length history)) refl (sym (ap (λ j. idle (act.Learn j (length history))) k_is) ∙ listed) in
       differ (sym on ∙ off)
@@ -355,13 +374,15 @@ module _ (app : App) (history : List Entry) (c : Conn)
       by : (o : Option Blocking) → (state_in c).blocking ≡ o → o ≡ None
       by None is = refl
       by (Some b) is = absurd
-          (no_call b.k (last_from app c.number (moments app c.number history) started c.items fits none_blocks b.k (ap (is_blocked_by b.k) is ∙ eq-eqb b.k b.k refl)).runs)
+          (no_call b.k (last_from app c.number (moments app c.number history) started c.items fits none_blocks b.k
+          (ap (is_blocked_by b.k) is ∙ eq-eqb b.k b.k refl)).runs)
 
   -- ---- what waits
 
   pub no_queue : c.queue ≡ []
   no_queue = nothing c.queue act.Handle
-      (λ some. three (is_at_work c) (has_some c.queue) (is_none (state_in c).blocking) works some (ap (λ (o : Option Blocking). is_none o) none_blocking)) (λ some. refl) (none handles)
+      (λ some. three (is_at_work c) (has_some c.queue)
+      (is_none (state_in c).blocking) works some (ap (λ (o : Option Blocking). is_none o) none_blocking)) (λ some. refl) (none handles)
 
   pub no_upward : c.upward ≡ []
   no_upward = nothing c.upward act.Recv (λ some. two (is_at_work c) (has_some c.upward) works some) (λ some. fits_in c.upward) (none recvs)
@@ -375,15 +396,18 @@ module _ (app : App) (history : List Entry) (c : Conn)
   pub no_waiting : c.client.waiting ≡ []
   no_waiting =
       nothing c.client.waiting act.Up
-      (λ some. three (not c.is_dropped) (has_some c.client.waiting) (nat_lt (length c.upward) link_limit) present some (ap (λ (ts : List (List ℕ)). nat_lt (length ts) link_limit) no_upward)) (λ some. refl) (none ups)
+      (λ some. three (not c.is_dropped) (has_some c.client.waiting) (nat_lt (length c.upward) link_limit) present some
+      (ap (λ (ts : List (List ℕ)). nat_lt (length ts) link_limit) no_upward)) (λ some. refl) (none ups)
 
   -- ---- subscriptions
 
   is_loaded : (l : Live) → IsFound (state_in c).subs l → l.floor ≤ length history → l.cursor ≡ None → idle (act.Load l.sub (length history)) ≡ true → ⊥
   is_loaded l found low is e =
       let off = disabled (act.Load l.sub (length history)) refl e in
-      let may : may_load l.sub (length history) (state_in c).subs ≡ true = found.loads (length history) ∙ two (is_none l.cursor) (nat_le l.floor (length history)) (ap (λ (o : Option ℕ). is_none o) is) (le-leb l.floor (length history) low) in
-      differ (sym (three (is_at_work c) (nat_le (length history) (length history)) (may_load l.sub (length history) (state_in c).subs) works (le-leb (length history) (length history) (omega arith)) may) ∙ off)
+      let may : may_load l.sub (length history) (state_in c).subs ≡ true = found.loads (length history)
+      ∙ two (is_none l.cursor) (nat_le l.floor (length history)) (ap (λ (o : Option ℕ). is_none o) is) (le-leb l.floor (length history) low) in
+      differ (sym (three (is_at_work c) (nat_le (length history) (length history)) (may_load l.sub (length history) (state_in c).subs) works
+      (le-leb (length history) (length history) (omega arith)) may) ∙ off)
 
   is_at_end : (l : Live) (cursor : ℕ) → IsFound (state_in c).subs l → l.cursor ≡ Some cursor → cursor ≤ length history →
       idle (act.Advance l.sub (length history - cursor)) ≡ true → cursor ≡ length history
@@ -415,7 +439,8 @@ module _ (app : App) (history : List Entry) (c : Conn)
           list_all idle (advance_to (length history) l.sub o) ≡ true → o ≡ Some (length history)
       by None is less lo ad =
           absurd (is_loaded l found.0 (omega (arith, w.0.0, le)) is
-          (both (idle (act.Load l.sub (length history))) true (sym (ap (λ (o : Option ℕ). list_all idle (if is_none o then act.Load l.sub (length history) ∷ [] else [])) is) ∙ lo)).0)
+          (both (idle (act.Load l.sub (length history))) true
+          (sym (ap (λ (o : Option ℕ). list_all idle (if is_none o then act.Load l.sub (length history) ∷ [] else [])) is) ∙ lo)).0)
       by (Some cursor) is less lo ad =
           ap Some (is_at_end l cursor found.0 is (omega (arith, less)) (both (idle (act.Advance l.sub (length history - cursor))) true ad).0)
 

@@ -1,5 +1,6 @@
 -- Laws: What an entry leaves of runs: a step begins none and leaves fewer steps to be made, and a run that was begun stays begun.
-use Rattle.std.specs.Prelude.{◌≡◌, ℕ, zero, suc, ◌<◌, List, [], ◌∷◌, ◌++◌, length, take, Bool, true, false, cond, ◌||◌, Option, Some, None, is_some, IfSome, refl}
+use Rattle.std.specs.Prelude.{◌≡◌, ℕ, zero, suc, ◌<◌, List, [], ◌∷◌, ◌++◌, length, take, Bool, true, false, cond, ◌||◌, Option, Some, None, is_some}
+use Rattle.std.specs.Prelude.{IfSome, refl}
 use Rattle.std.specs.List.{list_any}
 use Rattle.std.proofs.Common.{ap, sym, subst, ◌∙◌, arith}
 use Rattle.std.proofs.lemmas.Bool.{not-true}
@@ -19,7 +20,8 @@ use Rattle.world_model.specs.history_model.HistoryLaws.{run_order, held-append}
 use Rattle.world_model.specs.history_model.RunsLaws as runs
 use Rattle.world_model.specs.history_model.Bounds.{IsHeld, IsBegun}
 use Rattle.world_model.specs.history_model.BegunLaws.{run_where_begun}
-use Rattle.world_model.specs.history_model.History.{Programs, RunKey, run_cmp, Begun, Held, later, setting_in, no_steps, goes_on, with_step, with_stepped, reserved, status_at, begins}
+use Rattle.world_model.specs.history_model.History.{Programs, RunKey, run_cmp, Begun, Held, later, setting_in, no_steps, goes_on, with_step}
+use Rattle.world_model.specs.history_model.History.{with_stepped, reserved, status_at, begins}
 use Rattle.world_model.specs.Store.{programs, held_in}
 use Rattle.world_model.specs.Acts.{begin_entry}
 use Rattle.headline.specs.SumsLaws.{sum-put}

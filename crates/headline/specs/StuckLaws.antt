@@ -12,7 +12,8 @@ use Rattle.world_model.specs.declared.events.Act.{Act}
 use Rattle.world_model.specs.Conn.{Conn}
 use Rattle.world_model.specs.Acts.{can}
 use Rattle.world_model.specs.World.{World, conn_of, can_by, can_in}
-use Rattle.world_model.specs.Settle.{Phase, ups, recvs, handles, begins, steps, learns, loadings, advancings, sendings, takings, acts_of, acts_by, phase, order, phases_of, is_stuck}
+use Rattle.world_model.specs.Settle.{Phase, ups, recvs, handles, begins, steps, learns, loadings, advancings, sendings, takings, acts_of, acts_by}
+use Rattle.world_model.specs.Settle.{phase, order, phases_of, is_stuck}
 use Rattle.headline.specs.Stuck.{none_made}
 
 both : (a b : Bool) → (a && b) ≡ true → (a ≡ true) × (b ≡ true)
@@ -49,7 +50,8 @@ among : (w : World) (names : List (List ℕ)) (name : List ℕ) → list_any (eq
 among w [] name there e = cc there
 among w (n ∷ names) name there e =
     elim (eq_by_cmp text_cmp name n) as
-    (λ b. eq_by_cmp text_cmp name n ≡ b → (b || list_any (eq_by_cmp text_cmp name) names) ≡ true → list_all (λ p. rounds.none_of can_in (phase name p w) w) order ≡ true) [
+    (λ b. eq_by_cmp text_cmp name n ≡ b → (b || list_any (eq_by_cmp text_cmp name) names) ≡ true →
+    list_all (λ p. rounds.none_of can_in (phase name p w) w) order ≡ true) [
       | true ↦ λ is h.
           let same : name ≡ n = key_is name_order name n is in
           subst (λ (x : List ℕ). list_all (λ p. rounds.none_of can_in (phase x p w) w) order ≡ true) (sym same) (in_order w n (phases_of names) order e)

@@ -1,4 +1,5 @@
--- The texts of a client that sends none as it stands: its `connect`, and then one text for each thing that it is asked for, so that there is one method for each of its calls.
+-- The texts of a client that sends none as it stands: its `connect`, and then one text for each thing that it is asked for, so that there is one
+-- method for each of its calls.
 use Rattle.std.specs.Prelude.{◌≡◌, ℕ, ◌+◌, ◌≤◌, List, [], ◌∷◌, codes, Bool, true, false, Result, Ok, is_some}
 use Rattle.value_model.specs.Val.{text}
 use Rattle.value_model.specs.Size.{is_name}
@@ -26,7 +27,8 @@ abbrev pub IsForeign : Result ClientMessage MsgFault → Type 0
 IsForeign (Ok (client.connect version support)) = is_name version (codes "1") ≡ false
 IsForeign r = ⊥
 
--- it is the message that the text is; a version is refused of a `connect` of another one, and what else is answered at once is no method, but where a text is refused
+-- it is the message that the text is; a version is refused of a `connect` of another one, and what else is answered at once is no method, but where
+-- a text is refused
 abbrev pub IsOf : Result ClientMessage MsgFault → Taken → Type 0
 IsOf r (at_once (item.bad reason offending)) = Unit {0}
 IsOf r (at_once item.fail) = IsForeign r

@@ -1,5 +1,7 @@
--- Laws: The texts of a client that sends none as it stands: its `connect`, and then one text for each thing that it is asked for, so that there is one method for each of its calls.
-use Rattle.std.specs.Prelude.{◌≡◌, ℕ, suc, ◌+◌, ◌<◌, ◌≤◌, List, [], ◌∷◌, ◌++◌, length, decimal, codes, Bool, true, false, cond, not, ◌&&◌, ◌||◌, nat_lt, Option, Some, None, Result, Ok, Err, is_some, refl}
+-- Laws: The texts of a client that sends none as it stands: its `connect`, and then one text for each thing that it is asked for, so that there is
+-- one method for each of its calls.
+use Rattle.std.specs.Prelude.{◌≡◌, ℕ, suc, ◌+◌, ◌<◌, ◌≤◌, List, [], ◌∷◌, ◌++◌, length, decimal, codes, Bool, true, false, cond, not, ◌&&◌, ◌||◌}
+use Rattle.std.specs.Prelude.{nat_lt, Option, Some, None, Result, Ok, Err, is_some, refl}
 use Rattle.std.specs.List.{list_any}
 use Rattle.std.specs.List.Sorted.{IsStrictlySortedBy}
 use Rattle.std.proofs.Common.{ap, ap₂, sym, subst, ◌∙◌, arith}
@@ -32,7 +34,8 @@ use Rattle.ddp_messages.specs.Texts.{client_text}
 use Rattle.client_model.specs.Taking.{number_of}
 use Rattle.client_model.specs.Asking.{call_limit}
 use Rattle.headline.specs.session_model.Items as item
-use Rattle.headline.specs.session_model.Taking.{max_text, Taken, at_once, to_queue, connected_by, taken_as, taken_named, taken_tree, taken_text, connects, item_of, message_of, answered_from, queued_from, is_connected_by}
+use Rattle.headline.specs.session_model.Taking.{max_text, Taken, at_once, to_queue, connected_by, taken_as, taken_named, taken_tree, taken_text}
+use Rattle.headline.specs.session_model.Taking.{connects, item_of, message_of, answered_from, queued_from, is_connected_by}
 use Rattle.headline.specs.session_model.Counting.{one_if}
 use Rattle.headline.specs.world_model.Headline.{is_bad}
 use Rattle.headline.specs.Known.{methods_in, HasAsks}
@@ -109,7 +112,12 @@ queued_at_most : (id : List ℕ) (connected : Bool) (ts : List (List ℕ)) → m
 queued_at_most id connected [] = omega arith
 queued_at_most id connected (t ∷ ts) =
     let x = taken_text connected t in
-    omega (arith, methods-append id (message_of x) (queued_from (connects connected x) ts), at_most id (client_answer t) x (taken_of connected t), queued_at_most id (connects connected x) ts)
+    omega (
+      arith,
+      methods-append id (message_of x) (queued_from (connects connected x) ts),
+      at_most id (client_answer t) x (taken_of connected t),
+      queued_at_most id (connects connected x) ts,
+    )
 
 -- all of them do where no text was refused
 pub queued_exactly : (id : List ℕ) (connected : Bool) (ts : List (List ℕ)) → list_any is_bad (answered_from connected ts) ≡ false →
@@ -118,8 +126,14 @@ queued_exactly id connected [] e = refl
 queued_exactly id connected (t ∷ ts) e =
     let x = taken_text connected t in
     let c = connects connected x in
-    let parts = or_parts (list_any is_bad (item_of x)) (list_any is_bad (answered_from c ts)) (sym (list_any-append is_bad (item_of x) (answered_from c ts)) ∙ e) in
-    omega (arith, methods-append id (message_of x) (queued_from c ts), exactly id (client_answer t) x (taken_of connected t) parts.0, queued_exactly id c ts parts.1)
+    let parts = or_parts (list_any is_bad (item_of x)) (list_any is_bad (answered_from c ts))
+    (sym (list_any-append is_bad (item_of x) (answered_from c ts)) ∙ e) in
+    omega (
+      arith,
+      methods-append id (message_of x) (queued_from c ts),
+      exactly id (client_answer t) x (taken_of connected t) parts.0,
+      queued_exactly id c ts parts.1,
+    )
 
 pub calls_asks : (texts : List (List ℕ)) (calls : ℕ) → HasCalls texts calls → HasAsks texts calls
 calls_asks texts calls h id = omega (arith, h id, queued_at_most id false texts)
@@ -199,7 +213,8 @@ names_rise = ((refl, (refl, tt)), ((refl, tt), (tt, tt)))
 pub connect_opens : IsFirst (client_text (client.connect (codes "1") (Some (codes "1" ∷ []))))
 connect_opens =
     let t = client_text (client.connect (codes "1") (Some (codes "1" ∷ []))) in
-    let v = object (field (codes "msg") (text (codes "connect")) (field (codes "support") (list (val (text (codes "1")) no_vals)) (field (codes "version") (text (codes "1")) no_fields))) in
+    let v = object (field (codes "msg") (text (codes "connect"))
+    (field (codes "support") (list (val (text (codes "1")) no_vals)) (field (codes "version") (text (codes "1")) no_fields))) in
     let few : size v ≤ 100 = leb-true (size v) 100 refl in
     let same : size v ≡ length t = size-written v (names_rise, (tt, ((tt, tt), (tt, tt)))) in
     connect_first (codes "1") (le-ltb max_text (length t) (omega (arith, few, same))) refl

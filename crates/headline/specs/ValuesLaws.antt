@@ -79,7 +79,8 @@ begun_valued app h c p = by (state_in c).blocking refl
     here b e true = tt
     here b e false =
         let l = p.begun.knows.last b e in
-        let value : AreValues (vals_of b.params) = last_valued l.older b (subst HaveValues l.is (calls_valued c.items (handled_valued c.received c.items _ p.session.answers))) in
+        let value : AreValues (vals_of b.params) =
+        last_valued l.older b (subst HaveValues l.is (calls_valued c.items (handled_valued c.received c.items _ p.session.answers))) in
         elim (is_refused app h b) as (λ y. AreEntries (cond y [] (begin_entry c.number b ∷ []))) [ true ↦ tt | false ↦ (value, tt) ]
 
     by : (o : Option Blocking) → (state_in c).blocking ≡ o → AreEntries (begun app h c.number (without_run (held_in app h) c o))

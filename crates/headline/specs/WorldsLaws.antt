@@ -22,11 +22,16 @@ use Rattle.headline.specs.Worlds.{IsSound}
 pub sound_kept : (first : App) → IsKept (IsSound first) IsLinked
 sound_kept first = record {
   new = links_kept.new;
-  entered = λ app h c a may s p. record { same = s.same; legal = links_kept.entered app h c a may s.legal p; values = entries_more h _ s.values (act_valued app h c a p.served) };
+  entered = λ app h c a may s p.
+      record { same = s.same; legal = links_kept.entered app h c a may s.legal p; values = entries_more h _ s.values (act_valued app h c a p.served) };
   acts = links_kept.acts;
   longer = links_kept.longer;
   asks = links_kept.asks;
-  operations = λ w op good is s. record { same = s.same; legal = links_kept.operations w op good is s.legal; values = entries_more w.history (entry.Admin op ∷ []) s.values (good, tt) };
+  operations = λ w op good is s. record {
+    same = s.same;
+    legal = links_kept.operations w op good is s.legal;
+    values = entries_more w.history (entry.Admin op ∷ []) s.values (good, tt);
+  };
 }
 
 true_world : (first : App) (w : World) → HasValues (programs first) → Holds (IsSound first) IsLinked (sound_kept first) w → IsTrueWorld w

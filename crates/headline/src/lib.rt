@@ -66,8 +66,10 @@ pub fn stuck_worlds_make_no_act()
 /// texts and the session refused no version: nothing waits anywhere, each call has ended, and each live subscription is at
 /// the end of the history.
 pub fn idle_sessions_rest()
-    ensures { (app : App) (history : List Entry) (c : Conn) → c.is_dropped ≡ false → is_full c ≡ false → can_take c.client ≡ true → (state_in c).failed ≡ false →
-        ((p : Phase) → list_all (λ a. not (can app history c a)) (acts_of app history c p) ≡ true) → Fits app c.number (moments app c.number history) c.items → IsResting history c }
+    ensures { (app : App) (history : List Entry) (c : Conn) → c.is_dropped ≡ false → is_full c ≡ false → can_take c.client ≡ true →
+        (state_in c).failed ≡ false →
+        ((p : Phase) → list_all (λ a. not (can app history c a)) (acts_of app history c p) ≡ true) →
+        Fits app c.number (moments app c.number history) c.items → IsResting history c }
 {}
 
 /// A settled world that events lead to is stuck: no act of a round is made any more.
@@ -99,14 +101,17 @@ pub fn settled_worlds_are_at_rest()
 /// texts was refused, it took none that is too long, and three items for each of its texts and the history's length for each
 /// subscription are less than a journal has room for.
 pub fn modest_clients_are_quiescent()
-    ensures settled { (app : App) (events : List AnEvent) → HasValues (programs app) → AreEvents events → AreModestQuiescent (settled (run (start app) events)) }
+    ensures settled { (app : App) (events : List AnEvent) → HasValues (programs app) → AreEvents events →
+        AreModestQuiescent (settled (run (start app) events)) }
     ensures resting { (w : World) → HaveLongAlone w → AreAtRest w → AreModestQuiescent w }
 {}
 
 /// A further round leaves a settled world, and so does settling it again.
 pub fn further_rounds_leave_the_settled_world()
-    ensures round { (app : App) (events : List AnEvent) → HasValues (programs app) → AreEvents events → round (settled (run (start app) events)) ≡ settled (run (start app) events) }
-    ensures settling { (app : App) (events : List AnEvent) → HasValues (programs app) → AreEvents events → settled (settled (run (start app) events)) ≡ settled (run (start app) events) }
+    ensures round { (app : App) (events : List AnEvent) → HasValues (programs app) → AreEvents events →
+        round (settled (run (start app) events)) ≡ settled (run (start app) events) }
+    ensures settling { (app : App) (events : List AnEvent) → HasValues (programs app) → AreEvents events →
+        settled (settled (run (start app) events)) ≡ settled (run (start app) events) }
 {}
 
 /// The messages of a session come in an order that its client accepts: an answer to `connect` comes first and once, each
@@ -117,26 +122,33 @@ pub fn messages_fit_their_client()
 
 /// A client counts what it takes of its calls: each has its result, and its `updated`, as often as the messages say.
 pub fn clients_count_what_they_take()
-    ensures { (c : Client) (ms : List ServerMessage) (m : ServerMessage) → late_refusal c m ≡ None → IsPlain m → AreCounted c.calls ms → AreCounted (calls_in c.calls m) (ms ++ m ∷ []) }
+    ensures { (c : Client) (ms : List ServerMessage) (m : ServerMessage) → late_refusal c m ≡ None → IsPlain m → AreCounted c.calls ms →
+        AreCounted (calls_in c.calls m) (ms ++ m ∷ []) }
 {}
 
 /// The next text on the link to a client that isn't too long is taken as its message, where no more methods of an id were
 /// handled than the client has calls of it; and the client goes on to know what the texts that it took say.
 pub fn next_texts_are_taken()
-    ensures taken { (app : App) (history : List Entry) (c : Conn) (t : List ℕ) (ts : List (List ℕ)) → IsLinked app history c → IsKnown c.client c.sent c.downward → AreKept (moments app c.number history) →
-        c.downward ≡ t ∷ ts → AreAsked c.items (length c.client.calls) → nat_lt max_server_text (length t) ≡ false → told_text c.client t ≡ told_message c.client (message_in t) }
-    ensures known { (app : App) (history : List Entry) (c : Conn) (t : List ℕ) (ts : List (List ℕ)) → IsLinked app history c → IsKnown c.client c.sent c.downward → AreKept (moments app c.number history) →
+    ensures taken { (app : App) (history : List Entry) (c : Conn) (t : List ℕ) (ts : List (List ℕ)) → IsLinked app history c →
+        IsKnown c.client c.sent c.downward → AreKept (moments app c.number history) →
+        c.downward ≡ t ∷ ts → AreAsked c.items (length c.client.calls) → nat_lt max_server_text (length t) ≡ false →
+        told_text c.client t ≡ told_message c.client (message_in t) }
+    ensures known { (app : App) (history : List Entry) (c : Conn) (t : List ℕ) (ts : List (List ℕ)) → IsLinked app history c →
+        IsKnown c.client c.sent c.downward → AreKept (moments app c.number history) →
         c.downward ≡ t ∷ ts → AreAsked c.items (length c.client.calls) → IsKnown (told_message c.client (message_in t)) c.sent ts }
 {}
 
 /// A session handles no more methods of an id than its client asked for: a call adds one text, with an id of its own, and
 /// what else the client asks for adds none.
 pub fn clients_ask_for_each_call_once()
-    ensures handled { (app : App) (number : ℕ) (C : List Moment) (taken rest : List (List ℕ)) (items : List Item) (waiting : List ClientMessage) (calls : ℕ) → Fits app number C items →
+    ensures handled { (app : App) (number : ℕ) (C : List Moment) (taken rest : List (List ℕ)) (items : List Item) (waiting : List ClientMessage)
+        (calls : ℕ) → Fits app number C items →
         Answers taken items waiting → HasAsks (taken ++ rest) calls → AreAsked items calls }
-    ensures calls { (texts : List (List ℕ)) (name : List ℕ) (params : List Val) (seed : List ℕ) (calls : ℕ) → calls < 65536 → AreValues (vals_of params) → AreShallow params → HasAsks texts calls →
+    ensures calls { (texts : List (List ℕ)) (name : List ℕ) (params : List Val) (seed : List ℕ) (calls : ℕ) → calls < 65536 →
+        AreValues (vals_of params) → AreShallow params → HasAsks texts calls →
         HasAsks (texts ++ client_text (method (decimal (suc calls)) name params (Some (text seed))) ∷ []) (suc calls) }
-    ensures subs { (texts : List (List ℕ)) (id name : List ℕ) (params : List Val) (calls : ℕ) → AreValues (vals_of params) → AreShallow params → HasAsks texts calls →
+    ensures subs { (texts : List (List ℕ)) (id name : List ℕ) (params : List Val) (calls : ℕ) → AreValues (vals_of params) → AreShallow params →
+        HasAsks texts calls →
         HasAsks (texts ++ client_text (sub id name params) ∷ []) calls }
     ensures unsubs { (texts : List (List ℕ)) (id : List ℕ) (calls : ℕ) → HasAsks texts calls → HasAsks (texts ++ client_text (unsub id) ∷ []) calls }
 {}

@@ -1,5 +1,6 @@
 -- The runs of a history are those of the calls that it begins, and in a legal history each is begun once.
-use Rattle.std.specs.Prelude.{◌≡◌, ℕ, suc, ◌<◌, ◌==◌, List, [], ◌∷◌, ◌++◌, Bool, true, false, cond, not, ◌&&◌, ◌||◌, nat_lt, Option, None, Some, is_some, option_map, refl, if◌then◌else◌}
+use Rattle.std.specs.Prelude.{◌≡◌, ℕ, suc, ◌<◌, ◌==◌, List, [], ◌∷◌, ◌++◌, Bool, true, false, cond, not, ◌&&◌, ◌||◌, nat_lt, Option, None, Some}
+use Rattle.std.specs.Prelude.{is_some, option_map, refl, if◌then◌else◌}
 use Rattle.std.specs.List.{list_any, list_all}
 use Rattle.std.specs.Ordering.{eq_by_cmp}
 use Rattle.std.proofs.Common.{ap, sym, subst, ◌∙◌}
@@ -13,7 +14,9 @@ use Rattle.program_model.specs.Steps.{stepped}
 use Rattle.history_model.specs.declared.entry.Entry.{Entry}
 use Rattle.history_model.specs.declared.entry.Entry.TheVariants as entry
 use Rattle.history_model.specs.Operations.{operation_in}
-use Rattle.history_model.specs.History.{Programs, RunKey, run_cmp, Begun, Runs, Held, nothing, later, setting_in, steps_of, with_begin, with_stepped, no_steps, with_step, carried, held_from, held, status_of, status_in, is_full, is_next, can_follow, IsLegalFrom, IsLegal, begins, call_in, calls_of, AllAbove, Rise}
+use Rattle.history_model.specs.History.{Programs, RunKey, run_cmp, Begun, Runs, Held, nothing, later, setting_in, steps_of, with_begin, with_stepped}
+use Rattle.history_model.specs.History.{no_steps, with_step, carried, held_from, held, status_of, status_in, is_full, is_next, can_follow}
+use Rattle.history_model.specs.History.{IsLegalFrom, IsLegal, begins, call_in, calls_of, AllAbove, Rise}
 use Rattle.history_model.specs.Bounds.{IsHeld}
 use Rattle.history_model.specs.HistoryLaws.{run_order}
 use Rattle.history_model.specs.RunsLaws.{operation_runs, carried_is, held_is}
@@ -34,7 +37,8 @@ new_there : (runs : Runs) (key : RunKey) (b : Begun) (q : RunKey) → IsSorted r
 new_there runs key b q sorted =
     ap is_some (at-set run_order runs key (Some b) q sorted)
     ∙ elim (eq_by_cmp run_cmp q key) as
-    (λ (c : Bool). is_some (cond c (Some b) (at run_cmp runs q)) ≡ (is_some (at run_cmp runs q) || c)) [ true ↦ or_true (is_some (at run_cmp runs q)) | false ↦ or_false (is_some (at run_cmp runs q)) ]
+    (λ (c : Bool). is_some (cond c (Some b) (at run_cmp runs q)) ≡ (is_some (at run_cmp runs q) || c))
+    [ true ↦ or_true (is_some (at run_cmp runs q)) | false ↦ or_false (is_some (at run_cmp runs q)) ]
 
 still_there : (runs : Runs) (key q : RunKey) (b : Begun) → at run_cmp runs key ≡ Some b →
     is_some (at run_cmp runs q) ≡ (is_some (at run_cmp runs q) || eq_by_cmp run_cmp q key)
@@ -83,7 +87,8 @@ from_there : (app : Programs) (h : Held) (es : List Entry) (q : RunKey) → IsHe
 from_there app h [] q i = or_false (is_some (at run_cmp h.runs q))
 from_there app h (e ∷ es) q i =
     from_there app (carried app h e) es q (carried_is app h e i)
-    ∙ (ap (λ b. b || list_any (begins q) es) (carried_there app h e q i.sorted) ∙ or_assoc (is_some (at run_cmp h.runs q)) (begins q e) (list_any (begins q) es))
+    ∙ (ap (λ b. b || list_any (begins q) es) (carried_there app h e q i.sorted)
+    ∙ or_assoc (is_some (at run_cmp h.runs q)) (begins q e) (list_any (begins q) es))
 
 some_status : (o : Option Begun) → is_some (option_map status_of o) ≡ is_some o
 some_status None = refl
@@ -118,13 +123,15 @@ all_above : (app : Programs) (h : Held) (es : List Entry) (session j : ℕ) → 
     is_some (at run_cmp h.runs (session, j)) ≡ true → AllAbove j (calls_of session es)
 all_above app h [] session j l i there = tt
 all_above app h (e ∷ es) session j l i there =
-    above_with (all_above app (carried app h e) es session j l.1 (carried_is app h e i) (carried_there app h e (session, j) i.sorted ∙ ap (λ b. b || begins (session, j) e) there)) e l.0
+    above_with (all_above app (carried app h e) es session j l.1 (carried_is app h e i)
+    (carried_there app h e (session, j) i.sorted ∙ ap (λ b. b || begins (session, j) e) there)) e l.0
   where
     above_with : AllAbove j (calls_of session es) → (e : Entry) → can_follow app h e ≡ true → AllAbove j (call_in session e ++ calls_of session es)
     above_with rest (entry.Step n k) can = rest
     above_with rest (entry.Admin op) can = rest
     above_with rest (entry.Begin n k method params seed) can =
-        let next = (and_parts (is_some (app.method method)) (is_next n k h.runs) (and_parts (is_some (app.method method) && is_next n k h.runs) (not (is_full app h method params (view seed))) can).0).1 in
+        let next = (and_parts (is_some (app.method method)) (is_next n k h.runs)
+        (and_parts (is_some (app.method method) && is_next n k h.runs) (not (is_full app h method params (view seed))) can).0).1 in
         elim (session == n) as (λ (c : Bool). (session == n) ≡ c → AllAbove j ((if c then k ∷ [] else []) ++ calls_of session es)) [
           | true ↦ λ e. (next_above session k j h.runs (subst (λ m. is_next m k h.runs ≡ true) (sym (eqb-true session n e)) next) there, rest)
           | false ↦ λ e. rest
@@ -145,8 +152,12 @@ rise_from app h (e ∷ es) session l i = rise_with e (rise_from app (carried app
         elim (session == n) as (λ (c : Bool). (session == n) ≡ c → Rise ((if c then k ∷ [] else []) ++ calls_of session es)) [
           | true ↦ λ e.
               let same : session ≡ n = eqb-true session n e in
-              let begun : begins (session, k) (entry.Begin n k method params seed) ≡ true = ap (λ m. eq_by_cmp run_cmp (session, k) (m, k)) (sym same) ∙ eq_by_cmp-self run_order (session, k) in
-              (above k (there k ∙ (ap (λ b. is_some (at run_cmp h.runs (session, k)) || b) begun ∙ sym (or_true (is_some (at run_cmp h.runs (session, k)))))), rest)
+              let begun : begins (session, k) (entry.Begin n k method params seed) ≡ true =
+              ap (λ m. eq_by_cmp run_cmp (session, k) (m, k)) (sym same) ∙ eq_by_cmp-self run_order (session, k) in (
+                above k (there k
+                    ∙ (ap (λ b. is_some (at run_cmp h.runs (session, k)) || b) begun ∙ sym (or_true (is_some (at run_cmp h.runs (session, k)))))),
+                rest,
+              )
           | false ↦ λ e. rest
         ] refl
 

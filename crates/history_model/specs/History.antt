@@ -1,5 +1,6 @@
 -- The history of a store: what was done to it, oldest first. Its documents, and how far each run is, are the fold of it.
-use Rattle.std.specs.Prelude.{◌<◌, ℕ, suc, ◌+◌, ◌-◌, ◌==◌, List, [], ◌∷◌, ◌++◌, length, take, drop, sum_by, Bool, true, false, not, ◌&&◌, ◌||◌, nat_lt, Option, None, Some, is_some, option_map, Ok, Err, IsTrue, if◌then◌else◌}
+use Rattle.std.specs.Prelude.{◌<◌, ℕ, suc, ◌+◌, ◌-◌, ◌==◌, List, [], ◌∷◌, ◌++◌, length, take, drop, sum_by, Bool, true, false, not, ◌&&◌, ◌||◌}
+use Rattle.std.specs.Prelude.{nat_lt, Option, None, Some, is_some, option_map, Ok, Err, IsTrue, if◌then◌else◌}
 use Rattle.std.specs.List.{list_all}
 use Rattle.std.specs.declared.cmp.Ordering.{Ordering}
 use Rattle.std.specs.Ordering.{eq_by_cmp, nat_cmp, ordering_then}
@@ -102,7 +103,12 @@ with_begin app h key method params seed None = with_call app h key method params
 with_begin app h key method params seed (Some b) = later h
 
 abbrev pub with_stepped : Held → RunKey → Stepped → Held
-with_stepped h key s = record { rows = s.rows; kept = h.kept + new_bytes s.changes; entries = suc h.entries; runs = set run_cmp h.runs key (Some (record { run = s.run; at = suc h.entries })) }
+with_stepped h key s = record {
+  rows = s.rows;
+  kept = h.kept + new_bytes s.changes;
+  entries = suc h.entries;
+  runs = set run_cmp h.runs key (Some (record { run = s.run; at = suc h.entries }));
+}
 
 abbrev pub no_steps : List ProgramStep → Bool
 no_steps [] = true
@@ -215,7 +221,8 @@ abbrev pub is_made : Programs → Held → Option Op → Bool
 is_made app h None = false
 is_made app h (Some op) = is_answered (applied app.collections h.rows op (room_in h))
 
--- The entry can be made there: a call of a method, whose number is greater than those before it and for which there is room; a step of a run that goes on; an operation that is not refused.
+-- The entry can be made there: a call of a method, whose number is greater than those before it and for which there is room; a step of a run that
+-- goes on; an operation that is not refused.
 abbrev pub can_follow : Programs → Held → Entry → Bool
 can_follow app h (entry.Begin session k method params seed) =
     is_some (app.method method) && is_next session k h.runs && not (is_full app h method params (view seed))

@@ -1,5 +1,6 @@
 -- Laws of histories.
-use Rattle.std.specs.Prelude.{◌≡◌, ℕ, zero, suc, ◌+◌, ◌≤◌, List, [], ◌∷◌, ◌++◌, length, take, drop, Bool, true, false, cond, Option, None, Some, IsTrue, Ok, Err, refl}
+use Rattle.std.specs.Prelude.{◌≡◌, ℕ, zero, suc, ◌+◌, ◌≤◌, List, [], ◌∷◌, ◌++◌, length, take, drop, Bool, true, false, cond, Option, None, Some}
+use Rattle.std.specs.Prelude.{IsTrue, Ok, Err, refl}
 use Rattle.std.specs.declared.cmp.Ordering.TheVariants.{Equal}
 use Rattle.std.specs.FinMap.{nat_cmp-IsAntisymmetric}
 use Rattle.std.specs.Ordering.{nat_cmp}
@@ -26,7 +27,9 @@ use Rattle.program_model.specs.StepLaws.{stepped_does}
 use Rattle.history_model.specs.declared.entry.Entry.{Entry}
 use Rattle.history_model.specs.declared.entry.Entry.TheVariants as entry
 use Rattle.history_model.specs.Operations.{operation_in}
-use Rattle.history_model.specs.History.{Programs, RunKey, run_cmp, Begun, Held, nothing, later, room_in, setting_in, with_begin, with_stepped, no_steps, with_step, with_answer, with_operation, carried, held_from, held, held_at, answer_changes, operation_changes, step_changes, changes_by, changes_from, changes_between, can_follow, IsLegalFrom, IsLegal}
+use Rattle.history_model.specs.History.{Programs, RunKey, run_cmp, Begun, Held, nothing, later, room_in, setting_in, with_begin, with_stepped}
+use Rattle.history_model.specs.History.{no_steps, with_step, with_answer, with_operation, carried, held_from, held, held_at, answer_changes}
+use Rattle.history_model.specs.History.{operation_changes, step_changes, changes_by, changes_from, changes_between, can_follow, IsLegalFrom, IsLegal}
 
 -- ---- keys of runs
 
@@ -156,7 +159,8 @@ from_leads app h (e ∷ es) sorted =
     let next = carried app h e in
     let last = (held_from app next es).rows in
     subst (λ cs. Leads key_cmp cs h.rows last) (sym (map-append change_of (changes_by app h e) (changes_from app next es)))
-    (Leads-append key_cmp (changes_of (changes_by app h e)) (changes_of (changes_from app next es)) h.rows next.rows last (carried_leads app h e sorted) (from_leads app next es (sorted_carried app h e sorted)))
+    (Leads-append key_cmp (changes_of (changes_by app h e)) (changes_of (changes_from app next es)) h.rows next.rows last
+    (carried_leads app h e sorted) (from_leads app next es (sorted_carried app h e sorted)))
 
 -- the changes of some entries lead from the documents before them to those after them
 pub between_leads : (app : Programs) (history : List Entry) (place count : ℕ) →

@@ -1,5 +1,6 @@
 -- A legal history keeps to its limits.
-use Rattle.std.specs.Prelude.{◌≡◌, ℕ, suc, ◌+◌, List, [], ◌∷◌, length, sum_by, Bool, true, false, cond, not, ◌&&◌, nat_lt, Option, None, Some, is_some, IfSome, Ok, Err, IsTrue, refl, if◌then◌else◌}
+use Rattle.std.specs.Prelude.{◌≡◌, ℕ, suc, ◌+◌, List, [], ◌∷◌, length, sum_by, Bool, true, false, cond, not, ◌&&◌, nat_lt, Option, None, Some}
+use Rattle.std.specs.Prelude.{is_some, IfSome, Ok, Err, IsTrue, refl, if◌then◌else◌}
 use Rattle.std.specs.List.{AllByRecursion}
 use Rattle.std.specs.Map.{keys_of}
 use Rattle.std.specs.BTreeMap.{insert_entry}
@@ -25,7 +26,10 @@ use Rattle.program_model.specs.StepLaws.{stepped_does}
 use Rattle.history_model.specs.declared.entry.Entry.{Entry}
 use Rattle.history_model.specs.declared.entry.Entry.TheVariants as entry
 use Rattle.history_model.specs.Operations.{operation_in}
-use Rattle.history_model.specs.History.{Programs, RunKey, run_cmp, Begun, Runs, Held, nothing, later, room_in, setting_in, steps_of, with_begin, with_stepped, no_steps, goes_on, with_step, with_answer, with_operation, carried, held_from, held, max_entries, max_kept, reserved, entries_with, kept_with, is_full, is_full_for_operation, is_next, is_answered, is_made, can_follow, IsLegalFrom, IsLegal}
+use Rattle.history_model.specs.History.{Programs, RunKey, run_cmp, Begun, Runs, Held, nothing, later, room_in, setting_in, steps_of, with_begin}
+use Rattle.history_model.specs.History.{with_stepped, no_steps, goes_on, with_step, with_answer, with_operation, carried, held_from, held}
+use Rattle.history_model.specs.History.{max_entries, max_kept, reserved, entries_with, kept_with, is_full, is_full_for_operation, is_next}
+use Rattle.history_model.specs.History.{is_answered, is_made, can_follow, IsLegalFrom, IsLegal}
 use Rattle.history_model.specs.Bounds.{IsBegun, IsHeld, IsWithin}
 use Rattle.history_model.specs.HistoryLaws.{run_order}
 use Rattle.history_model.specs.RunsLaws.{carried_is, held_is}
@@ -55,9 +59,11 @@ reserved-set (r ∷ runs) key b s =
     let rest = reserved-set runs key b (sorted_tail run_cmp r.0 (keys_of runs) s) in
     let put = insert_entry run_cmp runs key b in
     elim (run_cmp key r.0)
-    as (λ o. run_cmp key r.0 ≡ o → sum_by weight (match_ordering o ((key, b) ∷ r ∷ runs) ((r.0, b) ∷ runs) (r ∷ put)) + left_of (cond (is_eq o) (Some r.1) (at run_cmp runs key)) ≡ sum_by weight (r ∷ runs) + length b.run.left) [
+    as (λ o. run_cmp key r.0 ≡ o → sum_by weight (match_ordering o ((key, b) ∷ r ∷ runs) ((r.0, b) ∷ runs) (r ∷ put))
+    + left_of (cond (is_eq o) (Some r.1) (at run_cmp runs key)) ≡ sum_by weight (r ∷ runs) + length b.run.left) [
       | Less ↦ λ e.
-          let none : left_of (at run_cmp runs key) ≡ 0 = ap left_of (none_behind key runs (behind_all key r.0 (keys_of runs) e (sorted_head run_cmp r.0 (keys_of runs) s))) in
+          let none : left_of (at run_cmp runs key) ≡ 0 =
+          ap left_of (none_behind key runs (behind_all key r.0 (keys_of runs) e (sorted_head run_cmp r.0 (keys_of runs) s))) in
           omega (arith, none, sum_by-cons weight (key, b) (r ∷ runs))
       | Equal ↦ λ e. omega (arith, sum_by-cons weight r runs, sum_by-cons weight (r.0, b) runs)
       | Greater ↦ λ e. omega (arith, sum_by-cons weight r runs, sum_by-cons weight r put, rest)

@@ -18,7 +18,8 @@ use Rattle.program_model.specs.RunLaws.{stepped_follows, begun_is}
 use Rattle.history_model.specs.declared.entry.Entry.{Entry}
 use Rattle.history_model.specs.declared.entry.Entry.TheVariants as entry
 use Rattle.history_model.specs.Operations.{operation_in}
-use Rattle.history_model.specs.History.{Programs, RunKey, run_cmp, Begun, Runs, Held, nothing, later, room_in, setting_in, steps_of, with_begin, with_stepped, no_steps, with_step, with_answer, with_operation, carried, held_from, held}
+use Rattle.history_model.specs.History.{Programs, RunKey, run_cmp, Begun, Runs, Held, nothing, later, room_in, setting_in, steps_of, with_begin}
+use Rattle.history_model.specs.History.{with_stepped, no_steps, with_step, with_answer, with_operation, carried, held_from, held}
 use Rattle.history_model.specs.Bounds.{IsBegun, AreBegun, IsHeld, StaysAs}
 use Rattle.history_model.specs.HistoryLaws.{run_order, carried_entries, sorted_carried, held_from-append}
 
@@ -88,7 +89,11 @@ carried_runs app h (entry.Admin op) r = subst (λ (runs : Runs). AreRuns (suc h.
 pub carried_is : (app : Programs) (h : Held) (e : Entry) → IsHeld h → IsHeld (carried app h e)
 carried_is app h e i =
     let r = carried_runs app h e (record { sorted = i.sorted; begun = i.begun }) in
-    record { rows = sorted_carried app h e i.rows; sorted = r.sorted; begun = subst (λ n. AreBegun n (carried app h e).runs) (sym (carried_entries app h e)) r.begun }
+    record {
+      rows = sorted_carried app h e i.rows;
+      sorted = r.sorted;
+      begun = subst (λ n. AreBegun n (carried app h e).runs) (sym (carried_entries app h e)) r.begun;
+    }
 
 pub held_from_is : (app : Programs) (h : Held) (es : List Entry) → IsHeld h → IsHeld (held_from app h es)
 held_from_is app h [] i = i
@@ -142,7 +147,8 @@ stepped_stays app h key q b run is sorted =
     (λ (c : Bool). no_steps b.run.left ≡ c → StaysAs (at run_cmp h.runs q) (at run_cmp (cond c (later h) (with_stepped h key s)).runs q)) [
       | true ↦ λ e. stays_itself (at run_cmp h.runs q)
       | false ↦ λ e. put_stays h.runs key next q sorted
-          (subst (λ (o : Option Begun). StaysAs o (Some next)) (sym is) ((stepped_follows (setting_in app h) h.rows b.run run).unblocked, λ f. absurd (not_over b.run.left e f)))
+          (subst (λ (o : Option Begun). StaysAs o (Some next)) (sym is)
+          ((stepped_follows (setting_in app h) h.rows b.run run).unblocked, λ f. absurd (not_over b.run.left e f)))
     ] refl
 
 step_stays : (app : Programs) (h : Held) (key : RunKey) (q : RunKey) (o : Option Begun) → IfSome o (IsBegun h.entries) → at run_cmp h.runs key ≡ o →

@@ -1,5 +1,6 @@
 -- The documents of every history keep to the limits of a document.
-use Rattle.std.specs.Prelude.{◌≡◌, ℕ, List, [], ◌∷◌, map, filter, length, codes, Bool, true, false, cond, ◌&&◌, nat_lt, nat_le, Option, None, Some, IfSome, is_some, option_map, option_and_then, Ok, Err, refl, if◌then◌else◌}
+use Rattle.std.specs.Prelude.{◌≡◌, ℕ, List, [], ◌∷◌, map, filter, length, codes, Bool, true, false, cond, ◌&&◌, nat_lt, nat_le, Option, None, Some}
+use Rattle.std.specs.Prelude.{IfSome, is_some, option_map, option_and_then, Ok, Err, refl, if◌then◌else◌}
 use Rattle.std.specs.List.{range_with_len}
 use Rattle.std.specs.Map.{remove_entry}
 use Rattle.std.specs.BTreeMap.{is_at, insert_entry}
@@ -31,7 +32,9 @@ use Rattle.collection_store.specs.declared.operation.Op.{Op}
 use Rattle.collection_store.specs.declared.operation.Op.TheVariants as operation
 use Rattle.collection_store.specs.Outcome.{Outcome}
 use Rattle.collection_store.specs.Limits.{document, is_too_large, is_full}
-use Rattle.collection_store.specs.Applied.{Row, Plan, Applied, is_listed, after, done, matching, chosen, insertion, insert_plan, update_plan, or_refused, change_if_differs, change_to, updated, with_change, all_updated, remove_plan, removal, plan_for, if_room, applied}
+use Rattle.collection_store.specs.Applied.{Row, Plan, Applied, is_listed, after, done, matching, chosen, insertion, insert_plan, update_plan}
+use Rattle.collection_store.specs.Applied.{or_refused, change_if_differs, change_to, updated, with_change, all_updated, remove_plan, removal}
+use Rattle.collection_store.specs.Applied.{plan_for, if_room, applied}
 use Rattle.program_steps.specs.declared.rules.Action.{Action}
 use Rattle.program_steps.specs.declared.rules.Action.TheVariants as action
 use Rattle.program_steps.specs.declared.rules.Rules.{Rules}
@@ -41,12 +44,15 @@ use Rattle.program_steps.specs.Runs.{done as ended_with}
 use Rattle.program_model.specs.declared.verdict.Verdict.{Verdict}
 use Rattle.program_model.specs.declared.verdict.Verdict.TheVariants as verdict
 use Rattle.program_model.specs.Guarded.{removes, judged, or_none, id_of}
-use Rattle.program_model.specs.Run.{Run, gone_on, ended, New, new_by, new_of, next_id, is_id, inserted, if_ok, drawn_for, filled_in, selector_in, modifier_in, new_in}
-use Rattle.program_model.specs.Steps.{Setting, Stepped, by_answer, if_made, if_found, Writing, insert_writing, writing, writing_in, update_of, operation_of, by_verdict, by_rules, done_step, stepped_by, stepped}
+use Rattle.program_model.specs.Run.{Run, gone_on, ended, New, new_by, new_of, next_id, is_id, inserted, if_ok, drawn_for, filled_in, selector_in}
+use Rattle.program_model.specs.Run.{modifier_in, new_in}
+use Rattle.program_model.specs.Steps.{Setting, Stepped, by_answer, if_made, if_found, Writing, insert_writing, writing, writing_in, update_of}
+use Rattle.program_model.specs.Steps.{operation_of, by_verdict, by_rules, done_step, stepped_by, stepped}
 use Rattle.history_model.specs.declared.entry.Entry.{Entry}
 use Rattle.history_model.specs.declared.entry.Entry.TheVariants as entry
 use Rattle.history_model.specs.Operations.{insert_of, update_by, remove_of, update_in, operation_named, operation_in}
-use Rattle.history_model.specs.History.{Programs, RunKey, run_cmp, Begun, Held, nothing, later, room_in, setting_in, with_begin, with_stepped, no_steps, with_step, with_answer, with_operation, carried, held_from, held}
+use Rattle.history_model.specs.History.{Programs, RunKey, run_cmp, Begun, Held, nothing, later, room_in, setting_in, with_begin, with_stepped}
+use Rattle.history_model.specs.History.{no_steps, with_step, with_answer, with_operation, carried, held_from, held}
 use Rattle.history_model.specs.Bounds.{IsStored, AreStored}
 
 -- ---- rows
@@ -69,7 +75,8 @@ stored_removed test (row ∷ rows) all = elim (test row.0) as
 stored_filter : (test : Row → Bool) (rows : Rows) → AreStored rows → AreStored (filter test rows)
 stored_filter test [] all = tt
 stored_filter test (row ∷ rows) all = elim (test row) as
-    (λ b. AreStored (cond b (row ∷ filter test rows) (filter test rows))) [ true ↦ (all.0, stored_filter test rows all.1) | false ↦ stored_filter test rows all.1 ]
+    (λ b. AreStored (cond b (row ∷ filter test rows) (filter test rows)))
+    [ true ↦ (all.0, stored_filter test rows all.1) | false ↦ stored_filter test rows all.1 ]
 
 stored_chosen : (all : Bool) (rows : Rows) → AreStored rows → AreStored (chosen all rows)
 stored_chosen true rows s = s
@@ -114,10 +121,12 @@ kept_updates : (m : Modification) (rows : Rows) (cs : List Change) → AreStored
 kept_updates m [] cs s is = let none : cs ≡ [] = cc is in subst AreKept (sym none) tt
 kept_updates m (row ∷ rows) cs s is =
     let parts = both_made with_change (updated m row) (all_updated m rows) cs is in
-    let changed = and_then-ok (or_refused (modified m row.0.id row.1)) (λ doc. if is_too_large doc then Err fault.TooLarge else Ok (change_if_differs row doc)) parts.0 parts.2 in
+    let changed = and_then-ok (or_refused (modified m row.0.id row.1))
+    (λ doc. if is_too_large doc then Err fault.TooLarge else Ok (change_if_differs row doc)) parts.0 parts.2 in
     let small = not_large changed.0 (is_too_large changed.0) (change_if_differs row changed.0) parts.0 refl changed.2 in
     subst AreKept parts.4
-    (subst (λ (o : Option Change). AreKept (with_change o parts.1)) small.1 (if_differs row changed.0 (same (document row.1) (document changed.0)) parts.1 s.0.id small.0 (kept_updates m rows parts.1 s.1 parts.3)))
+    (subst (λ (o : Option Change). AreKept (with_change o parts.1)) small.1
+    (if_differs row changed.0 (same (document row.1) (document changed.0)) parts.1 s.0.id small.0 (kept_updates m rows parts.1 s.1 parts.3)))
 
 kept_removals : (rows : Rows) → AreKept (map removal rows)
 kept_removals [] = tt
@@ -160,7 +169,8 @@ stored_applied names rows (operation.Update collection selector m every) room a 
     let plan = and_then-ok (update_plan m found) (λ plan. if_room rows room plan) a (listed (is_listed names collection) _ a is) in
     let changes = made-ok (λ changes. plan_for found changes) (all_updated m found) plan.0 plan.1 in
     planned rows room plan.0 a plan.2 all
-    (subst (λ (p : Plan). AreKept p.changes) changes.2 (kept_updates m found changes.0 (stored_chosen every (matching collection selector rows) (stored_matching collection selector rows all)) changes.1))
+    (subst (λ (p : Plan). AreKept p.changes) changes.2 (kept_updates m found changes.0
+    (stored_chosen every (matching collection selector rows) (stored_matching collection selector rows all)) changes.1))
 stored_applied names rows (operation.Remove collection selector) room a good all is =
     let found = matching collection selector rows in
     let e : Ok (done rows (remove_plan found)) ≡ Ok a = listed (is_listed names collection) _ a is in
@@ -216,7 +226,8 @@ found_stored rows run e [] all = all
 found_stored rows run e (row ∷ found) all = all
 
 insert_stored : (s : Setting) (rows : Rows) (run : Run) (collection : List ℕ) (o : Option New) → IsNew o → AreStored rows →
-    AreStored (if_made rows run o (λ new. by_answer rows run (applied s.collections rows (operation.Insert collection new.id new.doc) s.room) (λ a. gone_on (inserted collection new run)))).rows
+    AreStored (if_made rows run o (λ new. by_answer rows run (applied s.collections rows (operation.Insert collection new.id new.doc) s.room)
+    (λ a. gone_on (inserted collection new run)))).rows
 insert_stored s rows run collection None good all = all
 insert_stored s rows run collection (Some new) good all =
     answer_stored s.collections s.room rows run (operation.Insert collection new.id new.doc) (λ a. gone_on (inserted collection new run)) good all
@@ -271,10 +282,12 @@ step_stored s rows run (step.Insert collection doc) all =
     insert_stored s rows run collection (new_in run collection doc) (filled_is run collection (filled_in run doc)) all
 step_stored s rows run (step.Update collection selector m every) all =
     made_stored rows run (selector_in run selector) _ all
-    (λ q. made_stored rows run (modifier_in run m) _ all (λ m. answer_stored s.collections s.room rows run (operation.Update collection q m every) (λ a. gone_on run) tt all (applied s.collections rows (operation.Update collection q m every) s.room) refl))
+    (λ q. made_stored rows run (modifier_in run m) _ all (λ m. answer_stored s.collections s.room rows run (operation.Update collection q m every)
+    (λ a. gone_on run) tt all (applied s.collections rows (operation.Update collection q m every) s.room) refl))
 step_stored s rows run (step.Remove collection selector) all =
     made_stored rows run (selector_in run selector) _ all
-    (λ q. answer_stored s.collections s.room rows run (operation.Remove collection q) (λ a. gone_on run) tt all (applied s.collections rows (operation.Remove collection q) s.room) refl)
+    (λ q. answer_stored s.collections s.room rows run (operation.Remove collection q)
+    (λ a. gone_on run) tt all (applied s.collections rows (operation.Remove collection q) s.room) refl)
 step_stored s rows run (step.Require collection selector e) all =
     made_stored rows run (selector_in run selector) _ all (λ q. found_stored rows run e (matching collection q rows) all)
 step_stored s rows run step.Unblock all = all

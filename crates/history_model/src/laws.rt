@@ -76,7 +76,8 @@ pub fn documents_keep_to_their_limits()
 
 /// A call has a run exactly where the history begins it.
 pub fn runs_are_those_that_were_begun()
-    ensures { (app : Programs) (history : List AnEntry) (session k : ℕ) → is_some (status_in (held app history) session k) ≡ list_any (begins (session, k)) history }
+    ensures { (app : Programs) (history : List AnEntry) (session k : ℕ) →
+        is_some (status_in (held app history) session k) ≡ list_any (begins (session, k)) history }
 {}
 
 /// In a legal history the numbers of a session's calls rise, so that none is begun twice.

@@ -1,8 +1,10 @@
-ghost use Rattle.std.specs.Prelude.{◌≡◌, ◌≤◌, ◌<◌, ◌+◌, ◌-◌, ◌^◌, ◌∷◌, ◌++◌, ℕ, List, [], Option, Some, length, take, drop, min, IfOk, IfSome, OnOk, OnErr, IsTrue, IsErr, ◌↔◌, ◌==◌, slice_get};
+ghost use Rattle.std.specs.Prelude.{◌≡◌, ◌≤◌, ◌<◌, ◌+◌, ◌-◌, ◌^◌, ◌∷◌, ◌++◌, ℕ, List, [], Option, Some, length, take, drop, min, IfOk, IfSome, OnOk};
+ghost use Rattle.std.specs.Prelude.{OnErr, IsTrue, IsErr, ◌↔◌, ◌==◌, slice_get};
 ghost use Rattle.std.specs.List.{list_any};
 ghost use Rattle.std.specs.Option.{option_copied};
 ghost use Rattle.io_edge.specs.Outside.{TakesNext, Grows, CountsRead};
-ghost use Rattle.io_edge.specs.Memory.{Supply, Held, with_call, is_to_fail, read_fails, read_length, after_read, reads_of, write_fails, after_write, told_of, last_call};
+ghost use Rattle.io_edge.specs.Memory.{Supply, Held, with_call, is_to_fail, read_fails, read_length, after_read, reads_of, write_fails, after_write};
+ghost use Rattle.io_edge.specs.Memory.{told_of, last_call};
 
 use crate::sink::Sink;
 use crate::source::{Failed, Source};

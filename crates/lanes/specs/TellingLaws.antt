@@ -1,5 +1,6 @@
 -- Lanes that are told at once are told as one map.
-use Rattle.std.specs.Prelude.{◌≡◌, ◌||◌, ℕ, suc, ◌+◌, ◌<◌, length, take, get_or, List, [], ◌∷◌, ◌++◌, Bool, true, false, Option, None, Some, Result, Ok, Err, refl}
+use Rattle.std.specs.Prelude.{◌≡◌, ◌||◌, ℕ, suc, ◌+◌, ◌<◌, length, take, get_or, List, [], ◌∷◌, ◌++◌, Bool, true, false, Option, None, Some, Result}
+use Rattle.std.specs.Prelude.{Ok, Err, refl}
 use Rattle.std.specs.BTreeMap.{insert_entry}
 use Rattle.std.proofs.Common.{ap, ap₂, sym, subst, ◌∙◌, arith, inl, inr}
 use Rattle.std.proofs.Math.Seq.{take-suc}

@@ -16,7 +16,8 @@ const MAX_LEVELS: u64 = 32;
 
 /// The text that stands first, and what follows it.
 pub fn text_first(values: &[Value]) -> Option<(&Text, &[Value])>
-    ensures { MatchOption result (text_first (vals_of (views values.now)) ≡ None) (λ p. text_first (vals_of (views values.now)) ≡ Some (p.0.now, vals_of (views p.1.now))) }
+    ensures { MatchOption result (text_first (vals_of (views values.now)) ≡ None)
+        (λ p. text_first (vals_of (views values.now)) ≡ Some (p.0.now, vals_of (views p.1.now))) }
 {
     let Some((first, rest)) = values.split_first() else {
         return None;

@@ -5,7 +5,8 @@ ghost use Rattle.map_model.specs.Maps.{IsSorted};
 ghost use Rattle.ejson_value.specs.Key.{key_cmp};
 ghost use Rattle.ejson_value.specs.Rows.{Rows};
 ghost use Rattle.ejson_value.specs.Changes.{news_of};
-ghost use Rattle.live_observer.specs.Observing.{cursors_of, StandsAt, Follows, IsStep, carried, IsPlanOf, touches, is_own, IsWhole, IsWatching, IsAt, HaveNoLimit};
+ghost use Rattle.live_observer.specs.Observing.{cursors_of, StandsAt, Follows, IsStep, carried, IsPlanOf, touches, is_own, IsWhole, IsWatching, IsAt};
+ghost use Rattle.live_observer.specs.Observing.{HaveNoLimit};
 ghost use Rattle.live_observer.specs.Answering.{AreToldBy, plan_of, carried_at, IsMoveAt};
 
 use crate::told::{ToldBy, answer};

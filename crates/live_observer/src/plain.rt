@@ -49,7 +49,8 @@ fn note_own<L: Ledger>(
     change: &Change,
     steps: &mut Steps<L>,
 ) -> Result<(), Mem>
-    ensures value { OnOk result (nets.new.entries ≡ set text_cmp nets.old.entries change.now.key.id (Some (net_of cursor.now (at text_cmp nets.old.entries change.now.key.id) change.now))) }
+    ensures value { OnOk result (nets.new.entries
+        ≡ set text_cmp nets.old.entries change.now.key.id (Some (net_of cursor.now (at text_cmp nets.old.entries change.now.key.id) change.now))) }
     ensures grows { steps.old ≤ steps.new }
     ensures ticks { steps.new ≤ steps.old + 2 }
 {

@@ -38,7 +38,8 @@ module _ {K X : Type 0} {R : K → K → Ordering} (o : IsKeyOrder R) where
   sorted-changed a [] s = s
   sorted-changed a (c ∷ cs) s = sorted-changed (set R a c.key c.after) cs (sorted-set o a c.key c.after s)
 
-  last_step : (later : Option (Option X)) (b : Bool) (w old : Option X) → unwrap_or later (cond b w old) ≡ unwrap_or (option_or later (cond b (Some w) None)) old
+  last_step : (later : Option (Option X)) (b : Bool) (w old : Option X) →
+      unwrap_or later (cond b w old) ≡ unwrap_or (option_or later (cond b (Some w) None)) old
   last_step None true w old = refl
   last_step None false w old = refl
   last_step (Some v) b w old = refl

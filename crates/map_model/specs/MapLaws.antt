@@ -75,18 +75,21 @@ module _ {K X : Type 0} (R : K → K → Ordering) where
   sorted_from [] h = tt
   sorted_from (e ∷ es) h = (below_from e.0 es (first _ _ h), sorted_from es (second _ _ h))
 
-below_rest : {K X Y : Type 0} (R : K → K → Ordering) (f : K → X → Option Y) (x : K) (es : List (K × X)) → AllByRecursion (λ y. R x y ≡ Less) (keys_of es) → AllByRecursion (λ y. R x y ≡ Less) (keys_of (filter_map_entries f es))
+below_rest : {K X Y : Type 0} (R : K → K → Ordering) (f : K → X → Option Y) (x : K) (es : List (K × X)) →
+    AllByRecursion (λ y. R x y ≡ Less) (keys_of es) → AllByRecursion (λ y. R x y ≡ Less) (keys_of (filter_map_entries f es))
 below_rest R f x [] h = tt
 below_rest R f x (e ∷ es) h =
     let rest = below_rest R f x es h.1 in
     elim (f e.0 e.1) as (λ w. AllByRecursion (λ y. R x y ≡ Less) (keys_of (keyed e.0 w (filter_map_entries f es)))) [ None ↦ rest | Some v ↦ (h.0, rest) ]
 
-pub sorted-filter_map_entries : {K X Y : Type 0} (R : K → K → Ordering) (f : K → X → Option Y) (es : List (K × X)) → IsSorted R es → IsSorted R (filter_map_entries f es)
+pub sorted-filter_map_entries : {K X Y : Type 0} (R : K → K → Ordering) (f : K → X → Option Y) (es : List (K × X)) → IsSorted R es →
+    IsSorted R (filter_map_entries f es)
 unfolding IsStrictlySortedBy
 sorted-filter_map_entries R f [] s = tt
 sorted-filter_map_entries R f (e ∷ es) s =
     let rest = sorted-filter_map_entries R f es s.1 in
-    elim (f e.0 e.1) as (λ w. IsStrictlySortedBy R (keys_of (keyed e.0 w (filter_map_entries f es)))) [ None ↦ rest | Some v ↦ (below_rest R f e.0 es s.0, rest) ]
+    elim (f e.0 e.1)
+    as (λ w. IsStrictlySortedBy R (keys_of (keyed e.0 w (filter_map_entries f es)))) [ None ↦ rest | Some v ↦ (below_rest R f e.0 es s.0, rest) ]
 
 -- the empty map is sorted
 pub sorted-nil : {K : Type 0} (R : K → K → Ordering) → IsStrictlySortedBy R []
@@ -102,7 +105,8 @@ module _ {K : Type 0} {R : K → K → Ordering} (o : IsKeyOrder R) where
   key_is q k e = o.exact q k (equal _ e)
 
 -- one map has one list
-pub same_maps : {K X : Type 0} {R : K → K → Ordering} (o : IsKeyOrder R) (a b : List (K × X)) → IsSorted R a → IsSorted R b → ((q : K) → at R a q ≡ at R b q) → a ≡ b
+pub same_maps : {K X : Type 0} {R : K → K → Ordering} (o : IsKeyOrder R) (a b : List (K × X)) → IsSorted R a → IsSorted R b →
+    ((q : K) → at R a q ≡ at R b q) → a ≡ b
 same_maps {R = R} o a b s t is = same_entries R o.total o.exact a b (sorted_to R a s) (sorted_to R b t) (λ q. sym (find_is R a q) ∙ is q ∙ find_is R b q)
 
 -- whether a map has a key, by its keys
@@ -112,7 +116,8 @@ is_some-at R es q = ap is_some (find_is R es q) ∙ is_some-find R q es
 module _ {K X : Type 0} {R : K → K → Ordering} (o : IsKeyOrder R) where
   -- a key that is put
   pub at-put : (es : List (K × X)) (k : K) (v : X) (q : K) → at R (insert_entry R es k v) q ≡ cond (eq_by_cmp R q k) (Some v) (at R es q)
-  at-put es k v q = ap (λ xs. at R xs q) (put_is R es k v) ∙ find_is R _ q ∙ find-put R o.total q k v es ∙ ap (cond (eq_by_cmp R q k) (Some v)) (sym (find_is R es q))
+  at-put es k v q = ap (λ xs. at R xs q) (put_is R es k v) ∙ find_is R _ q ∙ find-put R o.total q k v es
+      ∙ ap (cond (eq_by_cmp R q k) (Some v)) (sym (find_is R es q))
 
   pub sorted-put : (es : List (K × X)) (k : K) (v : X) → IsSorted R es → IsSorted R (insert_entry R es k v)
   sorted-put es k v s = subst (IsSorted R) (sym (put_is R es k v)) (sorted_from R _ (is_sorted-put R o.total k v es (sorted_to R es s)))
@@ -120,21 +125,25 @@ module _ {K X : Type 0} {R : K → K → Ordering} (o : IsKeyOrder R) where
   -- a key that is taken out
   pub at-remove : (es : List (K × X)) (k q : K) → IsSorted R es → at R (remove_entry (is_at (R k)) es) q ≡ cond (eq_by_cmp R q k) None (at R es q)
   at-remove es k q s =
-      lookup-remove_entry (eq_by_cmp_equiv o.total) (is_at (R k)) (λ x y e. ap is_eq (o.total.congr k x y (equal _ e))) q es (IsDistinct-from_sorted R (keys_of es) s)
+      lookup-remove_entry (eq_by_cmp_equiv o.total) (is_at (R k)) (λ x y e. ap is_eq (o.total.congr k x y (equal _ e))) q es
+      (IsDistinct-from_sorted R (keys_of es) s)
       ∙ ap (λ b. cond b None (at R es q)) ((eq_by_cmp_equiv o.total).symm k q)
 
-  below-remove : (x k : K) (es : List (K × X)) → AllByRecursion (λ y. R x y ≡ Less) (keys_of es) → AllByRecursion (λ y. R x y ≡ Less) (keys_of (remove_entry (is_at (R k)) es))
+  below-remove : (x k : K) (es : List (K × X)) → AllByRecursion (λ y. R x y ≡ Less) (keys_of es) →
+      AllByRecursion (λ y. R x y ≡ Less) (keys_of (remove_entry (is_at (R k)) es))
   below-remove x k [] h = tt
   below-remove x k (e ∷ es) h =
       let rest = below-remove x k es h.1 in
-      elim (is_at (R k) e.0) as (λ b. AllByRecursion (λ y. R x y ≡ Less) (keys_of (cond b es (e ∷ remove_entry (is_at (R k)) es)))) [ true ↦ h.1 | false ↦ (h.0, rest) ]
+      elim (is_at (R k) e.0)
+      as (λ b. AllByRecursion (λ y. R x y ≡ Less) (keys_of (cond b es (e ∷ remove_entry (is_at (R k)) es)))) [ true ↦ h.1 | false ↦ (h.0, rest) ]
 
   pub sorted-remove : (es : List (K × X)) (k : K) → IsSorted R es → IsSorted R (remove_entry (is_at (R k)) es)
   unfolding IsStrictlySortedBy
   sorted-remove [] k s = tt
   sorted-remove (e ∷ es) k s =
       let rest = sorted-remove es k s.1 in
-      elim (is_at (R k) e.0) as (λ b. IsStrictlySortedBy R (keys_of (cond b es (e ∷ remove_entry (is_at (R k)) es)))) [ true ↦ s.1 | false ↦ (below-remove e.0 k es s.0, rest) ]
+      elim (is_at (R k) e.0) as (λ b. IsStrictlySortedBy R (keys_of (cond b es (e ∷ remove_entry (is_at (R k)) es))))
+      [ true ↦ s.1 | false ↦ (below-remove e.0 k es s.0, rest) ]
 
   -- a key that is set
   pub at-set : (es : List (K × X)) (k : K) (w : Option X) (q : K) → IsSorted R es → at R (set R es k w) q ≡ cond (eq_by_cmp R q k) w (at R es q)
@@ -162,7 +171,8 @@ module _ {K X : Type 0} {R : K → K → Ordering} (o : IsKeyOrder R) where
   at-filter p [] q s = refl
   at-filter p (e ∷ es) q s =
       let rest = at-filter p es q (sorted_tail R _ _ s) in
-      elim (eq_by_cmp R q e.0) as (λ b. eq_by_cmp R q e.0 ≡ b → at R (cond (p e) (e ∷ filter p es) (filter p es)) q ≡ option_filter (λ v. p (q, v)) (cond b (Some e.1) (at R es q))) [
+      elim (eq_by_cmp R q e.0) as (λ b. eq_by_cmp R q e.0 ≡ b →
+      at R (cond (p e) (e ∷ filter p es) (filter p es)) q ≡ option_filter (λ v. p (q, v)) (cond b (Some e.1) (at R es q))) [
         | true ↦ λ t.
             let none : at R (filter p es) q ≡ None = rest ∙ ap (option_filter (λ v. p (q, v))) (at-tail e es q s t) in
             let here : p (q, e.1) ≡ p e = ap (λ k. p (k, e.1)) (key_is o q e.0 t) in
@@ -176,7 +186,8 @@ module _ {K X : Type 0} {R : K → K → Ordering} (o : IsKeyOrder R) where
         ] ∙ rest
       ] refl
 
-  below-filter : (p : K × X → Bool) (x : K) (es : List (K × X)) → AllByRecursion (λ y. R x y ≡ Less) (keys_of es) → AllByRecursion (λ y. R x y ≡ Less) (keys_of (filter p es))
+  below-filter : (p : K × X → Bool) (x : K) (es : List (K × X)) → AllByRecursion (λ y. R x y ≡ Less) (keys_of es) →
+      AllByRecursion (λ y. R x y ≡ Less) (keys_of (filter p es))
   below-filter p x [] h = tt
   below-filter p x (e ∷ es) h =
       let rest = below-filter p x es h.1 in
@@ -194,7 +205,8 @@ module _ {K X : Type 0} {R : K → K → Ordering} (o : IsKeyOrder R) where
   at-union [] b q = refl
   at-union (e ∷ a) b q = at-put (union R a b) e.0 e.1 q ∙
       let rest = at-union a b q in
-      elim (eq_by_cmp R q e.0) as (λ c. cond c (Some e.1) (at R (union R a b) q) ≡ option_or (cond c (Some e.1) (at R a q)) (at R b q)) [ true ↦ refl | false ↦ rest ]
+      elim (eq_by_cmp R q e.0)
+      as (λ c. cond c (Some e.1) (at R (union R a b) q) ≡ option_or (cond c (Some e.1) (at R a q)) (at R b q)) [ true ↦ refl | false ↦ rest ]
 
   pub sorted-union : (a b : List (K × X)) → IsSorted R b → IsSorted R (union R a b)
   sorted-union [] b t = t
@@ -216,7 +228,8 @@ module _ {K X : Type 0} {R : K → K → Ordering} (o : IsKeyOrder R) where
   at-collect f [] q = refl
   at-collect f (k ∷ ks) q =
       at-keyed k (f k) (collect f ks) q
-      ∙ elim (eq_by_cmp R q k) as (λ b. eq_by_cmp R q k ≡ b → cond b (option_or (f k) (at R (collect f ks) q)) (at R (collect f ks) q) ≡ cond b (option_or (f q) (at R (collect f ks) q)) (at R (collect f ks) q)) [
+      ∙ elim (eq_by_cmp R q k) as (λ b. eq_by_cmp R q k ≡ b → cond b (option_or (f k) (at R (collect f ks) q)) (at R (collect f ks) q)
+      ≡ cond b (option_or (f q) (at R (collect f ks) q)) (at R (collect f ks) q)) [
         | true ↦ λ t. ap (λ x. option_or (f x) (at R (collect f ks) q)) (sym (key_is o q k t))
         | false ↦ λ t. refl
       ] refl
@@ -237,12 +250,14 @@ module _ {K X : Type 0} {R : K → K → Ordering} (o : IsKeyOrder R) where
       elim (f k) as (λ w. IsStrictlySortedBy R (keys_of (keyed k w (collect f ks)))) [ None ↦ rest | Some v ↦ (below-collect f k ks s.0, rest) ]
 
 -- what f gives for what a map has
-pub at-filter_map_entries : {K X Y : Type 0} {R : K → K → Ordering} (o : IsKeyOrder R) (f : K → X → Option Y) (es : List (K × X)) (q : K) → IsSorted R es → at R (filter_map_entries f es) q ≡ option_and_then (f q) (at R es q)
+pub at-filter_map_entries : {K X Y : Type 0} {R : K → K → Ordering} (o : IsKeyOrder R) (f : K → X → Option Y) (es : List (K × X)) (q : K) →
+    IsSorted R es → at R (filter_map_entries f es) q ≡ option_and_then (f q) (at R es q)
 at-filter_map_entries o f [] q s = refl
 at-filter_map_entries {R = R} o f (e ∷ es) q s =
     at-keyed o e.0 (f e.0 e.1) (filter_map_entries f es) q
     ∙ let rest = at-filter_map_entries o f es q (sorted_tail R _ _ s) in
-    elim (eq_by_cmp R q e.0) as (λ b. eq_by_cmp R q e.0 ≡ b → cond b (option_or (f e.0 e.1) (at R (filter_map_entries f es) q)) (at R (filter_map_entries f es) q) ≡ option_and_then (f q) (cond b (Some e.1) (at R es q))) [
+    elim (eq_by_cmp R q e.0) as (λ b. eq_by_cmp R q e.0 ≡ b → cond b (option_or (f e.0 e.1) (at R (filter_map_entries f es) q))
+    (at R (filter_map_entries f es) q) ≡ option_and_then (f q) (cond b (Some e.1) (at R es q))) [
       | true ↦ λ t. ap₂ (λ k w. option_or (f k e.1) w) (sym (key_is o q e.0 t)) (rest ∙ ap (option_and_then (f q)) (at-tail o e es q s t)) ∙ only (f q e.1)
       | false ↦ λ t. rest
     ] refl

@@ -1,5 +1,6 @@
 //! What becomes of each document that a call changes.
-ghost use Rattle.std.specs.Prelude.{◌≡◌, ◌==◌, ◌∷◌, ◌++◌, ◌+◌, ◌<◌, ◌≤◌, ◌^◌, ℕ, true, false, [], map, Some, None, IsSome, IfSome, IsTrue, IfOk, OnOk, if◌then◌else◌};
+ghost use Rattle.std.specs.Prelude.{◌≡◌, ◌==◌, ◌∷◌, ◌++◌, ◌+◌, ◌<◌, ◌≤◌, ◌^◌, ℕ, true, false, [], map, Some, None, IsSome, IfSome, IsTrue, IfOk};
+ghost use Rattle.std.specs.Prelude.{OnOk, if◌then◌else◌};
 ghost use Rattle.std.specs.Ordering.{eq_by_cmp};
 ghost use Rattle.map_model.specs.Maps.{at, IsSorted};
 ghost use Rattle.merge_model.specs.Publishing.{last_news};
@@ -14,7 +15,8 @@ ghost use Rattle.known_texts.specs.Places.{text_at, is_open};
 ghost use Rattle.merge_box.specs.Words.{seen_in, said_all, new_words, AreWords, IsOpenAt, HasSaid, HasTold};
 ghost use Rattle.ejson_value.specs.Changes.{news_of};
 ghost use Rattle.merge_box.specs.Slots.{named, key_in, IsNamed};
-ghost use Rattle.merge_box.specs.Inside.{changes_of, step_of, told_of, after_at, AreNamed, HasGrown, IsReady, IsInside, IsPlannedAt, IsNext, IsTaken, IsPublished};
+ghost use Rattle.merge_box.specs.Inside.{changes_of, step_of, told_of, after_at, AreNamed, HasGrown, IsReady, IsInside, IsPlannedAt, IsNext, IsTaken};
+ghost use Rattle.merge_box.specs.Inside.{IsPublished};
 
 use crate::index::{Index, list, unlist};
 use crate::kept::KeptMap;

@@ -1,5 +1,6 @@
 -- The box as a function does what each call says, and so stands for the calls.
-use Rattle.std.specs.Prelude.{◌≡◌, ℕ, ◌==◌, Bool, true, false, not, cond, ◌||◌, List, [], ◌∷◌, filter, Option, Some, None, is_some, option_and_then, unwrap_or, refl}
+use Rattle.std.specs.Prelude.{◌≡◌, ℕ, ◌==◌, Bool, true, false, not, cond, ◌||◌, List, [], ◌∷◌, filter, Option, Some, None, is_some, option_and_then}
+use Rattle.std.specs.Prelude.{unwrap_or, refl}
 use Rattle.std.specs.Option.{option_or}
 use Rattle.std.specs.List.{list_any}
 use Rattle.std.specs.declared.cmp.Ordering.{Ordering}
@@ -10,7 +11,8 @@ use Rattle.map_model.specs.MapLaws.{is_some-at, at-union, sorted-union, at-colle
 use Rattle.merge_model.specs.Merge.{IsMerge}
 use Rattle.merge_model.specs.Publishing.{Call, apply, drop_sub, sub_of, shown, last_news, says, shown_since}
 use Rattle.merge_model.specs.Kept.{placed, Kept, nothing_kept, has, kept_at, there_after, claims_of, claims_after, IsInOrder, Stands, IsAfter}
-use Rattle.merge_model.specs.Box.{marked, keys_of_both, unless_empty, publishers_after, fields_of, kept_after, unless_nothing, news_of, box_after, box_of, merge_of}
+use Rattle.merge_model.specs.Box.{marked, keys_of_both, unless_empty, publishers_after, fields_of, kept_after, unless_nothing, news_of, box_after}
+use Rattle.merge_model.specs.Box.{box_of, merge_of}
 use Rattle.merge_model.specs.PublishingLaws.{same_sub, apart, differ}
 use Rattle.merge_model.specs.KeptLaws.{merged_is, stands_at_first, stands_after}
 

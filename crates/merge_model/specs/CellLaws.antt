@@ -145,6 +145,7 @@ module _ {V : Type 0} where
       in_order None = rising_without t (λ e. not (r == e.0)) claims before
       in_order (Some v) = elim (claimed r claims) as (λ y. claimed r claims ≡ y → Rising t (keys_of (give claims r v))) [
         | None ↦ λ none. subst (Rising t) (sym (keys-give_new claims r v none))
-            (rising_last t (keys_of claims) r before (claimants (λ s. t s < t r) claims (λ s h. begins (sym (c.holds r) ∙ none) s (ap is_some (sym (c.holds s)) ∙ h))))
+            (rising_last t (keys_of claims) r before
+            (claimants (λ s. t s < t r) claims (λ s h. begins (sym (c.holds r) ∙ none) s (ap is_some (sym (c.holds s)) ∙ h))))
         | Some x ↦ λ some. subst (Rising t) (sym (keys-give_there claims r v (ap is_some some))) before
       ] refl

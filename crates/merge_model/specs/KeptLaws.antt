@@ -1,12 +1,14 @@
 -- What a merge box keeps stands for what the subscriptions show, call after call, and what a client sees is their merge.
-use Rattle.std.specs.Prelude.{◌≡◌, ℕ, suc, ◌≢◌, ◌<◌, ◌≤◌, ◌==◌, Bool, true, false, not, cond, List, [], ◌∷◌, Option, Some, None, is_some, IsSome, IfSome, option_and_then, unwrap_or, refl, ◌||◌}
+use Rattle.std.specs.Prelude.{◌≡◌, ℕ, suc, ◌≢◌, ◌<◌, ◌≤◌, ◌==◌, Bool, true, false, not, cond, List, [], ◌∷◌, Option, Some, None, is_some, IsSome}
+use Rattle.std.specs.Prelude.{IfSome, option_and_then, unwrap_or, refl, ◌||◌}
 use Rattle.std.specs.declared.cmp.Ordering.{Ordering}
 use Rattle.std.proofs.Common.{sym, ap, ◌∙◌, subst, subst₂, arith, true≢false}
 use Rattle.map_model.specs.Maps.{at, IsSorted, IsKeyOrder}
 use Rattle.map_model.specs.MapLaws.{at-filter_map_entries, sorted-filter_map_entries, sorted-nil}
 use Rattle.merge_model.specs.Merge.{field, IsMerge}
 use Rattle.merge_model.specs.Publishing.{Call, apply, sub_of, shown, says, shown_since}
-use Rattle.merge_model.specs.Kept.{claimed, first_value, IsCell, Kept, nothing_kept, has, is_empty, merged_fields, merged_doc, merged, kept_at, publishers_at, there_after, claims_of, claims_after, claims_at, IsInOrder, Stands, IsAfter}
+use Rattle.merge_model.specs.Kept.{claimed, first_value, IsCell, Kept, nothing_kept, has, is_empty, merged_fields, merged_doc, merged, kept_at}
+use Rattle.merge_model.specs.Kept.{publishers_at, there_after, claims_of, claims_after, claims_at, IsInOrder, Stands, IsAfter}
 use Rattle.merge_model.specs.SinceLaws.{since-le, since_held, since_begun}
 use Rattle.merge_model.specs.PublishingLaws.{at-shown, sub-self, apart, differ}
 use Rattle.merge_model.specs.CellLaws.{IsCell-same, IsCell-placed, of_claimant}
@@ -98,7 +100,8 @@ module _ {K N V : Type 0} {R : K → K → Ordering} (o : IsKeyOrder R) {S : N �
     field-merged k f =
         ap (option_and_then (λ d. at S d f)) (at-merged box k h.order.by_key)
         ∙ elim (is_empty (publishers_at R box k)) as
-        (λ b. is_empty (publishers_at R box k) ≡ b → option_and_then (λ d. at S d f) (cond b None (Some (merged_fields (kept_at R box k).fields))) ≡ first_value (claims_at R S box k f)) [
+        (λ b. is_empty (publishers_at R box k) ≡ b →
+        option_and_then (λ d. at S d f) (cond b None (Some (merged_fields (kept_at R box k).fields))) ≡ first_value (claims_at R S box k f)) [
           | true ↦ λ none. sym (no_claims k f none)
           | false ↦ λ _. at-merged_fields (kept_at R box k) f (h.order.by_name k)
         ] refl
@@ -180,12 +183,14 @@ module _ {K N V : Type 0} {R : K → K → Ordering} (o : IsKeyOrder R) {S : N �
           (claims_after S (sub_of call) w f (claims_at R S old k f))
       cell k f None is = IsCell-same (λ r. shown_since R S past r k f) (λ r. shown_since R S (call ∷ past) r k f)
           (λ r. field R S (shown R past r) k f) (λ r. field R S (shown R (call ∷ past) r) k f) (claims_at R S old k f) (h.cells k f)
-          (λ r. value k f r ∙ ap (λ w. cond (r == sub_of call) (option_and_then (λ d. at S d f) (unwrap_or w (at R (shown R past r) k))) (field R S (shown R past r) k f)) is ∙ same_there (r == sub_of call) (field R S (shown R past r) k f))
+          (λ r. value k f r ∙ ap (λ w. cond (r == sub_of call) (option_and_then (λ d. at S d f) (unwrap_or w (at R (shown R past r) k)))
+          (field R S (shown R past r) k f)) is ∙ same_there (r == sub_of call) (field R S (shown R past r) k f))
           (keeps k f)
       cell k f (Some d) is = IsCell-placed (λ r. shown_since R S past r k f) (λ r. shown_since R S (call ∷ past) r k f)
           (λ r. field R S (shown R past r) k f) (λ r. field R S (shown R (call ∷ past) r) k f) (claims_at R S old k f) (sub_of call)
           (option_and_then (λ doc. at S doc f) d) (h.cells k f)
-          (λ r. value k f r ∙ ap (λ w. cond (r == sub_of call) (option_and_then (λ doc. at S doc f) (unwrap_or w (at R (shown R past r) k))) (field R S (shown R past r) k f)) is)
+          (λ r. value k f r ∙ ap (λ w. cond (r == sub_of call) (option_and_then (λ doc. at S doc f) (unwrap_or w (at R (shown R past r) k)))
+          (field R S (shown R past r) k f)) is)
           (keeps k f)
           (begins k f (sub_of call))
 

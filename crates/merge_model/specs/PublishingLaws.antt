@@ -59,7 +59,8 @@ module _ {K D : Type 0} {R : K → K → Ordering} (o : IsKeyOrder R) where
   at-shown (apply r news) past s k =
       let here = at-renewed (shown R past s) news k (sorted-shown past s) in
       elim (s == r) as
-      (λ b. at R (cond b (renewed R (shown R past s) news) (shown R past s)) k ≡ cond b (unwrap_or (last_news R news k) (at R (shown R past s) k)) (at R (shown R past s) k)) [ true ↦ here | false ↦ refl ]
+      (λ b. at R (cond b (renewed R (shown R past s) news) (shown R past s)) k
+      ≡ cond b (unwrap_or (last_news R news k) (at R (shown R past s) k)) (at R (shown R past s) k)) [ true ↦ here | false ↦ refl ]
   at-shown (drop_sub r) past s k =
       elim (s == r) as (λ b. at R (cond b [] (shown R past s)) k ≡ cond b None (at R (shown R past s) k)) [ true ↦ refl | false ↦ refl ]
 

@@ -58,7 +58,8 @@ module _ {C : Type 0} (holds : List C → Bool) where
             (λ early.
             let fits : length past ≤ length (event ∷ past) = omega arith in
             let here : length past ≤ length past = omega arith in
-            absurd (true≢false (sym (from (length past) early fits) ∙ ap holds (up_to-older (length past) event past here ∙ up_to-all (length past) past here) ∙ began)))
+            absurd (true≢false (sym (from (length past) early fits)
+            ∙ ap holds (up_to-older (length past) event past here ∙ up_to-all (length past) past here) ∙ began)))
             (λ late. late)
             (le_or_lt j (length past)))
       ] refl

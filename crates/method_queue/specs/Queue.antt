@@ -1,7 +1,8 @@
 -- What the contracts of `MethodQueue` cite. A client's messages are handled in the order in which they came, and none while
 -- a method blocks: a method that has started and neither ended nor unblocked ("Remote Procedure Calls" of Meteor's DDP
 -- specification; `this.unblock()` of Meteor's methods).
-use Rattle.std.specs.Prelude.{◌≡◌, ℕ, ◌+◌, ◌≤◌, ◌<◌, ◌⊎◌, Bool, true, false, if◌then◌else◌, ◌==◌, List, [], ◌∷◌, ◌++◌, length, sum_by, drop, slice_get, Option, Some, None, is_some, IsTrue, IfSome}
+use Rattle.std.specs.Prelude.{◌≡◌, ℕ, ◌+◌, ◌≤◌, ◌<◌, ◌⊎◌, Bool, true, false, if◌then◌else◌, ◌==◌, List, [], ◌∷◌, ◌++◌, length, sum_by, drop}
+use Rattle.std.specs.Prelude.{slice_get, Option, Some, None, is_some, IsTrue, IfSome}
 use Rattle.std.specs.Option.{option_map}
 use Rattle.std.specs.Ordering.{nat_cmp}
 use Rattle.std.specs.FinSet as set

@@ -3,7 +3,8 @@ ghost use Rattle.std.specs.Prelude.{◌≡◌, ◌↔◌, ◌⊎◌, true, false
 ghost use Rattle.std.specs.Option.{option_map};
 ghost use Rattle.std.specs.Bool.{OnTrue, OnFalse};
 ghost use Rattle.ddp_messages.specs.ClientMessage.{client_view};
-ghost use Rattle.method_queue.specs.Queue.{new_queue, next_message, pushed, taken, reserved, started, unblocked, ended, other_than, IsRunning, IsFull, IsWithin};
+ghost use Rattle.method_queue.specs.Queue.{new_queue, next_message, pushed, taken, reserved, started, unblocked, ended, other_than, IsRunning};
+ghost use Rattle.method_queue.specs.Queue.{IsFull, IsWithin};
 ghost use Rattle.method_queue.specs.Faults.{IsCause};
 
 use crate::fault::PushFault;

@@ -28,7 +28,8 @@ without_then n ns [] = refl
 without_then n ns (h ∷ hs) =
     let rest = without_then n ns hs in
     elim (eq_by_cmp nat_cmp h n) as
-    (λ b. without_numbers ns (cond (not (b || false)) (h ∷ without_numbers (n ∷ []) hs) (without_numbers (n ∷ []) hs)) ≡ cond (not (b || is_among ns h)) (h ∷ without_numbers (n ∷ ns) hs) (without_numbers (n ∷ ns) hs)) [
+    (λ b. without_numbers ns (cond (not (b || false)) (h ∷ without_numbers (n ∷ []) hs) (without_numbers (n ∷ []) hs))
+    ≡ cond (not (b || is_among ns h)) (h ∷ without_numbers (n ∷ ns) hs) (without_numbers (n ∷ ns) hs)) [
       | true ↦ rest
       | false ↦ ap (λ r. cond (not (is_among ns h)) (h ∷ r) r) rest
     ]
@@ -51,7 +52,8 @@ among_without ns [] n e = cc e
 among_without ns (h ∷ hs) n e =
     let rest = among_without ns hs n in
     elim (is_among ns h) as
-    (λ a. is_among ns h ≡ a → is_among (cond (not a) (h ∷ without_numbers ns hs) (without_numbers ns hs)) n ≡ true → (is_among (h ∷ hs) n ≡ true) × (is_among ns n ≡ false)) [
+    (λ a. is_among ns h ≡ a → is_among (cond (not a) (h ∷ without_numbers ns hs) (without_numbers ns hs)) n ≡ true →
+    (is_among (h ∷ hs) n ≡ true) × (is_among ns n ≡ false)) [
       | true ↦ λ t x. (later (eq_by_cmp nat_cmp n h) (rest x).0, (rest x).1)
       | false ↦ λ t x. elim (eq_by_cmp nat_cmp n h) as
           (λ b. eq_by_cmp nat_cmp n h ≡ b → (b || is_among (without_numbers ns hs) n) ≡ true → ((b || is_among hs n) ≡ true) × (is_among ns n ≡ false)) [

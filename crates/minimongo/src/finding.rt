@@ -48,7 +48,8 @@ fn find_named(
     id: &Text,
     selector: &Selector,
 ) -> Result<Publishes, Mem>
-    ensures { IfOk result (λ found. news_of found ≡ published (if_held selector.now (key_of collection.now id.now) (at key_cmp contents.now (key_of collection.now id.now)))) }
+    ensures { IfOk result (λ found. news_of found
+        ≡ published (if_held selector.now (key_of collection.now id.now) (at key_cmp contents.now (key_of collection.now id.now)))) }
 {
     let key = Key::of(collection, id)?;
     let mut found = Publishes::new(alloc);

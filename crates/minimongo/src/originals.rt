@@ -1,5 +1,6 @@
 //! The saved originals of a client.
-ghost use Rattle.std.specs.Prelude.{◌≡◌, ◌≢◌, ◌↔◌, ◌∷◌, ◌++◌, ℕ, [], map, true, false, not, IsTrue, IfSome, Some, None, is_some, IfOk, OnOk, OnErr, if◌then◌else◌};
+ghost use Rattle.std.specs.Prelude.{◌≡◌, ◌≢◌, ◌↔◌, ◌∷◌, ◌++◌, ℕ, [], map, true, false, not, IsTrue, IfSome, Some, None, is_some, IfOk, OnOk, OnErr};
+ghost use Rattle.std.specs.Prelude.{if◌then◌else◌};
 ghost use Rattle.std.specs.List.{list_all};
 ghost use Rattle.std.specs.Ordering.{eq_by_cmp, nat_cmp};
 ghost use Rattle.std.specs.BTreeSet.{contains};
@@ -8,7 +9,8 @@ ghost use Rattle.view_model.specs.Pending.{is_among, holders};
 ghost use Rattle.ejson_value.specs.declared.key.Key.{Key};
 ghost use Rattle.ejson_value.specs.Key.{key_cmp};
 ghost use Rattle.ejson_value.specs.Messages.{said};
-ghost use Rattle.minimongo.specs.Originals.{joined, left_by, saves_of, due, due_at, some_save, IsSaved, IsForgotten, IsServed, ServedFrom, is_holder, AreOriginals};
+ghost use Rattle.minimongo.specs.Originals.{joined, left_by, saves_of, due, due_at, some_save, IsSaved, IsForgotten, IsServed, ServedFrom, is_holder};
+ghost use Rattle.minimongo.specs.Originals.{AreOriginals};
 ghost use Rattle.minimongo.specs.Index.{is_key_among, is_listed};
 ghost use Rattle.minimongo.specs.Taking.{IsFittingIf};
 

@@ -3,7 +3,8 @@ use Rattle.std.specs.Prelude.{ℕ, ℤ, List}
 use Rattle.value_model.specs.Val.{Val, Entries}
 use Rattle.selector_match.specs.Query.{ElementTest}
 
--- What is done at the end of a path: in this order `$set`, `$unset`, `$inc`, `$min`, `$max`, `$push`, `$addToSet`, `$pull` of equal elements and of those that pass, and `$pop` of the last and of the first.
+-- What is done at the end of a path: in this order `$set`, `$unset`, `$inc`, `$min`, `$max`, `$push`, `$addToSet`, `$pull` of equal elements and of
+-- those that pass, and `$pop` of the last and of the first.
 pub data Edit : Type 0 where
   put_value : Val → Edit
   take_out : Edit

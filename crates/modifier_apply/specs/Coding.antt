@@ -5,7 +5,8 @@ use Rattle.std.specs.Coded.{Coded, code_by, coded_list, coded_ℕ, coded×, code
 use Rattle.value_model.specs.Val.{Val, Entries}
 use Rattle.value_model.specs.Coding.{to, from, back, whole_to, whole_from, whole_back, entries_code}
 use Rattle.selector_match.specs.Coding.{list_to, list_from, list_back, test_to, test_from, test_back}
-use Rattle.modifier_apply.specs.Change.{Edit, put_value, take_out, add, keep_least, keep_greatest, append_all, add_missing, drop_equal, drop_passing, drop_last, drop_first, Change, Modification, replaced_by, changed_by}
+use Rattle.modifier_apply.specs.Change.{Edit, put_value, take_out, add, keep_least, keep_greatest, append_all, add_missing, drop_equal, drop_passing}
+use Rattle.modifier_apply.specs.Change.{drop_last, drop_first, Change, Modification, replaced_by, changed_by}
 use base.Stored.{Gv, gnil, gnum, gcons}
 use denote.Struct.Codes.{itself}
 

@@ -1,5 +1,7 @@
 -- What a modifier makes of a document (update operators, in MongoDB's documentation).
-use Rattle.std.specs.Prelude.{◌≡◌, ℕ, ℤ, pos, ◌+ℤ◌, neg_ℤ, Bool, true, false, not, codes, List, [], ◌∷◌, ◌++◌, length, drop, take, replicate, filter, map, Option, None, Some, is_some, unwrap_or, Result, Ok, Err, slice_get, slice_set, nat_le, nat_lt, int_lt, bytes_eq, if◌then◌else◌, ◌&&◌, ◌||◌, ◌-◌}
+use Rattle.std.specs.Prelude.{◌≡◌, ℕ, ℤ, pos, ◌+ℤ◌, neg_ℤ, Bool, true, false, not, codes, List, [], ◌∷◌, ◌++◌, length, drop, take, replicate, filter}
+use Rattle.std.specs.Prelude.{map, Option, None, Some, is_some, unwrap_or, Result, Ok, Err, slice_get, slice_set, nat_le, nat_lt, int_lt, bytes_eq}
+use Rattle.std.specs.Prelude.{if◌then◌else◌, ◌&&◌, ◌||◌, ◌-◌}
 use Rattle.std.specs.List.{list_any}
 use Rattle.std.specs.Ordering.{is_lt, is_gt}
 use Rattle.value_model.specs.Val.{Val, null, int, text, list, object, Entries, vals_of, list_of, fields_of, entries_of}
@@ -12,7 +14,8 @@ use Rattle.ejson_value.specs.Results.{made}
 use Rattle.selector_match.specs.Holds.{fits}
 use Rattle.modifier_apply.specs.declared.fault.ApplyFault.{ApplyFault}
 use Rattle.modifier_apply.specs.declared.fault.ApplyFault.TheVariants as fault
-use Rattle.modifier_apply.specs.Change.{Edit, put_value, take_out, add, keep_least, keep_greatest, append_all, add_missing, drop_equal, drop_passing, drop_last, drop_first, Change, Modification, replaced_by, changed_by}
+use Rattle.modifier_apply.specs.Change.{Edit, put_value, take_out, add, keep_least, keep_greatest, append_all, add_missing, drop_equal, drop_passing}
+use Rattle.modifier_apply.specs.Change.{drop_last, drop_first, Change, Modification, replaced_by, changed_by}
 
 -- what is made, or why the modifier is refused
 abbrev pub Outcome : Type 0 → Type 0

@@ -11,7 +11,8 @@ use Rattle.modifier_apply.specs.declared.fault.ModifierFault.{ModifierFault}
 use Rattle.modifier_apply.specs.declared.fault.ModifierFault.TheVariants as fault
 use Rattle.modifier_apply.specs.declared.names.OperatorName.{OperatorName}
 use Rattle.modifier_apply.specs.declared.names.OperatorName.TheVariants as name
-use Rattle.modifier_apply.specs.Change.{Edit, put_value, take_out, add, keep_least, keep_greatest, append_all, add_missing, drop_equal, drop_passing, drop_last, drop_first, Change, Modification, replaced_by, changed_by}
+use Rattle.modifier_apply.specs.Change.{Edit, put_value, take_out, add, keep_least, keep_greatest, append_all, add_missing, drop_equal, drop_passing}
+use Rattle.modifier_apply.specs.Change.{drop_last, drop_first, Change, Modification, replaced_by, changed_by}
 
 abbrev pub Reading : Type 0 → Type 0
 Reading X = Result X ModifierFault

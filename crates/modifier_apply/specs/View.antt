@@ -1,7 +1,8 @@
 -- What contracts see of a modifier's parts.
 use Rattle.std.specs.Prelude.{List, map}
 use Rattle.ejson_value.specs.View.{view}
-use Rattle.modifier_apply.specs.Change.{Edit, put_value, take_out, add, keep_least, keep_greatest, append_all, add_missing, drop_equal, drop_passing, drop_last, drop_first, Change, Modification, replaced_by, changed_by}
+use Rattle.modifier_apply.specs.Change.{Edit, put_value, take_out, add, keep_least, keep_greatest, append_all, add_missing, drop_equal, drop_passing}
+use Rattle.modifier_apply.specs.Change.{drop_last, drop_first, Change, Modification, replaced_by, changed_by}
 use Rattle.modifier_apply.specs.declared.modifier.Operator.{Operator}
 use Rattle.modifier_apply.specs.declared.modifier.Operator.TheVariants as operator
 use Rattle.modifier_apply.specs.declared.modifier.Update.{Update}

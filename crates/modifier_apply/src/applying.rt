@@ -1,5 +1,6 @@
 //! Making a modifier's changes.
-ghost use Rattle.std.specs.Prelude.{◌≡◌, ◌<◌, ◌≤◌, ◌++◌, ◌∷◌, [], ◌==◌, ◌&&◌, ◌||◌, ◌-◌, Ok, Some, None, codes, length, replicate, map, option_map, slice_get, slice_set, unwrap_or, IfOk};
+ghost use Rattle.std.specs.Prelude.{◌≡◌, ◌<◌, ◌≤◌, ◌++◌, ◌∷◌, [], ◌==◌, ◌&&◌, ◌||◌, ◌-◌, Ok, Some, None, codes, length, replicate, map, option_map};
+ghost use Rattle.std.specs.Prelude.{slice_get, slice_set, unwrap_or, IfOk};
 ghost use Rattle.std.specs.List.{list_any};
 ghost use Rattle.value_model.specs.Val.{object, list, text, null, fields_of, vals_of};
 ghost use Rattle.value_model.specs.Doc.{get, put};
@@ -7,7 +8,8 @@ ghost use Rattle.value_model.specs.Branches.{position_of};
 ghost use Rattle.ejson_value.specs.Results.{made};
 ghost use Rattle.ejson_value.specs.View.{view};
 ghost use Rattle.modifier_apply.specs.View.{edit_view, change_view, changes_view};
-ghost use Rattle.modifier_apply.specs.Modified.{Gives, same, blocked, with_field, put_behind, with_element, field_changed, element_changed, changed_at, document_changed, begins_with_id, changes_id, all_made, updated, replacement, modified};
+ghost use Rattle.modifier_apply.specs.Modified.{Gives, same, blocked, with_field, put_behind, with_element, field_changed, element_changed};
+ghost use Rattle.modifier_apply.specs.Modified.{changed_at, document_changed, begins_with_id, changes_id, all_made, updated, replacement, modified};
 
 use crate::conflicts::have_conflict;
 use crate::edits::{edited_if_there, makes};
@@ -162,7 +164,8 @@ fn element_changed(
     rest: &[Part],
     items: Items,
 ) -> Result<Items, ApplyFault>
-    ensures { Gives (λ vs. vs) result (element_changed (edit_view operator.now) (λ there. changed_at (edit_view operator.now) rest.now there) items (position_of part.now)) }
+    ensures { Gives (λ vs. vs) result
+        (element_changed (edit_view operator.now) (λ there. changed_at (edit_view operator.now) rest.now there) items (position_of part.now)) }
 {
     match part.place() {
         Some(place) if place <= MAX_PLACE => changed_at_place(alloc, operator, place, rest, items),

@@ -100,7 +100,8 @@ fn is_prefix(path: &[Part], other: &[Part]) -> bool
 
 // The paths in order, or none where two of them are equal.
 fn in_order<'a>(alloc: Global, updates: &'a [Update]) -> Result<Option<BTreeSet<ByParts<'a>>>, Mem>
-    ensures { IfOk result (λ o. MatchOption o (conflicts (paths_of (changes_view updates.now)) ≡ true) (λ paths. conflicts (paths_of (changes_view updates.now)) ≡ conflicts paths.keys)) }
+    ensures { IfOk result (λ o. MatchOption o (conflicts (paths_of (changes_view updates.now)) ≡ true)
+        (λ paths. conflicts (paths_of (changes_view updates.now)) ≡ conflicts paths.keys)) }
 {
     let mut paths = BTreeSet::new(alloc);
     for update in updates {

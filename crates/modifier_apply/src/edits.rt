@@ -1,5 +1,6 @@
 //! What operators make of a value.
-ghost use Rattle.std.specs.Prelude.{◌≡◌, ◌<◌, ◌≤◌, ◌-◌, ◌∷◌, [], ◌++◌, Ok, Some, not, length, drop, take, replicate, filter, map, option_map, if◌then◌else◌, IfOk};
+ghost use Rattle.std.specs.Prelude.{◌≡◌, ◌<◌, ◌≤◌, ◌-◌, ◌∷◌, [], ◌++◌, Ok, Some, not, length, drop, take, replicate, filter, map, option_map};
+ghost use Rattle.std.specs.Prelude.{if◌then◌else◌, IfOk};
 ghost use Rattle.std.specs.Ordering.{is_lt, is_gt};
 ghost use Rattle.value_model.specs.Val.{vals_of, list, null};
 ghost use Rattle.value_model.specs.Order.{compare};

@@ -8,7 +8,9 @@ ghost use Rattle.ejson_value.specs.View.{view};
 ghost use Rattle.ejson_value.specs.Results.{made};
 ghost use Rattle.modifier_apply.specs.Change.{changed_by};
 ghost use Rattle.modifier_apply.specs.View.{edit_view, change_view, changes_view};
-ghost use Rattle.modifier_apply.specs.Reading.{Gives, plain_path, list_reading, each_reading, values_reading, increment_reading, from_test, pull_reading, pop_reading, edit_reading, change_reading, paths_reading, operand_reading, operator_reading, operator_named, changes_reading, fields_reading, one_operator, reading};
+ghost use Rattle.modifier_apply.specs.Reading.{Gives, plain_path, list_reading, each_reading, values_reading, increment_reading, from_test};
+ghost use Rattle.modifier_apply.specs.Reading.{pull_reading, pop_reading, edit_reading, change_reading, paths_reading, operand_reading};
+ghost use Rattle.modifier_apply.specs.Reading.{operator_reading, operator_named, changes_reading, fields_reading, one_operator, reading};
 
 use crate::fault::ModifierFault;
 use crate::modifier::{Modifier, ModifierKind, Operator, Update};

@@ -43,7 +43,8 @@ pub between_more : (app : Programs) (history : List Entry) (place a b : ℕ) →
 between_more app history place a b =
     let some = take a (drop place history) in
     let rest = take b (drop (place + a) history) in
-    let there : held_at app history (place + a) ≡ held_from app (held_at app history place) some = ap (held app) (take_more place a history) ∙ held_from-append app nothing (take place history) some in
+    let there : held_at app history (place + a) ≡ held_from app (held_at app history place) some = ap (held app) (take_more place a history)
+    ∙ held_from-append app nothing (take place history) some in
     ap (changes_from app (held_at app history place))
     (take_more a b (drop place history) ∙ ap (λ (es : List Entry). some ++ take b es) (drop_further place a history))
     ∙ (changes_more app (held_at app history place) some rest ∙ ap (λ (h : Held). changes_between app history place a ++ changes_from app h rest) (sym there))

@@ -15,7 +15,8 @@ use Rattle.live_observer.specs.Observing.{IsDifference}
 use Rattle.store_machine.specs.State.{MachineState, programs}
 use Rattle.multiplexer.specs.Leading.{News, AreDifferences, IsLead}
 use Rattle.multiplexer.specs.Known.{AreKnown}
-use Rattle.multiplexer.specs.Telling.{CursorsAt, AnEntry, ASpan, ASource, ANews, nothing_told, documents_of, news_in, AreKnownFrom, IsSpan, IsTold, IsKept, AreTold}
+use Rattle.multiplexer.specs.Telling.{CursorsAt, AnEntry, ASpan, ASource, ANews, nothing_told, documents_of, news_in, AreKnownFrom, IsSpan, IsTold}
+use Rattle.multiplexer.specs.Telling.{IsKept, AreTold}
 
 taken_within : {A : Type 0} (count place : ℕ) (xs more : List A) → place + count ≤ length xs → take count (drop place (xs ++ more)) ≡ take count (drop place xs)
 taken_within count place xs more fits =
@@ -48,8 +49,10 @@ module _ (cursors : ACursors) (C D : ℕ → Rows) where
   known_alike : (from : ℕ) (ones : List AnEntry) → ((place : ℕ) → place ≤ from + length ones → C place ≡ D place) → AreKnownFrom cursors C from ones →
       AreKnownFrom cursors D from ones
   known_alike from [] same known = tt
-  known_alike from (one ∷ ones) same known =
-      (subst (λ (rows : Rows). AreKnown (published cursors rows) (news_in one) one.texts) (same from (omega arith)) known.0, known_alike (suc from) ones (λ place le. same place (omega (arith, le))) known.1)
+  known_alike from (one ∷ ones) same known = (
+    subst (λ (rows : Rows). AreKnown (published cursors rows) (news_in one) one.texts) (same from (omega arith)) known.0,
+    known_alike (suc from) ones (λ place le. same place (omega (arith, le))) known.1,
+  )
 
   differ_alike : (from : ℕ) (all : List News) → ((place : ℕ) → place ≤ from + length all → C place ≡ D place) → AreDifferences cursors C from all →
       AreDifferences cursors D from all
@@ -100,7 +103,8 @@ source_longer cursors_at app history more source told = record {
   within = omega (arith, told.within, length-append history more);
   each = differ_alike (cursors_at source.name source.params) (documents_of app history) (documents_of app (history ++ more)) source.first
       (map news_in source.ones)
-      (λ place le. ap (λ (h : Held). h.rows) (sym (held_at-longer app history more place (omega (arith, le, length-map source.ones news_in, told.within))))) told.each;
+      (λ place le. ap (λ (h : Held). h.rows)
+      (sym (held_at-longer app history more place (omega (arith, le, length-map source.ones news_in, told.within))))) told.each;
   known = known_alike (cursors_at source.name source.params) (documents_of app history) (documents_of app (history ++ more)) source.first source.ones
       (λ place le. ap (λ (h : Held). h.rows) (sym (held_at-longer app history more place (omega (arith, le, told.within))))) told.known;
   last = span_longer (cursors_at source.name source.params) app history more source.last told.last;

@@ -1,5 +1,6 @@
 -- Sources: the entries that are told, and those that are kept.
-use Rattle.std.specs.Prelude.{◌≡◌, ℕ, ◌+◌, ◌-◌, ◌≤◌, List, [], ◌∷◌, ◌++◌, length, drop, nat_le, nat_lt, ◌||◌, if◌then◌else◌, slice_get, replicate, None, Some, IfSome}
+use Rattle.std.specs.Prelude.{◌≡◌, ℕ, ◌+◌, ◌-◌, ◌≤◌, List, [], ◌∷◌, ◌++◌, length, drop, nat_le, nat_lt, ◌||◌, if◌then◌else◌, slice_get, replicate}
+use Rattle.std.specs.Prelude.{None, Some, IfSome}
 use Rattle.ejson_value.specs.declared.change.Publish.{Publish}
 use Rattle.ejson_value.specs.Changes.{news_of}
 use Rattle.publication.specs.Cursors.{ACursors}

@@ -56,7 +56,8 @@ batch_of m from count = record { from = from; count = count; changes = changes_b
 abbrev pub documents_of : Programs → List Entry → ℕ → Rows
 documents_of app history place = (held_at app history place).rows
 
--- the span is the history's, what is told of it leads from what is published at its beginning to what is published at its end, and a text that is known is what each client is told that sees what is published at its beginning
+-- the span is the history's, what is told of it leads from what is published at its beginning to what is published at its end, and a text that is
+-- known is what each client is told that sees what is published at its beginning
 pub record IsSpan (cursors : ACursors) (app : Programs) (history : List Entry) (span : ASpan) : Type 0 where
   pub order : span.from ≤ span.until
   pub within : span.until ≤ length history
@@ -72,7 +73,8 @@ abbrev pub AreKnownFrom : ACursors → (ℕ → Rows) → ℕ → List AnEntry �
 AreKnownFrom cursors C from [] = Unit {0}
 AreKnownFrom cursors C from (one ∷ ones) = AreKnown (published cursors (C from)) (news_in one) one.texts × AreKnownFrom cursors C (suc from) ones
 
--- the entries are the history's, what is told of each is the difference that it makes, and a text that is known of one is what each client is told that sees what is published before it
+-- the entries are the history's, what is told of each is the difference that it makes, and a text that is known of one is what each client is told
+-- that sees what is published before it
 pub record IsTold (cursors_at : CursorsAt) (app : Programs) (history : List Entry) (source : ASource) : Type 0 where
   pub within : source.first + length source.ones ≤ length history
   pub each : AreDifferences (cursors_at source.name source.params) (documents_of app history) source.first (map news_in source.ones)

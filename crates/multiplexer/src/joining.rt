@@ -107,7 +107,8 @@ impl Parts {
     fn insert_at(&mut self, place: usize, part: Part) -> Result<(), Mem>
         requires { IsGapFor (news_of_parts self.old) part.one.key place }
         ensures news { OnOk result (news_of_parts self.new ≡ set key_cmp (news_of_parts self.old) part.one.key (Some part.one.new)) }
-        ensures known { (before : AKey → Option Entries) → AreKnownParts before self.old → IsKnown before (part.one.key, part.one.new) part.text → OnOk result (AreKnownParts before self.new) }
+        ensures known { (before : AKey → Option Entries) → AreKnownParts before self.old → IsKnown before (part.one.key, part.one.new) part.text →
+            OnOk result (AreKnownParts before self.new) }
     {
         self.parts.insert(place, part)?;
         Ok(())
@@ -117,7 +118,8 @@ impl Parts {
     fn add_at(&mut self, place: usize, one: Publish, text: Option<&Text>) -> Result<(), Mem>
         requires { IsGapFor (news_of_parts self.old) one.key place }
         ensures news { OnOk result (news_of_parts self.new ≡ set key_cmp (news_of_parts self.old) one.key (Some one.new)) }
-        ensures known { (before : AKey → Option Entries) → AreKnownParts before self.old → IsKnown before (one.key, one.new) (option_copied text.entry) → OnOk result (AreKnownParts before self.new) }
+        ensures known { (before : AKey → Option Entries) → AreKnownParts before self.old →
+            IsKnown before (one.key, one.new) (option_copied text.entry) → OnOk result (AreKnownParts before self.new) }
     {
         let text = copied_text(text)?;
         self.insert_at(place, Part { one, text })
@@ -127,7 +129,8 @@ impl Parts {
     fn put(&mut self, one: &Publish, text: Option<&Text>) -> Result<(), Mem>
         ensures news { OnOk result (news_of_parts self.new ≡ set key_cmp (news_of_parts self.old) one.now.key (Some one.now.new)) }
         ensures known { (before : AKey → Option Entries) → AreKnownParts before self.old →
-            (at key_cmp (news_of_parts self.old) one.now.key ≡ None → IsKnown before (one.now.key, one.now.new) (option_copied text.entry)) → OnOk result (AreKnownParts before self.new) }
+            (at key_cmp (news_of_parts self.old) one.now.key ≡ None → IsKnown before (one.now.key, one.now.new) (option_copied text.entry)) →
+            OnOk result (AreKnownParts before self.new) }
     {
         let one = copied(one)?;
         match self.place(&one.key) {
@@ -142,7 +145,8 @@ impl Parts {
     // What is told of an entry is put.
     fn put_entry(&mut self, told: &Told) -> Result<(), Mem>
         ensures news { OnOk result (news_of_parts self.new ≡ put_news (news_of_parts self.old) (news_in (seen_entry told.now))) }
-        ensures known { (before : AKey → Option Entries) → AreKnownParts before self.old → IsNewKnown before (news_of_parts self.old) (news_in (seen_entry told.now)) told.now.texts → OnOk result (AreKnownParts before self.new) }
+        ensures known { (before : AKey → Option Entries) → AreKnownParts before self.old →
+            IsNewKnown before (news_of_parts self.old) (news_in (seen_entry told.now)) told.now.texts → OnOk result (AreKnownParts before self.new) }
     {
         let news = told.news.as_slice();
         for place in 0..news.len() {
@@ -153,7 +157,8 @@ impl Parts {
 
     fn put_all(&mut self, all: &[Told]) -> Result<(), Mem>
         ensures news { OnOk result (news_of_parts self.new ≡ put_all (news_of_parts self.old) (map news_in (map seen_entry all.now))) }
-        ensures known { (before : AKey → Option Entries) → AreKnownParts before self.old → AreNewKnown before (news_of_parts self.old) (map seen_entry all.now) → OnOk result (AreKnownParts before self.new) }
+        ensures known { (before : AKey → Option Entries) → AreKnownParts before self.old →
+            AreNewKnown before (news_of_parts self.old) (map seen_entry all.now) → OnOk result (AreKnownParts before self.new) }
     {
         for entry in 0..all.len() {
             self.put_entry(&all[entry])?;
@@ -186,7 +191,8 @@ impl Parts {
 fn put_together(alloc: Global, all: &[Told]) -> Result<Told, Mem>
     ensures leads { (cursors : ACursors) (C : ℕ → Rows) (from : ℕ) → AreDifferences cursors C from (map news_in (map seen_entry all.now)) →
         IfOk result (λ told. IsLead (published cursors (C from)) (published cursors (C (from + length all.now))) (news_in (seen_entry told))) }
-    ensures known { (cursors : ACursors) (C : ℕ → Rows) (from : ℕ) → AreDifferences cursors C from (map news_in (map seen_entry all.now)) → AreKnownFrom cursors C from (map seen_entry all.now) →
+    ensures known { (cursors : ACursors) (C : ℕ → Rows) (from : ℕ) → AreDifferences cursors C from (map news_in (map seen_entry all.now)) →
+        AreKnownFrom cursors C from (map seen_entry all.now) →
         IfOk result (λ told. AreKnown (published cursors (C from)) (news_in (seen_entry told)) told.texts) }
 {
     let mut parts = Parts::new(alloc);
@@ -211,7 +217,8 @@ fn untold(alloc: Global, parts: &[Arc<Publishes>]) -> Result<Vec<Told>, Mem>
 /// What several answers tell, one behind another: by key, the last document that they name for each key
 /// that one of them names, or none.
 pub fn lead(alloc: Global, parts: &[Arc<Publishes>]) -> Result<Publishes, Mem>
-    ensures { let all = map (λ part. news_of (arc_value part)) parts.now in AllByRecursion (IsSorted key_cmp) all → IfOk result (λ told. IsJoined all (news_of told)) }
+    ensures { let all = map (λ part. news_of (arc_value part)) parts.now in AllByRecursion (IsSorted key_cmp) all →
+        IfOk result (λ told. IsJoined all (news_of told)) }
 {
     let all = untold(alloc, parts)?;
     let mut told = Parts::new(alloc);
@@ -221,7 +228,8 @@ pub fn lead(alloc: Global, parts: &[Arc<Publishes>]) -> Result<Publishes, Mem>
 
 // The texts that are known, once more.
 fn copied_texts(alloc: Global, one: &Told) -> Result<KnownTexts, Mem>
-    ensures { (before : AKey → Option Entries) → AreKnown before (news_in (seen_entry one.now)) one.now.texts → IfOk result (AreKnown before (news_in (seen_entry one.now))) }
+    ensures { (before : AKey → Option Entries) → AreKnown before (news_in (seen_entry one.now)) one.now.texts →
+        IfOk result (AreKnown before (news_in (seen_entry one.now))) }
 {
     let mut texts = KnownTexts::places(alloc, one.news.len())?;
     for place in 0..one.news.len() {
@@ -233,7 +241,8 @@ fn copied_texts(alloc: Global, one: &Told) -> Result<KnownTexts, Mem>
 // What is told of one entry alone is not copied.
 fn alone(alloc: Global, one: &Told) -> Result<Told, Mem>
     ensures news { IfOk result (λ told. news_in (seen_entry told) ≡ news_in (seen_entry one.now)) }
-    ensures known { (before : AKey → Option Entries) → AreKnown before (news_in (seen_entry one.now)) one.now.texts → IfOk result (λ told. AreKnown before (news_in (seen_entry told)) told.texts) }
+    ensures known { (before : AKey → Option Entries) → AreKnown before (news_in (seen_entry one.now)) one.now.texts →
+        IfOk result (λ told. AreKnown before (news_in (seen_entry told)) told.texts) }
 {
     let texts = copied_texts(alloc, one)?;
     let news = Arc::try_clone(&one.news)?;
@@ -246,7 +255,8 @@ fn alone(alloc: Global, one: &Told) -> Result<Told, Mem>
 pub(crate) fn joined(alloc: Global, all: &[Told]) -> Result<Told, Mem>
     ensures leads { (cursors : ACursors) (C : ℕ → Rows) (from : ℕ) → AreDifferences cursors C from (map news_in (map seen_entry all.now)) →
         IfOk result (λ told. IsLead (published cursors (C from)) (published cursors (C (from + length all.now))) (news_in (seen_entry told))) }
-    ensures known { (cursors : ACursors) (C : ℕ → Rows) (from : ℕ) → AreDifferences cursors C from (map news_in (map seen_entry all.now)) → AreKnownFrom cursors C from (map seen_entry all.now) →
+    ensures known { (cursors : ACursors) (C : ℕ → Rows) (from : ℕ) → AreDifferences cursors C from (map news_in (map seen_entry all.now)) →
+        AreKnownFrom cursors C from (map seen_entry all.now) →
         IfOk result (λ told. AreKnown (published cursors (C from)) (news_in (seen_entry told)) told.texts) }
 {
     match all {

@@ -10,11 +10,14 @@ ghost use Rattle.multiplexer.specs.Telling.{CursorsAt, ANews, nothing_told, AreT
 /// Nothing is told at first, and what is told of a history is told of every longer one.
 pub fn longer_histories_keep_what_is_told()
     ensures first { (cursors_at : CursorsAt) (m : MachineState) → AreTold cursors_at m nothing_told }
-    ensures longer { (cursors_at : CursorsAt) (m : MachineState) (es : List Entry) (news : ANews) → AreTold cursors_at m news → AreTold cursors_at (record m { history = m.history ++ es }) news }
+    ensures longer { (cursors_at : CursorsAt) (m : MachineState) (es : List Entry) (news : ANews) → AreTold cursors_at m news →
+        AreTold cursors_at (record m { history = m.history ++ es }) news }
 {}
 
 /// What is lent of a history is lent of every longer one, and of a shorter one that has its entries.
 pub fn longer_histories_keep_what_is_lent()
-    ensures longer { (m : MachineState) (es : List Entry) (sub : ASub) (from until : ℕ) (lent : ALent) → IsLent m sub from until lent → IsLent (record m { history = m.history ++ es }) sub from until lent }
-    ensures shorter { (m : MachineState) (es : List Entry) (sub : ASub) (from until : ℕ) (lent : ALent) → until ≤ length m.history → IsLent (record m { history = m.history ++ es }) sub from until lent → IsLent m sub from until lent }
+    ensures longer { (m : MachineState) (es : List Entry) (sub : ASub) (from until : ℕ) (lent : ALent) → IsLent m sub from until lent →
+        IsLent (record m { history = m.history ++ es }) sub from until lent }
+    ensures shorter { (m : MachineState) (es : List Entry) (sub : ASub) (from until : ℕ) (lent : ALent) → until ≤ length m.history →
+        IsLent (record m { history = m.history ++ es }) sub from until lent → IsLent m sub from until lent }
 {}

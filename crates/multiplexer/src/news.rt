@@ -1,5 +1,6 @@
 //! What is made once for all sessions.
-ghost use Rattle.std.specs.Prelude.{◌≡◌, ℕ, ◌+◌, ◌*◌, ◌≤◌, ◌<◌, ◌==◌, ◌&&◌, List, length, take, slice_get, option_and_then, None, Some, is_some, IfOk, IfSome, OnErr};
+ghost use Rattle.std.specs.Prelude.{◌≡◌, ℕ, ◌+◌, ◌*◌, ◌≤◌, ◌<◌, ◌==◌, ◌&&◌, List, length, take, slice_get, option_and_then, None, Some, is_some};
+ghost use Rattle.std.specs.Prelude.{IfOk, IfSome, OnErr};
 ghost use Rattle.std.specs.Arc.{arc_value};
 ghost use Rattle.std.specs.List.{AllByRecursion};
 ghost use Rattle.ejson_value.specs.Changes.{news_of};
@@ -130,12 +131,15 @@ fn span_at<E: Entries, L: Ledger>(
     ensures bounded { AreBounded sources.old.items → AreBounded sources.new.items }
     ensures there { place < length sources.new.items }
     ensures place { IsPlaceOf sources.new.items sub.now.name sub.now.params place }
-    ensures told { (cursors_at : CursorsAt) (m : MachineState) → E.are_of entries.now m → AllByRecursion (IsTold cursors_at (programs m.app) m.history) sources.old.items → IsSource cursors_at sub.now →
+    ensures told { (cursors_at : CursorsAt) (m : MachineState) → E.are_of entries.now m →
+        AllByRecursion (IsTold cursors_at (programs m.app) m.history) sources.old.items → IsSource cursors_at sub.now →
         IfOk result (IsAsked sub.now.cursors m from until) }
-    ensures keeps { (cursors_at : CursorsAt) (m : MachineState) → E.are_of entries.now m → AllByRecursion (IsTold cursors_at (programs m.app) m.history) sources.old.items → IsSource cursors_at sub.now →
+    ensures keeps { (cursors_at : CursorsAt) (m : MachineState) → E.are_of entries.now m →
+        AllByRecursion (IsTold cursors_at (programs m.app) m.history) sources.old.items → IsSource cursors_at sub.now →
         AllByRecursion (IsTold cursors_at (programs m.app) m.history) sources.new.items }
     ensures grows { steps.old ≤ steps.new }
-    ensures ticks { (m : MachineState) → E.are_of entries.now m → steps.new ≤ steps.old + looks (length observer.now) m (known_by (slice_get sources.old.items place) from until) until }
+    ensures ticks { (m : MachineState) → E.are_of entries.now m →
+        steps.new ≤ steps.old + looks (length observer.now) m (known_by (slice_get sources.old.items place) from until) until }
 {
     sources[place].span(entries, observer, from, until, steps)
 }
@@ -143,10 +147,13 @@ fn span_at<E: Entries, L: Ledger>(
 // The span is kept by the source at this place, if there is one.
 fn learn_at(sources: &mut Vec<Source>, place: usize, span: Span)
     ensures bounded { AreBounded sources.old.items → AreBounded sources.new.items }
-    ensures told { (cursors_at : CursorsAt) (m : MachineState) (sub : ASub) (from until : ℕ) → AllByRecursion (IsTold cursors_at (programs m.app) m.history) sources.old.items → IsSource cursors_at sub →
-        IsPlaceOf sources.old.items sub.name sub.params place → IsAsked sub.cursors m from until span → AllByRecursion (IsTold cursors_at (programs m.app) m.history) sources.new.items }
+    ensures told { (cursors_at : CursorsAt) (m : MachineState) (sub : ASub) (from until : ℕ) →
+        AllByRecursion (IsTold cursors_at (programs m.app) m.history) sources.old.items → IsSource cursors_at sub →
+        IsPlaceOf sources.old.items sub.name sub.params place → IsAsked sub.cursors m from until span →
+        AllByRecursion (IsTold cursors_at (programs m.app) m.history) sources.new.items }
     ensures known { (name : List ℕ) (params : List AVal) → place < length sources.old.items → source_for name params (take place sources.old.items) ≡ None →
-        slice_get sources.old.items place ≡ source_for name params sources.old.items → known_in sources.new.items name params span.from span.until ≡ span.until }
+        slice_get sources.old.items place ≡ source_for name params sources.old.items →
+        known_in sources.new.items name params span.from span.until ≡ span.until }
 {
     if let Some(source) = sources.get_mut(place) {
         source.learn(span);
@@ -184,7 +191,8 @@ impl Multiplexer {
 
     // The batch that is kept, where it is of this span.
     fn kept_batch(&self, from: u64, count: u64) -> Result<Option<Arc<Batch>>, Mem>
-        ensures { IfOk result (λ kept. IfSome kept (λ batch. (self.now.batch ≡ Some (arc_value batch)) × ((arc_value batch).from ≡ from) × ((arc_value batch).count ≡ count))) }
+        ensures { IfOk result (λ kept.
+            IfSome kept (λ batch. (self.now.batch ≡ Some (arc_value batch)) × ((arc_value batch).from ≡ from) × ((arc_value batch).count ≡ count))) }
     {
         match &self.batch {
             Some(batch) if is_of(batch, from, count) => Ok(Some(Arc::try_clone(batch)?)),
@@ -215,7 +223,8 @@ impl Multiplexer {
     ) -> Result<Arc<Batch>, Mem>
         requires first { E.first entries.now ≤ from }
         requires next { from + count ≤ E.next entries.now }
-        ensures batch { (cursors_at : CursorsAt) (m : MachineState) → E.are_of entries.now m → AreTold cursors_at m self.old → IfOk result (λ batch. arc_value batch ≡ batch_of m from count) }
+        ensures batch { (cursors_at : CursorsAt) (m : MachineState) → E.are_of entries.now m → AreTold cursors_at m self.old →
+            IfOk result (λ batch. arc_value batch ≡ batch_of m from count) }
         ensures told { (cursors_at : CursorsAt) (m : MachineState) → E.are_of entries.now m → AreTold cursors_at m self.old → AreTold cursors_at m self.new }
         ensures sources { self.new.sources ≡ self.old.sources }
     {
@@ -247,7 +256,8 @@ impl Multiplexer {
     fn place(&mut self, name: &Text, params: &Items, from: u64) -> Result<usize, Mem>
         ensures within { IfOk result (λ place. place < length self.new.sources) }
         ensures place { IfOk result (IsPlaceOf self.new.sources name.now params.now) }
-        ensures known { IfOk result (λ place. (until : ℕ) → known_by (slice_get self.new.sources place) from until ≡ known_in self.old.sources name.now params.now from until) }
+        ensures known { IfOk result (λ place. (until : ℕ) →
+            known_by (slice_get self.new.sources place) from until ≡ known_in self.old.sources name.now params.now from until) }
         ensures keeps { (cursors_at : CursorsAt) (m : MachineState) → from ≤ length m.history → AreTold cursors_at m self.old → AreTold cursors_at m self.new }
     {
         match place_of(self.sources.as_slice(), name, params) {
@@ -270,11 +280,14 @@ impl Multiplexer {
         requires order { from ≤ until }
         requires first { E.first entries.now ≤ from }
         requires next { until ≤ E.next entries.now }
-        ensures told { (cursors_at : CursorsAt) (m : MachineState) → E.are_of entries.now m → AreTold cursors_at m self.old → IsSource cursors_at sub.now → IfOk result (IsLent m sub.now from until) }
-        ensures keeps { (cursors_at : CursorsAt) (m : MachineState) → E.are_of entries.now m → AreTold cursors_at m self.old → IsSource cursors_at sub.now → AreTold cursors_at m self.new }
+        ensures told { (cursors_at : CursorsAt) (m : MachineState) → E.are_of entries.now m → AreTold cursors_at m self.old →
+            IsSource cursors_at sub.now → IfOk result (IsLent m sub.now from until) }
+        ensures keeps { (cursors_at : CursorsAt) (m : MachineState) → E.are_of entries.now m → AreTold cursors_at m self.old →
+            IsSource cursors_at sub.now → AreTold cursors_at m self.new }
         ensures source { IfOk result (HasItsSource self.new.sources) }
         ensures grows { steps.old ≤ steps.new }
-        ensures ticks { (m : MachineState) → E.are_of entries.now m → steps.new ≤ steps.old + looks (length observer.now) m (known_in self.old.sources sub.now.name sub.now.params from until) until }
+        ensures ticks { (m : MachineState) → E.are_of entries.now m →
+            steps.new ≤ steps.old + looks (length observer.now) m (known_in self.old.sources sub.now.name sub.now.params from until) until }
     {
         entries.begins();
         let name = sub.name.copy()?;
@@ -312,14 +325,19 @@ impl Multiplexer {
         ensures answers { IfOk result (λ answer. is_some answer ≡ is_some sub.now.observer) }
         ensures told { (cursors_at : CursorsAt) (m : MachineState) → E.are_of entries.now m → AreTold cursors_at m self.old → IsSource cursors_at sub.now →
             IfOk result (λ answer. IfSome answer (λ lent.
-            IsLead (published sub.now.cursors (held_after m from).rows) (published sub.now.cursors (held_after m (from + count)).rows) (news_of (arc_value lent.span.told)))) }
-        ensures lent { (cursors_at : CursorsAt) (m : MachineState) → E.are_of entries.now m → AreTold cursors_at m self.old → IsSource cursors_at sub.now → IfOk result (λ answer. IfSome answer (IsLent m sub.now from (from + count))) }
-        ensures keeps { (cursors_at : CursorsAt) (m : MachineState) → E.are_of entries.now m → AreTold cursors_at m self.old → IsSource cursors_at sub.now → AreTold cursors_at m self.new }
+            IsLead (published sub.now.cursors (held_after m from).rows) (published sub.now.cursors (held_after m (from + count)).rows)
+            (news_of (arc_value lent.span.told)))) }
+        ensures lent { (cursors_at : CursorsAt) (m : MachineState) → E.are_of entries.now m → AreTold cursors_at m self.old →
+            IsSource cursors_at sub.now → IfOk result (λ answer. IfSome answer (IsLent m sub.now from (from + count))) }
+        ensures keeps { (cursors_at : CursorsAt) (m : MachineState) → E.are_of entries.now m → AreTold cursors_at m self.old →
+            IsSource cursors_at sub.now → AreTold cursors_at m self.new }
         ensures source { IfOk result (λ answer. IfSome answer (HasItsSource self.new.sources)) }
         ensures grows { steps.old ≤ steps.new }
         ensures ticks { (cursors_at : CursorsAt) (m : MachineState) → E.are_of entries.now m → IsSource cursors_at sub.now →
-            steps.new ≤ steps.old + looks (length sub.now.cursors) m (known_in self.old.sources sub.now.name sub.now.params from (from + count)) (from + count) }
-        ensures known { (m : MachineState) → E.are_of entries.now m → from + count ≤ known_in self.old.sources sub.now.name sub.now.params from (from + count) → steps.new ≡ steps.old }
+            steps.new ≤ steps.old
+            + looks (length sub.now.cursors) m (known_in self.old.sources sub.now.name sub.now.params from (from + count)) (from + count) }
+        ensures known { (m : MachineState) → E.are_of entries.now m →
+            from + count ≤ known_in self.old.sources sub.now.name sub.now.params from (from + count) → steps.new ≡ steps.old }
     {
         entries.begins();
         match &sub.observer {
@@ -337,7 +355,8 @@ impl Multiplexer {
     /// of the span is known then.
     pub fn learn(&mut self, lent: Lent)
         ensures known { HasItsSource self.old.sources lent → IsKnownWhole self.new.sources lent }
-        ensures told { (cursors_at : CursorsAt) (m : MachineState) (sub : ASub) (from until : ℕ) → AreTold cursors_at m self.old → IsSource cursors_at sub → IsLent m sub from until lent → AreTold cursors_at m self.new }
+        ensures told { (cursors_at : CursorsAt) (m : MachineState) (sub : ASub) (from until : ℕ) → AreTold cursors_at m self.old →
+            IsSource cursors_at sub → IsLent m sub from until lent → AreTold cursors_at m self.new }
     {
         let Lent { name, params, span } = lent;
         if let Some(place) = place_of(self.sources.as_slice(), &name, &params) {

@@ -59,7 +59,8 @@ fn teach_one(all: &mut Vec<Told>, start: usize, end: usize, key: &Key, text: &Te
     requires within { end ≤ length all.old.items }
     ensures many { length all.new.items ≡ length all.old.items }
     ensures same { map news_told all.new.items ≡ map news_told all.old.items }
-    ensures taught { (cursors : ACursors) (C : ℕ → Rows) (first : ℕ) (doc : Option Entries) → AreTaught cursors C first (map seen_entry all.old.items) → doc ≡ published cursors (C (first + end)) key.now →
+    ensures taught { (cursors : ACursors) (C : ℕ → Rows) (first : ℕ) (doc : Option Entries) →
+        AreTaught cursors C first (map seen_entry all.old.items) → doc ≡ published cursors (C (first + end)) key.now →
         IsKnown (published cursors (C (first + start))) (key.now, doc) (Some text.now) → AreTaught cursors C first (map seen_entry all.new.items) }
 {
     let Some(origin) = sole(&all[start..end], key) else {
@@ -84,7 +85,8 @@ pub(crate) fn teach(
     ensures many { length all.new.items ≡ length all.old.items }
     ensures same { map news_told all.new.items ≡ map news_told all.old.items }
     ensures taught { (cursors : ACursors) (C : ℕ → Rows) (first : ℕ) → AreTaught cursors C first (map seen_entry all.old.items) →
-        IsLead (published cursors (C (first + start))) (published cursors (C (first + end))) (news_of told.now) → AreKnown (published cursors (C (first + start))) (news_of told.now) texts.now → AreTaught cursors C first (map seen_entry all.new.items) }
+        IsLead (published cursors (C (first + start))) (published cursors (C (first + end))) (news_of told.now) →
+        AreKnown (published cursors (C (first + start))) (news_of told.now) texts.now → AreTaught cursors C first (map seen_entry all.new.items) }
 {
     for place in places {
         if let Some(one) = told.get(*place) {

@@ -7,7 +7,8 @@ ghost use Rattle.store_machine.specs.State.{MachineState, programs};
 ghost use Rattle.multiplexer.specs.Bounds.{max_entries, max_bytes, bytes_in, IsSmall};
 ghost use Rattle.multiplexer.specs.Inside.{seen_entry, seen_span, news_told};
 ghost use Rattle.multiplexer.specs.Looks.{looks, is_last, is_for, told_until, known_until};
-ghost use Rattle.multiplexer.specs.Sources.{max_span, source_of, reached, without_first, trimmed, with_one, next_of, IsToldBy, IsAlike, IsOf, TellsBy, with_last, without_last, HasAll};
+ghost use Rattle.multiplexer.specs.Sources.{max_span, source_of, reached, without_first, trimmed, with_one, next_of, IsToldBy, IsAlike, IsOf};
+ghost use Rattle.multiplexer.specs.Sources.{TellsBy, with_last, without_last, HasAll};
 ghost use Rattle.multiplexer.specs.Telling.{IsSpan};
 ghost use Rattle.multiplexer.specs.Spans.{IsAsked};
 
@@ -99,7 +100,8 @@ fn at_once<E: Entries, L: Ledger>(
     requires order { from ≤ until }
     requires first { E.first entries.now ≤ from }
     requires next { until ≤ E.next entries.now }
-    ensures told { (m : MachineState) → E.are_of entries.now m → HaveNoLimit (cursors_of observer.now) → IfOk result (λ told. TellsBy (cursors_of observer.now) m from until (seen_entry told)) }
+    ensures told { (m : MachineState) → E.are_of entries.now m → HaveNoLimit (cursors_of observer.now) →
+        IfOk result (λ told. TellsBy (cursors_of observer.now) m from until (seen_entry told)) }
     ensures grows { steps.old ≤ steps.new }
     ensures ticks { (m : MachineState) → E.are_of entries.now m → steps.new ≤ steps.old + looks (length observer.now) m from until }
 {
@@ -238,9 +240,11 @@ impl Source {
         ensures same { IsAlike self.old self.new }
         ensures next { OnOk result (next_of self.new ≡ next_of self.old + 1) }
         ensures first { (from : ℕ) → self.old.first ≤ from → next_of self.old < from + max_entries → self.new.first ≤ from }
-        ensures told { (m : MachineState) → E.are_of entries.now m → HaveNoLimit (cursors_of observer.now) → IsToldBy (cursors_of observer.now) m self.old → IsToldBy (cursors_of observer.now) m self.new }
+        ensures told { (m : MachineState) → E.are_of entries.now m → HaveNoLimit (cursors_of observer.now) →
+            IsToldBy (cursors_of observer.now) m self.old → IsToldBy (cursors_of observer.now) m self.new }
         ensures grows { steps.old ≤ steps.new }
-        ensures ticks { (m : MachineState) → E.are_of entries.now m → steps.new ≤ steps.old + looks (length observer.now) m (next_of self.old) (next_of self.old + 1) }
+        ensures ticks { (m : MachineState) → E.are_of entries.now m →
+            steps.new ≤ steps.old + looks (length observer.now) m (next_of self.old) (next_of self.old + 1) }
     {
         entries.begins();
         let changes = entries.changes_at(self.next());
@@ -264,7 +268,8 @@ impl Source {
         ensures same { IsAlike self.old self.new }
         ensures filled { OnOk result (until ≤ next_of self.new) }
         ensures kept { self.new.first ≤ from }
-        ensures told { (m : MachineState) → E.are_of entries.now m → HaveNoLimit (cursors_of observer.now) → IsToldBy (cursors_of observer.now) m self.old → IsToldBy (cursors_of observer.now) m self.new }
+        ensures told { (m : MachineState) → E.are_of entries.now m → HaveNoLimit (cursors_of observer.now) →
+            IsToldBy (cursors_of observer.now) m self.old → IsToldBy (cursors_of observer.now) m self.new }
         ensures grows { steps.old ≤ steps.new }
         ensures ticks { (m : MachineState) → E.are_of entries.now m → steps.new ≤ steps.old + looks (length observer.now) m (next_of self.old) until }
     {
@@ -279,7 +284,8 @@ impl Source {
     fn told(&self, from: u64, count: u64) -> Result<Told, Mem>
         requires first { self.now.first ≤ from }
         requires next { from + count ≤ next_of self.now }
-        ensures { (cursors : ACursors) (m : MachineState) → IsToldBy cursors m self.now → IfOk result (λ told. TellsBy cursors m from (from + count) (seen_entry told)) }
+        ensures { (cursors : ACursors) (m : MachineState) → IsToldBy cursors m self.now →
+            IfOk result (λ told. TellsBy cursors m from (from + count) (seen_entry told)) }
     {
         let start = (from - self.first) as usize;
         let some = &self.ones[start..start + count as usize];
@@ -301,8 +307,10 @@ impl Source {
         requires first { E.first entries.now ≤ from }
         requires next { until ≤ E.next entries.now }
         ensures same { IsAlike self.old self.new }
-        ensures keeps { (m : MachineState) → E.are_of entries.now m → HaveNoLimit (cursors_of observer.now) → IsToldBy (cursors_of observer.now) m self.old → IsToldBy (cursors_of observer.now) m self.new }
-        ensures told { (m : MachineState) → E.are_of entries.now m → HaveNoLimit (cursors_of observer.now) → IsToldBy (cursors_of observer.now) m self.old → IfOk result (λ told. TellsBy (cursors_of observer.now) m from until (seen_entry told)) }
+        ensures keeps { (m : MachineState) → E.are_of entries.now m → HaveNoLimit (cursors_of observer.now) →
+            IsToldBy (cursors_of observer.now) m self.old → IsToldBy (cursors_of observer.now) m self.new }
+        ensures told { (m : MachineState) → E.are_of entries.now m → HaveNoLimit (cursors_of observer.now) →
+            IsToldBy (cursors_of observer.now) m self.old → IfOk result (λ told. TellsBy (cursors_of observer.now) m from until (seen_entry told)) }
         ensures grows { steps.old ≤ steps.new }
         ensures ticks { (m : MachineState) → E.are_of entries.now m → steps.new ≤ steps.old + looks (length observer.now) m (next_of self.old) until }
     {
@@ -324,10 +332,13 @@ impl Source {
         requires first { E.first entries.now ≤ from }
         requires next { until ≤ E.next entries.now }
         ensures same { IsAlike self.old self.new }
-        ensures keeps { (m : MachineState) → E.are_of entries.now m → HaveNoLimit (cursors_of observer.now) → IsToldBy (cursors_of observer.now) m self.old → IsToldBy (cursors_of observer.now) m self.new }
-        ensures told { (m : MachineState) → E.are_of entries.now m → HaveNoLimit (cursors_of observer.now) → IsToldBy (cursors_of observer.now) m self.old → IfOk result (λ told. TellsBy (cursors_of observer.now) m from until (seen_entry told)) }
+        ensures keeps { (m : MachineState) → E.are_of entries.now m → HaveNoLimit (cursors_of observer.now) →
+            IsToldBy (cursors_of observer.now) m self.old → IsToldBy (cursors_of observer.now) m self.new }
+        ensures told { (m : MachineState) → E.are_of entries.now m → HaveNoLimit (cursors_of observer.now) →
+            IsToldBy (cursors_of observer.now) m self.old → IfOk result (λ told. TellsBy (cursors_of observer.now) m from until (seen_entry told)) }
         ensures grows { steps.old ≤ steps.new }
-        ensures ticks { (m : MachineState) → E.are_of entries.now m → steps.new ≤ steps.old + looks (length observer.now) m (told_until self.old from until) until }
+        ensures ticks { (m : MachineState) → E.are_of entries.now m →
+            steps.new ≤ steps.old + looks (length observer.now) m (told_until self.old from until) until }
     {
         if self.first <= from && until - from <= MAX_SPAN {
             self.short(entries, observer, from, until, steps)
@@ -370,10 +381,13 @@ impl Source {
         requires first { E.first entries.now ≤ from }
         requires next { until ≤ E.next entries.now }
         ensures same { IsAlike self.old self.new }
-        ensures keeps { (m : MachineState) → E.are_of entries.now m → HaveNoLimit (cursors_of observer.now) → IsToldBy (cursors_of observer.now) m self.old → IsToldBy (cursors_of observer.now) m self.new }
-        ensures told { (m : MachineState) → E.are_of entries.now m → HaveNoLimit (cursors_of observer.now) → IsToldBy (cursors_of observer.now) m self.old → IfOk result (IsAsked (cursors_of observer.now) m from until) }
+        ensures keeps { (m : MachineState) → E.are_of entries.now m → HaveNoLimit (cursors_of observer.now) →
+            IsToldBy (cursors_of observer.now) m self.old → IsToldBy (cursors_of observer.now) m self.new }
+        ensures told { (m : MachineState) → E.are_of entries.now m → HaveNoLimit (cursors_of observer.now) →
+            IsToldBy (cursors_of observer.now) m self.old → IfOk result (IsAsked (cursors_of observer.now) m from until) }
         ensures grows { steps.old ≤ steps.new }
-        ensures ticks { (m : MachineState) → E.are_of entries.now m → steps.new ≤ steps.old + looks (length observer.now) m (told_until self.old from until) until }
+        ensures ticks { (m : MachineState) → E.are_of entries.now m →
+            steps.new ≤ steps.old + looks (length observer.now) m (told_until self.old from until) until }
     {
         entries.begins();
         let told = self.made(entries, observer, from, until, steps)?;
@@ -411,10 +425,13 @@ impl Source {
         requires first { E.first entries.now ≤ from }
         requires next { until ≤ E.next entries.now }
         ensures same { IsAlike self.old self.new }
-        ensures keeps { (m : MachineState) → E.are_of entries.now m → HaveNoLimit (cursors_of observer.now) → IsToldBy (cursors_of observer.now) m self.old → IsToldBy (cursors_of observer.now) m self.new }
-        ensures told { (m : MachineState) → E.are_of entries.now m → HaveNoLimit (cursors_of observer.now) → IsToldBy (cursors_of observer.now) m self.old → IfOk result (IsAsked (cursors_of observer.now) m from until) }
+        ensures keeps { (m : MachineState) → E.are_of entries.now m → HaveNoLimit (cursors_of observer.now) →
+            IsToldBy (cursors_of observer.now) m self.old → IsToldBy (cursors_of observer.now) m self.new }
+        ensures told { (m : MachineState) → E.are_of entries.now m → HaveNoLimit (cursors_of observer.now) →
+            IsToldBy (cursors_of observer.now) m self.old → IfOk result (IsAsked (cursors_of observer.now) m from until) }
         ensures grows { steps.old ≤ steps.new }
-        ensures ticks { (m : MachineState) → E.are_of entries.now m → steps.new ≤ steps.old + looks (length observer.now) m (known_until self.old from until) until }
+        ensures ticks { (m : MachineState) → E.are_of entries.now m →
+            steps.new ≤ steps.old + looks (length observer.now) m (known_until self.old from until) until }
     {
         match self.known(from, until) {
             Some(span) => Ok(span),
@@ -437,10 +454,13 @@ impl Source {
         requires next { until ≤ E.next entries.now }
         ensures same { IsAlike self.old self.new }
         ensures small { IsSmall self.new }
-        ensures keeps { (m : MachineState) → E.are_of entries.now m → HaveNoLimit (cursors_of observer.now) → IsToldBy (cursors_of observer.now) m self.old → IsToldBy (cursors_of observer.now) m self.new }
-        ensures told { (m : MachineState) → E.are_of entries.now m → HaveNoLimit (cursors_of observer.now) → IsToldBy (cursors_of observer.now) m self.old → IfOk result (IsAsked (cursors_of observer.now) m from until) }
+        ensures keeps { (m : MachineState) → E.are_of entries.now m → HaveNoLimit (cursors_of observer.now) →
+            IsToldBy (cursors_of observer.now) m self.old → IsToldBy (cursors_of observer.now) m self.new }
+        ensures told { (m : MachineState) → E.are_of entries.now m → HaveNoLimit (cursors_of observer.now) →
+            IsToldBy (cursors_of observer.now) m self.old → IfOk result (IsAsked (cursors_of observer.now) m from until) }
         ensures grows { steps.old ≤ steps.new }
-        ensures ticks { (m : MachineState) → E.are_of entries.now m → steps.new ≤ steps.old + looks (length observer.now) m (known_until self.old from until) until }
+        ensures ticks { (m : MachineState) → E.are_of entries.now m →
+            steps.new ≤ steps.old + looks (length observer.now) m (known_until self.old from until) until }
     {
         let asked = self.asked(entries, observer, from, until, steps);
         self.shrink();
@@ -451,7 +471,8 @@ impl Source {
     fn teach(&mut self, span: &Span)
         ensures same { IsAlike self.old self.new }
         ensures small { IsSmall self.old → IsSmall self.new }
-        ensures told { (cursors : ACursors) (m : MachineState) → IsToldBy cursors m self.old → IsSpan cursors (programs m.app) m.history (seen_span span.now) → IsToldBy cursors m self.new }
+        ensures told { (cursors : ACursors) (m : MachineState) → IsToldBy cursors m self.old →
+            IsSpan cursors (programs m.app) m.history (seen_span span.now) → IsToldBy cursors m self.new }
     {
         if self.has(span.from, span.until) {
             let start = (span.from - self.first) as usize;
@@ -479,7 +500,8 @@ impl Source {
         ensures same { IsAlike self.old self.new }
         ensures kept { self.new.last ≡ Some (seen_span span) }
         ensures small { IsSmall self.old → IsSmall self.new }
-        ensures told { (cursors : ACursors) (m : MachineState) → IsToldBy cursors m self.old → IsSpan cursors (programs m.app) m.history (seen_span span) → IsToldBy cursors m self.new }
+        ensures told { (cursors : ACursors) (m : MachineState) → IsToldBy cursors m self.old →
+            IsSpan cursors (programs m.app) m.history (seen_span span) → IsToldBy cursors m self.new }
     {
         let mut span = span;
         self.teach(&span);

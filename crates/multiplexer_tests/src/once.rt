@@ -64,7 +64,8 @@ fn ask_twice<L: Ledger>(
     requires within { from + 1 ≤ length machine.now.history }
     requires told { AreTold (cursors_at_of app.now) machine.now multiplexer.old }
     requires source { IsSource (cursors_at_of app.now) sub.now }
-    ensures { steps.new ≤ steps.old + looks (length sub.now.cursors) machine.now (known_in multiplexer.old.sources sub.now.name sub.now.params from (from + 1)) (from + 1) }
+    ensures { steps.new ≤ steps.old
+        + looks (length sub.now.cursors) machine.now (known_in multiplexer.old.sources sub.now.name sub.now.params from (from + 1)) (from + 1) }
 {
     let _app = app;
     match multiplexer.span(machine, sub, from, 1, steps)? {

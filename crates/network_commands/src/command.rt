@@ -1,6 +1,7 @@
 //! The words that name commands of a network.
 ghost use Rattle.std.specs.Prelude.{◌≡◌, IfSome};
-ghost use Rattle.network_commands.specs.Words.{port_in, connections_in, tries_in, serve_of, console_of, network_command_in, retry_of, retry_command_in, timed_of, console_beat_of, serve_beat_of, timed_command_in, HasTimes};
+ghost use Rattle.network_commands.specs.Words.{port_in, connections_in, tries_in, serve_of, console_of, network_command_in, retry_of};
+ghost use Rattle.network_commands.specs.Words.{retry_command_in, timed_of, console_beat_of, serve_beat_of, timed_command_in, HasTimes};
 
 use command_words::number_in;
 use commands::time_in;

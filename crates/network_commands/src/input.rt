@@ -125,7 +125,8 @@ fn read_script(alloc: Global, lines: &[u8]) -> Result<Result<Script, u32>, Mem>
 #[tactic(auto, using(crate::proofs::Lines::no_app_first, crate::proofs::Lines::bad_behind_app))]
 pub(crate) fn read_scripted(alloc: Global, input: &[u8]) -> Result<Result<(App, Script), u32>, Mem>
     requires { length input.now ≤ input_limit }
-    ensures good { IfOk result (λ read. IfOk read (λ both. (app_in input.now ≡ Some both.0) × (both.1 ≡ script_in input.now) × (console_bad input.now ≡ None))) }
+    ensures good { IfOk result
+        (λ read. IfOk read (λ both. (app_in input.now ≡ Some both.0) × (both.1 ≡ script_in input.now) × (console_bad input.now ≡ None))) }
     ensures bad { IfOk result (λ read. IfErr read (λ number. console_bad input.now ≡ Some number)) }
 {
     let Some(app) = app_in(alloc, input)? else {

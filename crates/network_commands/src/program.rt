@@ -143,7 +143,8 @@ where
 }
 
 /// Does what the words say, with an input that it reads whole. `serve PORT CONNECTIONS` serves the application of line 1 at this port of the
-/// machine until so many connections have ended. `console PORT` connects to a server there, and runs the script of the further lines. `console-retry PORT TRIES`
+/// machine until so many connections have ended. `console PORT` connects to a server there, and runs the script of the further lines.
+/// `console-retry PORT TRIES`
 /// does the same, and goes on over a new link where one is lost, so many times at most. All other words are run as `run_on` runs them.
 ///
 /// `cause` says when each status comes, and what was read and written then. Where a line isn't of the grammar, it is named, nothing else is

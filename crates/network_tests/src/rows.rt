@@ -4,8 +4,10 @@
 pub(crate) const APPLICATION: &str =
     r#"{"collections":["tasks"],"methods":{"make":{"steps":[["insert","tasks",{"_id":"t2","n":{"$param":0}}]],"stub":true}},"publications":{"all":[{"collection":"tasks"}]}}"#;
 
-/// Each row: the words, ` < `, the input, ` < `, the network, ` => `, and the exit status, what was written and the reason. In a row `|` is the end of a line and
-/// `@` the application. The network gives one link for each `#`, at which the texts wait that stand in `|` behind it; `.` stands for the end of a link, `x` for a
+/// Each row: the words, ` < `, the input, ` < `, the network, ` => `, and the exit status, what was written and the reason.
+/// In a row `|` is the end of a line and
+/// `@` the application. The network gives one link for each `#`, at which the texts wait that stand in `|` behind it; `.` stands for the end of a
+/// link, `x` for a
 /// poll that fails; a network without `#` gives none, and one that begins with `-` doesn't listen.
 pub(crate) const RUNS: &str = r#"serve 4000 1 < @ < #{"msg":"connect","version":"1"}|. => 0; ; 
 serve 4000 2 < @|| | < #{"msg":"connect","version":"1"}|.#. => 0; ; 

@@ -18,7 +18,8 @@ fn is_id(id: &Text) -> bool
 }
 
 fn insert_with(collection: &Text, id: &Text, fields: &Doc, name: &Text) -> Result<Option<Op>, Mem>
-    ensures { IfOk result (λ o. o ≡ insert_of collection.now (if is_id id.now then Some (record { id = id.now; is_drawn = false; doc = remove fields.now name.now }) else None)) }
+    ensures { IfOk result (λ o. o ≡ insert_of collection.now
+        (if is_id id.now then Some (record { id = id.now; is_drawn = false; doc = remove fields.now name.now }) else None)) }
 {
     if !is_id(id) {
         return Ok(None);

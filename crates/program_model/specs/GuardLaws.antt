@@ -1,5 +1,6 @@
 -- What guarded steps leave: a write that rules allow is made as the store makes it, any other changes nothing, and a denial names the first rule that denies.
-use Rattle.std.specs.Prelude.{◌≡◌, ℕ, zero, suc, ◌+◌, ◌<◌, List, [], ◌∷◌, Bool, true, false, cond, Option, None, Some, Ok, Err, IfSome, slice_get, refl, if◌then◌else◌, ◌&&◌}
+use Rattle.std.specs.Prelude.{◌≡◌, ℕ, zero, suc, ◌+◌, ◌<◌, List, [], ◌∷◌, Bool, true, false, cond, Option, None, Some, Ok, Err, IfSome, slice_get}
+use Rattle.std.specs.Prelude.{refl, if◌then◌else◌, ◌&&◌}
 use Rattle.std.specs.List.{list_any}
 use Rattle.std.proofs.Common.{ap, subst, arith}
 use Rattle.map_model.specs.Maps.{at}
@@ -14,7 +15,8 @@ use Rattle.program_steps.specs.declared.step.ProgramStep.TheVariants as step
 use Rattle.program_steps.specs.Guards.{Rule}
 use Rattle.program_model.specs.declared.verdict.Verdict.{Verdict}
 use Rattle.program_model.specs.declared.verdict.Verdict.TheVariants as verdict
-use Rattle.program_model.specs.Guarded.{Write, action_of, judged_document, are_read, denies, allows, first_denial, unless_denied, on_document, judged, or_none, id_of}
+use Rattle.program_model.specs.Guarded.{Write, action_of, judged_document, are_read, denies, allows, first_denial, unless_denied, on_document, judged}
+use Rattle.program_model.specs.Guarded.{or_none, id_of}
 use Rattle.program_model.specs.Run.{Run, fails}
 use Rattle.program_model.specs.Steps.{Setting, by_answer, if_made, Writing, writing_in, operation_of, by_verdict, by_rules, done_step}
 use Rattle.program_model.specs.Faults.{denied_by}
@@ -90,7 +92,8 @@ first_from : (write : Write) (doc : Entries) (n : ℕ) (rules : List Rule) (plac
 first_from write doc n [] place is = absurd (cc is)
 first_from write doc n (rule ∷ rules) place is =
     elim (denies write doc rule) as
-    (λ (b : Bool). denies write doc rule ≡ b → cond b (Some n) (first_denial write doc (suc n) rules) ≡ Some place → (k : ℕ) × (place ≡ n + k) × IsFirstDenial write doc (rule ∷ rules) k) [
+    (λ (b : Bool). denies write doc rule ≡ b → cond b (Some n) (first_denial write doc (suc n) rules) ≡ Some place →
+    (k : ℕ) × (place ≡ n + k) × IsFirstDenial write doc (rule ∷ rules) k) [
       | true ↦ λ d e. let same : n ≡ place = cc e in (0, omega (arith, same), record { here = (rule, refl, d); before = λ m lt. absurd (omega (arith, lt)) })
       | false ↦ λ d e.
           let rest = first_from write doc (suc n) rules place e in
@@ -124,4 +127,5 @@ pub denied_first : (rules : Rules) (write : Write) (present : Option Entries) (p
     (doc : Entries) × (judged_document write present ≡ Some doc) × IsFirstDenial write doc rules.deny place
 denied_first rules write present place is =
     denied_on rules write (judged_document write present) place
-    (denied_if (are_read (action_of write) rules.allow && are_read (action_of write) rules.deny) (on_document rules write (judged_document write present)) place is)
+    (denied_if (are_read (action_of write) rules.allow && are_read (action_of write) rules.deny)
+    (on_document rules write (judged_document write present)) place is)

@@ -1,4 +1,5 @@
--- What the rules of a collection answer to a write of a client (Meteor's documentation, "allow" and "deny": a write goes through where no deny rule holds and some allow rule does).
+-- What the rules of a collection answer to a write of a client (Meteor's documentation, "allow" and "deny": a write goes through where no deny rule
+-- holds and some allow rule does).
 use Rattle.std.specs.Prelude.{ℕ, suc, List, [], ◌∷◌, ◌++◌, take, Bool, true, false, ◌&&◌, ◌||◌, not, Option, None, Some, Ok, Err, is_ok, if◌then◌else◌}
 use Rattle.std.specs.List.{list_any, list_all}
 use Rattle.value_model.specs.Val.{Val, Entries}

@@ -28,7 +28,8 @@ is_over (step ∷ steps) = false
 abbrev pub IsRun : Run → Type 0
 IsRun run = is_some run.outcome ≡ is_over run.left
 
--- The run went on as `next`: the steps that it has left are the last of those that it had, it drew one id at most, and was called with what it was called with. What it let be handled stays so.
+-- The run went on as `next`: the steps that it has left are the last of those that it had, it drew one id at most, and was called with what it was
+-- called with. What it let be handled stays so.
 pub record Follows (run next : Run) : Type 0 where
   pub over : IsRun next
   pub rest : (n : ℕ) × (next.left ≡ drop n run.left)

@@ -1,5 +1,6 @@
 -- A run of a method's program: what it was called with, and how far it is.
-use Rattle.std.specs.Prelude.{ℕ, List, [], ◌∷◌, ◌++◌, length, filter, Bool, true, false, ◌&&◌, codes, nat_lt, nat_le, Option, None, Some, Result, Ok, Err, option_and_then, if◌then◌else◌}
+use Rattle.std.specs.Prelude.{ℕ, List, [], ◌∷◌, ◌++◌, length, filter, Bool, true, false, ◌&&◌, codes, nat_lt, nat_le, Option, None, Some, Result, Ok}
+use Rattle.std.specs.Prelude.{Err, option_and_then, if◌then◌else◌}
 use Rattle.value_model.specs.Val.{Val, text, object, Entries, entries_of}
 use Rattle.value_model.specs.Size.{is_name}
 use Rattle.value_model.specs.Doc.{get, remove}

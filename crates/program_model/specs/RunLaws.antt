@@ -1,5 +1,6 @@
 -- How steps leave their run.
-use Rattle.std.specs.Prelude.{drop, suc, ◌≡◌, ℕ, ◌+◌, ◌≤◌, List, [], ◌∷◌, ◌++◌, length, Bool, true, false, cond, Option, None, Some, is_some, Ok, Err, refl, if◌then◌else◌}
+use Rattle.std.specs.Prelude.{drop, suc, ◌≡◌, ℕ, ◌+◌, ◌≤◌, List, [], ◌∷◌, ◌++◌, length, Bool, true, false, cond, Option, None, Some, is_some, Ok, Err}
+use Rattle.std.specs.Prelude.{refl, if◌then◌else◌}
 use Rattle.std.proofs.Common.{ap, sym, ◌∙◌, arith, length-append}
 use Rattle.map_model.specs.Maps.{at}
 use Rattle.value_model.specs.Val.{Val, text}
@@ -18,8 +19,10 @@ use Rattle.program_steps.specs.Runs.{Outcome, done}
 use Rattle.program_model.specs.declared.verdict.Verdict.{Verdict}
 use Rattle.program_model.specs.declared.verdict.Verdict.TheVariants as verdict
 use Rattle.program_model.specs.Guarded.{Write, removes, judged, or_none, id_of}
-use Rattle.program_model.specs.Run.{Run, seed_text, if_over, gone_on, begun, ended, New, inserted, new_of, next_id, is_id, filled_in, selector_in, modifier_in, new_in}
-use Rattle.program_model.specs.Steps.{Setting, Stepped, by_answer, if_made, if_found, Writing, insert_writing, writing, writing_in, update_of, operation_of, by_verdict, by_rules, done_step, stepped_by, stepped}
+use Rattle.program_model.specs.Run.{Run, seed_text, if_over, gone_on, begun, ended, New, inserted, new_of, next_id, is_id, filled_in, selector_in}
+use Rattle.program_model.specs.Run.{modifier_in, new_in}
+use Rattle.program_model.specs.Steps.{Setting, Stepped, by_answer, if_made, if_found, Writing, insert_writing, writing, writing_in, update_of}
+use Rattle.program_model.specs.Steps.{operation_of, by_verdict, by_rules, done_step, stepped_by, stepped}
 use Rattle.program_model.specs.Kept.{is_over, IsRun, Follows}
 
 -- ---- runs that go on, and that end
@@ -36,8 +39,17 @@ follows_ended run outcome =
     record { over = refl; rest = none_left run.left; left = omega arith; drawn = omega arith; unblocked = λ u. u; seed = refl; params = refl }
 
 follows_gone : (left : List ProgramStep) (run : Run) → run.left ≡ left → run.outcome ≡ None → Follows run (if_over left run)
-follows_gone [] run is going = record { over = sym (ap is_over is); rest = (0, refl); left = omega arith; drawn = omega arith; unblocked = λ u. u; seed = refl; params = refl }
-follows_gone (step ∷ steps) run is going = record { over = ap is_some going ∙ sym (ap is_over is); rest = (0, refl); left = omega arith; drawn = omega arith; unblocked = λ u. u; seed = refl; params = refl }
+follows_gone [] run is going =
+    record { over = sym (ap is_over is); rest = (0, refl); left = omega arith; drawn = omega arith; unblocked = λ u. u; seed = refl; params = refl }
+follows_gone (step ∷ steps) run is going = record {
+  over = ap is_some going ∙ sym (ap is_over is);
+  rest = (0, refl);
+  left = omega arith;
+  drawn = omega arith;
+  unblocked = λ u. u;
+  seed = refl;
+  params = refl;
+}
 
 pub follows_gone_on : (run : Run) → run.outcome ≡ None → Follows run (gone_on run)
 follows_gone_on run going = follows_gone run.left run refl going
@@ -45,22 +57,56 @@ follows_gone_on run going = follows_gone run.left run refl going
 drawn_more : (collection : List ℕ) (new : New) (run : Run) → length (inserted collection new run).drawn ≤ length run.drawn + 1
 drawn_more collection new run =
     elim new.is_drawn as
-    (λ (b : Bool). length (cond b (run.drawn ++ collection ∷ []) run.drawn) ≤ length run.drawn + 1) [ true ↦ omega (arith, length-append run.drawn (collection ∷ [])) | false ↦ omega arith ]
+    (λ (b : Bool). length (cond b (run.drawn ++ collection ∷ []) run.drawn) ≤ length run.drawn + 1)
+    [ true ↦ omega (arith, length-append run.drawn (collection ∷ [])) | false ↦ omega arith ]
 
 -- the run that inserted a document goes on, or ends with an outcome
 gone_inserted : (left : List ProgramStep) (collection : List ℕ) (new : New) (run : Run) → run.left ≡ left → run.outcome ≡ None →
     Follows run (if_over left (inserted collection new run))
-gone_inserted [] collection new run is going = record { over = sym (ap is_over is); rest = (0, refl); left = omega arith; drawn = drawn_more collection new run; unblocked = λ u. u; seed = refl; params = refl }
+gone_inserted [] collection new run is going = record {
+  over = sym (ap is_over is);
+  rest = (0, refl);
+  left = omega arith;
+  drawn = drawn_more collection new run;
+  unblocked = λ u. u;
+  seed = refl;
+  params = refl;
+}
 gone_inserted (step ∷ steps) collection new run is going =
-    record { over = ap is_some going ∙ sym (ap is_over is); rest = (0, refl); left = omega arith; drawn = drawn_more collection new run; unblocked = λ u. u; seed = refl; params = refl }
+    record {
+      over = ap is_some going ∙ sym (ap is_over is);
+      rest = (0, refl);
+      left = omega arith;
+      drawn = drawn_more collection new run;
+      unblocked = λ u. u;
+      seed = refl;
+      params = refl;
+    }
 
 ended_inserted : (collection : List ℕ) (new : New) (run : Run) (outcome : Outcome) → Follows run (ended outcome (inserted collection new run))
-ended_inserted collection new run outcome = record { over = refl; rest = none_left run.left; left = omega arith; drawn = drawn_more collection new run; unblocked = λ u. u; seed = refl; params = refl }
+ended_inserted collection new run outcome = record {
+  over = refl;
+  rest = none_left run.left;
+  left = omega arith;
+  drawn = drawn_more collection new run;
+  unblocked = λ u. u;
+  seed = refl;
+  params = refl;
+}
 
 gone_unblocked : (left : List ProgramStep) (run : Run) → run.left ≡ left → run.outcome ≡ None → Follows run (if_over left (record run { unblocked = true }))
-gone_unblocked [] run is going = record { over = sym (ap is_over is); rest = (0, refl); left = omega arith; drawn = omega arith; unblocked = λ u. refl; seed = refl; params = refl }
+gone_unblocked [] run is going =
+    record { over = sym (ap is_over is); rest = (0, refl); left = omega arith; drawn = omega arith; unblocked = λ u. refl; seed = refl; params = refl }
 gone_unblocked
-    (step ∷ steps) run is going = record { over = ap is_some going ∙ sym (ap is_over is); rest = (0, refl); left = omega arith; drawn = omega arith; unblocked = λ u. refl; seed = refl; params = refl }
+    (step ∷ steps) run is going = record {
+      over = ap is_some going ∙ sym (ap is_over is);
+      rest = (0, refl);
+      left = omega arith;
+      drawn = omega arith;
+      unblocked = λ u. refl;
+      seed = refl;
+      params = refl;
+    }
 
 -- ---- what a step is made of
 
@@ -147,7 +193,15 @@ by_left s rows run [] is over =
     record { over = over; rest = (0, refl); left = omega arith; drawn = omega arith; unblocked = λ u. u; seed = refl; params = refl }
 by_left s rows run (step ∷ steps) is over =
     let f = popped_follows s rows run step steps is over in
-    record { over = f.over; rest = (suc f.rest.0, f.rest.1 ∙ sym (ap (drop (suc f.rest.0)) is)); left = omega (arith, f.left, ap length is); drawn = f.drawn; unblocked = f.unblocked; seed = f.seed; params = f.params }
+    record {
+      over = f.over;
+      rest = (suc f.rest.0, f.rest.1 ∙ sym (ap (drop (suc f.rest.0)) is));
+      left = omega (arith, f.left, ap length is);
+      drawn = f.drawn;
+      unblocked = f.unblocked;
+      seed = f.seed;
+      params = f.params;
+    }
 
 pub stepped_follows : (s : Setting) (rows : Rows) (run : Run) → IsRun run → Follows run (stepped s rows run).run
 stepped_follows s rows run over = by_left s rows run run.left refl over

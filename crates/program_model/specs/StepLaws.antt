@@ -29,7 +29,8 @@ use Rattle.program_model.specs.declared.verdict.Verdict.{Verdict}
 use Rattle.program_model.specs.declared.verdict.Verdict.TheVariants as verdict
 use Rattle.program_model.specs.Guarded.{judged, or_none, id_of}
 use Rattle.program_model.specs.Run.{Run, begun, gone_on, ended, inserted, new_in, selector_in, modifier_in, filled_in}
-use Rattle.program_model.specs.Steps.{Setting, Stepped, unchanged, by_answer, if_made, if_found, Writing, writing_in, operation_of, by_verdict, by_rules, done_step, stepped_by, stepped, further, all_stepped, whole_run, client_setting, stub_of, simulated}
+use Rattle.program_model.specs.Steps.{Setting, Stepped, unchanged, by_answer, if_made, if_found, Writing, writing_in, operation_of, by_verdict}
+use Rattle.program_model.specs.Steps.{by_rules, done_step, stepped_by, stepped, further, all_stepped, whole_run, client_setting, stub_of, simulated}
 use Rattle.program_model.specs.Kept.{LeadsOn, StepDoes}
 
 -- ---- one step
@@ -68,12 +69,15 @@ by_rules_does s rows run collection rules w sorted =
 
 done_step_does : (s : Setting) (rows : Rows) (run : Run) (step : ProgramStep) → IsSorted key_cmp rows → StepDoes rows s.room (done_step s rows run step)
 done_step_does s rows run (step.Insert collection doc) sorted = if_made_does rows s.room run (new_in run collection doc) _
-    (λ new. by_answer_does s.collections s.room rows run (operation.Insert collection new.id new.doc) (λ a. gone_on (inserted collection new run)) sorted (applied s.collections rows (operation.Insert collection new.id new.doc) s.room) refl)
+    (λ new. by_answer_does s.collections s.room rows run (operation.Insert collection new.id new.doc)
+    (λ a. gone_on (inserted collection new run)) sorted (applied s.collections rows (operation.Insert collection new.id new.doc) s.room) refl)
 done_step_does s rows run (step.Update collection selector modifier all) sorted =
     if_made_does rows s.room run (selector_in run selector) _
-    (λ q. if_made_does rows s.room run (modifier_in run modifier) _ (λ m. by_answer_does s.collections s.room rows run (operation.Update collection q m all) (λ a. gone_on run) sorted (applied s.collections rows (operation.Update collection q m all) s.room) refl))
+    (λ q. if_made_does rows s.room run (modifier_in run modifier) _ (λ m. by_answer_does s.collections s.room rows run
+    (operation.Update collection q m all) (λ a. gone_on run) sorted (applied s.collections rows (operation.Update collection q m all) s.room) refl))
 done_step_does s rows run (step.Remove collection selector) sorted = if_made_does rows s.room run (selector_in run selector) _
-    (λ q. by_answer_does s.collections s.room rows run (operation.Remove collection q) (λ a. gone_on run) sorted (applied s.collections rows (operation.Remove collection q) s.room) refl)
+    (λ q. by_answer_does s.collections s.room rows run (operation.Remove collection q)
+    (λ a. gone_on run) sorted (applied s.collections rows (operation.Remove collection q) s.room) refl)
 done_step_does s rows run (step.Require collection selector fault) sorted =
     if_made_does rows s.room run (selector_in run selector) _ (λ q. if_found_does rows s.room run fault (matching collection q rows))
 done_step_does s rows run step.Unblock sorted = nothing_done rows s.room _

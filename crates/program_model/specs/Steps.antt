@@ -119,7 +119,8 @@ done_step s rows run (step.Insert collection doc) =
     (λ new. by_answer rows run (applied s.collections rows (operation.Insert collection new.id new.doc) s.room) (λ a. gone_on (inserted collection new run)))
 done_step s rows run (step.Update collection selector modifier all) =
     if_made rows run (selector_in run selector)
-    (λ q. if_made rows run (modifier_in run modifier) (λ m. by_answer rows run (applied s.collections rows (operation.Update collection q m all) s.room) (λ a. gone_on run)))
+    (λ q. if_made rows run (modifier_in run modifier)
+    (λ m. by_answer rows run (applied s.collections rows (operation.Update collection q m all) s.room) (λ a. gone_on run)))
 done_step s rows run (step.Remove collection selector) =
     if_made rows run (selector_in run selector) (λ q. by_answer rows run (applied s.collections rows (operation.Remove collection q) s.room) (λ a. gone_on run))
 done_step s rows run (step.Require collection selector fault) =

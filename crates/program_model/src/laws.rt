@@ -54,12 +54,14 @@ pub fn simulations_lead_on()
 /// documents as they were.
 pub fn guarded_steps_write_what_rules_allow()
     ensures { (s : Setting) (rows : Rows) (run : Run) (collection : List ℕ) (a : Action) →
-        (done_step s rows run (Guarded collection a)).rows ≡ rows_by s rows collection (writing_in collection run a run.params) (verdict_of s rows run collection a) }
+        (done_step s rows run (Guarded collection a)).rows
+        ≡ rows_by s rows collection (writing_in collection run a run.params) (verdict_of s rows run collection a) }
 {}
 
 /// A denied write fails its run with the place of the rule.
 pub fn denied_writes_fail_with_the_rule()
-    ensures { (s : Setting) (rows : Rows) (run : Run) (collection : List ℕ) (a : Action) (place : ℕ) → verdict_of s rows run collection a ≡ Some (Denied place) →
+    ensures { (s : Setting) (rows : Rows) (run : Run) (collection : List ℕ) (a : Action) (place : ℕ) →
+        verdict_of s rows run collection a ≡ Some (Denied place) →
         (done_step s rows run (Guarded collection a)).run ≡ fails (denied_by place) run }
 {}
 

@@ -1,4 +1,6 @@
--- How an object is read as the rules of a collection: `{"allow":[rule..],"deny":[rule..]}`, where each list may be missing. A rule is `{"on":"insert"|"update"|"remove","selector":selector,"fields":[name..]}`, where all but `on` may be missing, and `fields` stands in rules on updates alone. A selector is any value: one that can't be read is told when the rule is tested.
+-- How an object is read as the rules of a collection: `{"allow":[rule..],"deny":[rule..]}`, where each list may be missing.
+-- A rule is `{"on":"insert"|"update"|"remove","selector":selector,"fields":[name..]}`, where all but `on` may be missing, and `fields` stands in
+-- rules on updates alone. A selector is any value: one that can't be read is told when the rule is tested.
 use Rattle.std.specs.Prelude.{ℕ, Bool, true, false, not, List, [], ◌∷◌, ◌++◌, length, codes, Option, None, Some, Ok, is_some, nat_lt, if◌then◌else◌, ◌&&◌, ◌||◌}
 use Rattle.value_model.specs.Val.{Val, text, list, object, Vals, no_vals, val, Fields, list_of}
 use Rattle.value_model.specs.Size.{is_name}

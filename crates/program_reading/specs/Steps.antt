@@ -1,4 +1,6 @@
--- How a list is read as a step of a program: its first element says what the step does, and the others are what it does it with. A template is any value: what can't be made of it is told when a run fills it. A code is a text, or a whole number, which is taken as its decimal text.
+-- How a list is read as a step of a program: its first element says what the step does, and the others are what it does it with.
+-- A template is any value: what can't be made of it is told when a run fills it.
+-- A code is a text, or a whole number, which is taken as its decimal text.
 use Rattle.std.specs.Prelude.{ℕ, Bool, true, false, List, Option, None, Some, Ok, codes, length, slice_get, if◌then◌else◌, ◌==◌}
 use Rattle.std.specs.Fmt.{signed_decimal}
 use Rattle.value_model.specs.Val.{Val, int, text, list, list_of}
@@ -24,7 +26,9 @@ form_named name =
     if is_name name (codes "throw") then Some form.Throw else (
     if is_name name (codes "return") then Some form.Return else None)))))))
 
--- how many elements the list has: `["insert",collection,document]`, `["update",collection,selector,modifier]`, `["updateAll",collection,selector,modifier]`, `["remove",collection,selector]`, `["require",collection,selector,code,reason]`, `["unblock"]`, `["throw",code,reason]`, `["return",result]`
+-- how many elements the list has: `["insert",collection,document]`, `["update",collection,selector,modifier]`,
+-- `["updateAll",collection,selector,modifier]`, `["remove",collection,selector]`, `["require",collection,selector,code,reason]`, `["unblock"]`,
+-- `["throw",code,reason]`, `["return",result]`
 abbrev pub length_of : StepForm → ℕ
 length_of form.Insert = 3
 length_of form.Update = 4

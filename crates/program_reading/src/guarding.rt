@@ -5,7 +5,8 @@ ghost use Rattle.value_model.specs.Branches.{field_of};
 ghost use Rattle.ejson_value.specs.View.{view};
 ghost use Rattle.program_reading.specs.Faults.{below, element, Gives};
 ghost use Rattle.program_reading.specs.Names.{name_reading};
-ghost use Rattle.program_reading.specs.Guarding.{action_named, action_of, is_update, action_reading, field_names_behind, field_names_reading, is_rule, rule_parts_reading, rule_reading, rules_behind, rule_list_reading, lists_reading};
+ghost use Rattle.program_reading.specs.Guarding.{action_named, action_of, is_update, action_reading, field_names_behind, field_names_reading};
+ghost use Rattle.program_reading.specs.Guarding.{is_rule, rule_parts_reading, rule_reading, rules_behind, rule_list_reading, lists_reading};
 
 use crate::fault::{AppFault, Flaw, bad};
 use crate::names::{Shape, has_more_items, has_only_keys, member, read_name};
@@ -133,7 +134,8 @@ fn read_rule_parts(alloc: Global, place: &Text, fields: &Doc) -> Result<Rule, Ap
 
 // Whether the names of fields stand where they may.
 fn may_have_fields(alloc: Global, fields: &Doc) -> Result<bool, Mem>
-    ensures { IfOk result (λ b. b ≡ (not (is_some (field_of (fields_of fields.now) (codes "fields"))) || is_update (action_of (field_of (fields_of fields.now) (codes "on"))))) }
+    ensures { IfOk result (λ b. b
+        ≡ (not (is_some (field_of (fields_of fields.now) (codes "fields"))) || is_update (action_of (field_of (fields_of fields.now) (codes "on"))))) }
 {
     let names = member(alloc, fields, "fields")?;
     let on = own_action(alloc, fields)?;

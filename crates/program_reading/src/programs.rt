@@ -5,7 +5,8 @@ ghost use Rattle.value_model.specs.Branches.{field_of};
 ghost use Rattle.ejson_value.specs.View.{view};
 ghost use Rattle.program_reading.specs.Faults.{below, element, Gives};
 ghost use Rattle.program_reading.specs.Steps.{step_reading};
-ghost use Rattle.program_reading.specs.Programs.{steps_behind, steps_reading, own_steps_reading, is_true, stub_reading, is_program, parts_reading, program_reading};
+ghost use Rattle.program_reading.specs.Programs.{steps_behind, steps_reading, own_steps_reading, is_true, stub_reading, is_program, parts_reading};
+ghost use Rattle.program_reading.specs.Programs.{program_reading};
 
 use crate::fault::{AppFault, Flaw, bad};
 use crate::names::{Shape, has_more_items, has_only_keys, is_valid_name, member};
@@ -111,7 +112,8 @@ fn read_own_steps(
     place: &Text,
     fields: &Doc,
 ) -> Result<ProgramSteps, AppFault>
-    ensures { Gives (λ steps. steps) result (own_steps_reading collections.now (below place.now (codes "steps")) (field_of (fields_of fields.now) (codes "steps"))) }
+    ensures { Gives (λ steps. steps) result
+        (own_steps_reading collections.now (below place.now (codes "steps")) (field_of (fields_of fields.now) (codes "steps"))) }
 {
     let at_steps = below(alloc, place.as_str(), "steps")?;
     read_needed(
@@ -129,7 +131,8 @@ fn read_own_stub(
     steps: &ProgramSteps,
     fields: &Doc,
 ) -> Result<Option<ProgramSteps>, AppFault>
-    ensures { Gives (λ stub. stub) result (stub_reading collections.now (below place.now (codes "stub")) steps.now (field_of (fields_of fields.now) (codes "stub"))) }
+    ensures { Gives (λ stub. stub) result
+        (stub_reading collections.now (below place.now (codes "stub")) steps.now (field_of (fields_of fields.now) (codes "stub"))) }
 {
     let at_stub = below(alloc, place.as_str(), "stub")?;
     read_stub(

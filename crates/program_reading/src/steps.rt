@@ -3,7 +3,9 @@ ghost use Rattle.std.specs.Prelude.{◌≡◌, [], IfOk, option_map};
 ghost use Rattle.std.specs.Fmt.{signed_decimal};
 ghost use Rattle.ejson_value.specs.View.{view};
 ghost use Rattle.program_reading.specs.Faults.{Gives};
-ghost use Rattle.program_reading.specs.Steps.{form_named, length_of, form_at, form_of, template_reading, code_reading, reason_reading, fault_reading, collection_reading, insert_reading, update_reading, remove_reading, require_reading, form_reading, elements_reading, step_reading};
+ghost use Rattle.program_reading.specs.Steps.{form_named, length_of, form_at, form_of, template_reading, code_reading, reason_reading, fault_reading};
+ghost use Rattle.program_reading.specs.Steps.{collection_reading, insert_reading, update_reading, remove_reading, require_reading, form_reading};
+ghost use Rattle.program_reading.specs.Steps.{elements_reading, step_reading};
 
 use crate::fault::{AppFault, Flaw, bad};
 use crate::names::read_known;

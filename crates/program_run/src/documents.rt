@@ -79,7 +79,8 @@ fn without_id(alloc: Global, fields: &Doc) -> Result<Doc, Mem>
 }
 
 fn with_given_id(alloc: Global, fields: &Doc, id: &Text) -> Result<Option<NewDocument>, Mem>
-    ensures { IfOk result (λ new. new ≡ (if is_id id.now then Some (record { id = id.now; is_drawn = false; doc = remove fields.now (codes "_id") }) else None)) }
+    ensures { IfOk result
+        (λ new. new ≡ (if is_id id.now then Some (record { id = id.now; is_drawn = false; doc = remove fields.now (codes "_id") }) else None)) }
 {
     if !is_id(id) {
         return Ok(None);

@@ -221,7 +221,8 @@ fn verdict(
     act: &Act,
 ) -> Result<Verdict, Mem>
     requires { is_write act.now ≡ true }
-    ensures { IfOk result (λ v. v ≡ judged (or_none (rules_of (option_copied app.entry) collection.now)) (write_of act.now) (at key_cmp store.now.rows (key_of collection.now (id_of (write_of act.now))))) }
+    ensures { IfOk result (λ v. v ≡ judged (or_none (rules_of (option_copied app.entry) collection.now)) (write_of act.now)
+        (at key_cmp store.now.rows (key_of collection.now (id_of (write_of act.now))))) }
 {
     let key = Key::of(collection, id_of(act))?;
     let present = store.contents().get(&key);

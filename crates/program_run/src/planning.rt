@@ -110,7 +110,8 @@ fn if_found(
     selector: &Selector,
     fault: &Fault,
 ) -> Result<Plan, Mem>
-    ensures { IfOk result (λ plan. plan ≡ (if nat_lt 0 (length (matching collection.now selector.now store.now.rows)) then GoesOn else Ends (Failed fault.now))) }
+    ensures { IfOk result
+        (λ plan. plan ≡ (if nat_lt 0 (length (matching collection.now selector.now store.now.rows)) then GoesOn else Ends (Failed fault.now))) }
 {
     if store.has_match(collection, selector)? {
         Ok(Plan::GoesOn)

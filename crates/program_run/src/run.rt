@@ -1,5 +1,6 @@
 //! Runs.
-ghost use Rattle.std.specs.Prelude.{◌≡◌, ◌<◌, ◌==◌, ◌∷◌, [], ℕ, suc, true, List, length, drop, slice_get, IfOk, IfErr, IfSome, IfNone, OnOk, OnErr, Option, None, Some, option_map, if◌then◌else◌};
+ghost use Rattle.std.specs.Prelude.{◌≡◌, ◌<◌, ◌==◌, ◌∷◌, [], ℕ, suc, true, List, length, drop, slice_get, IfOk, IfErr, IfSome, IfNone, OnOk, OnErr};
+ghost use Rattle.std.specs.Prelude.{Option, None, Some, option_map, if◌then◌else◌};
 ghost use Rattle.std.specs.Option.{option_copied};
 ghost use Rattle.ejson_value.specs.View.{view};
 ghost use Rattle.collection_store.specs.Applied.{Applied, applied};
@@ -47,7 +48,15 @@ impl Model for Run {
 
     ghost coded = { Prim.hlevel (codes, val_code) };
 
-    ghost view = { λ r. record { params = r.params; seed = r.seed; next = r.next; made = r.made; drawn = r.drawn; unblocked = r.unblocked; outcome = option_map outcome_view r.outcome } };
+    ghost view = { λ r. record {
+      params = r.params;
+      seed = r.seed;
+      next = r.next;
+      made = r.made;
+      drawn = r.drawn;
+      unblocked = r.unblocked;
+      outcome = option_map outcome_view r.outcome;
+    } };
 }
 
 /// What a step did: the documents that differ, by key, the keys of those that it inserted, changed,
@@ -131,7 +140,8 @@ fn answer_of(
     op: Op,
     room: u64,
 ) -> Result<Result<Reply, Fault>, Mem>
-    ensures does { IfOk result (λ answer. (run : ARun) (next : Applied → ARun) → by_answer store.old.rows run (applied store.old.names store.old.rows op room) next ≡ answered_as store.new.rows run next answer) }
+    ensures does { IfOk result (λ answer. (run : ARun) (next : Applied → ARun) →
+        by_answer store.old.rows run (applied store.old.names store.old.rows op room) next ≡ answered_as store.new.rows run next answer) }
     ensures refused { IfOk result (λ answer. IfErr answer (λ fault. store.new ≡ store.old)) }
     ensures answer { IfOk result (λ answer. IfOk answer (λ reply. IsAnswer (inserted_id op) (view reply.answer))) }
     ensures names { store.new.names ≡ store.old.names }
@@ -318,7 +328,8 @@ impl Run {
     ) -> Result<Effect, Mem>
         requires left { self.old.next < length steps.now }
         requires goes_on { self.old.outcome ≡ None }
-        ensures does { IfOk result (IsStepMade (by_answer store.old.rows (run_behind steps.now self.old) (applied store.old.names store.old.rows op room) (λ a. gone_on (with_ids ids (run_behind steps.now self.old)))) steps.now store.new.rows self.new) }
+        ensures does { IfOk result (IsStepMade (by_answer store.old.rows (run_behind steps.now self.old) (applied store.old.names store.old.rows op room)
+            (λ a. gone_on (with_ids ids (run_behind steps.now self.old)))) steps.now store.new.rows self.new) }
         ensures told { IfOk result (λ effect. option_map outcome_view effect.outcome ≡ self.new.outcome) }
         ensures names { store.new.names ≡ store.old.names }
         ensures run { OnErr result (self.new ≡ self.old) }
@@ -343,7 +354,9 @@ impl Run {
         store: &mut Store,
         room: u64,
     ) -> Result<Effect, Mem>
-        ensures does { IfOk result (λ effect. (steps left : List AStep) → IsStepMade (by_answer store.old.rows (with_left self.old left) (applied store.old.names store.old.rows op room) (λ a. ended (done (Some a.answer)) (with_ids ids (with_left self.old left)))) steps store.new.rows self.new effect) }
+        ensures does { IfOk result (λ effect. (steps left : List AStep) →
+            IsStepMade (by_answer store.old.rows (with_left self.old left) (applied store.old.names store.old.rows op room)
+            (λ a. ended (done (Some a.answer)) (with_ids ids (with_left self.old left)))) steps store.new.rows self.new effect) }
         ensures told { IfOk result (λ effect. option_map outcome_view effect.outcome ≡ self.new.outcome) }
         ensures names { store.new.names ≡ store.old.names }
         ensures run { OnErr result (self.new ≡ self.old) }
@@ -375,7 +388,8 @@ impl Run {
     ) -> Result<Effect, Mem>
         requires left { self.old.next < length steps.now }
         requires goes_on { self.old.outcome ≡ None }
-        ensures does { IfOk result (λ effect. (app : Option AnApp) → IsStepMade (planned (setting_of app store.old room) store.old.rows (run_behind steps.now self.old) plan) steps.now store.new.rows self.new effect) }
+        ensures does { IfOk result (λ effect. (app : Option AnApp) → IsStepMade
+            (planned (setting_of app store.old room) store.old.rows (run_behind steps.now self.old) plan) steps.now store.new.rows self.new effect) }
         ensures told { IfOk result (λ effect. option_map outcome_view effect.outcome ≡ self.new.outcome) }
         ensures names { store.new.names ≡ store.old.names }
         ensures run { OnErr result (self.new ≡ self.old) }
@@ -405,7 +419,8 @@ impl Run {
         store: &mut Store,
         room: u64,
     ) -> Result<Effect, Mem>
-        ensures does { IfOk result (IsStepMade (stepped (setting_of (option_copied app.entry) store.old room) store.old.rows (run_of steps.now self.old)) steps.now store.new.rows self.new) }
+        ensures does { IfOk result (IsStepMade (stepped (setting_of (option_copied app.entry) store.old room) store.old.rows
+            (run_of steps.now self.old)) steps.now store.new.rows self.new) }
         ensures told { IfOk result (λ effect. option_map outcome_view effect.outcome ≡ self.new.outcome) }
         ensures names { store.new.names ≡ store.old.names }
         ensures run { OnErr result (self.new ≡ self.old) }

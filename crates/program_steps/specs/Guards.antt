@@ -1,4 +1,5 @@
--- Rules by which clients may write, and the methods that a collection with rules has (Meteor's documentation, "allow" and "deny": a client's `insert`, `update` or `remove` calls the method of that name of the collection).
+-- Rules by which clients may write, and the methods that a collection with rules has (Meteor's documentation, "allow" and "deny": a client's
+-- `insert`, `update` or `remove` calls the method of that name of the collection).
 use Rattle.std.specs.Prelude.{ℕ, pos, List, [], ◌∷◌, ◌++◌, codes, Option, Some, false}
 use Rattle.value_model.specs.Val.{Val, int, object, no_fields, field}
 use Rattle.program_steps.specs.declared.rules.Action.{Action}

@@ -1,5 +1,6 @@
 -- Templates: values in which placeholders stand for what is known only later.
-use Rattle.std.specs.Prelude.{◌≡◌, ◌≤◌, ℕ, ℤ, pos, negsuc, List, codes, Option, None, Some, ok_or, Result, Ok, Err, slice_get, option_map, option_and_then, nat_lt, if◌then◌else◌, ◌||◌}
+use Rattle.std.specs.Prelude.{◌≡◌, ◌≤◌, ℕ, ℤ, pos, negsuc, List, codes, Option, None, Some, ok_or, Result, Ok, Err, slice_get, option_map}
+use Rattle.std.specs.Prelude.{option_and_then, nat_lt, if◌then◌else◌, ◌||◌}
 use Rattle.value_model.specs.Val.{Val, int, text, list, object, Vals, no_vals, val, Fields, no_fields, field}
 use Rattle.value_model.specs.Depth.{depth}
 use Rattle.value_model.specs.Size.{size, is_name}

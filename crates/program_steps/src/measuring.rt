@@ -6,7 +6,8 @@ ghost use Rattle.ejson_value.specs.View.{view};
 ghost use Rattle.ejson_value.specs.Results.{made};
 ghost use Rattle.program_steps.specs.declared.fault.FillFault.TheVariants.{NoParam};
 ghost use Rattle.program_steps.specs.Template.{placeholder_in, nth, filling, Gives};
-ghost use Rattle.program_steps.specs.Measuring.{extent_of, list_extent, object_extent, item_behind, field_behind, placed, measuring, items_measuring, fields_measuring, past_limits};
+ghost use Rattle.program_steps.specs.Measuring.{extent_of, list_extent, object_extent, item_behind, field_behind, placed, measuring, items_measuring};
+ghost use Rattle.program_steps.specs.Measuring.{fields_measuring, past_limits};
 
 use crate::fault::FillFault;
 use crate::template::{Placeholder, placeholder_in};
@@ -130,7 +131,8 @@ fn measure_value(template: &Value, params: &[Extent], ids: &[Extent]) -> Result<
 
 #[cycle(measuring)]
 fn measure_object(fields: &Doc, params: &[Extent], ids: &[Extent]) -> Result<Extent, FillFault>
-    ensures { Gives (λ e. e) result (placed params.now ids.now (placeholder_in (fields_of fields.now)) (made (object_extent (is_special (names_of (fields_of fields.now)))) (fields_measuring params.now ids.now (fields_of fields.now)))) }
+    ensures { Gives (λ e. e) result (placed params.now ids.now (placeholder_in (fields_of fields.now))
+        (made (object_extent (is_special (names_of (fields_of fields.now)))) (fields_measuring params.now ids.now (fields_of fields.now)))) }
 {
     match placeholder_in(fields) {
         Some(Placeholder::Parameter(number)) => nth(params, number),

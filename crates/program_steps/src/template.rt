@@ -4,7 +4,8 @@ ghost use Rattle.value_model.specs.Val.{text, list, object, vals_of, fields_of};
 ghost use Rattle.ejson_value.specs.View.{view};
 ghost use Rattle.ejson_value.specs.Results.{made};
 ghost use Rattle.program_steps.specs.declared.fault.FillFault.TheVariants.{NoParam};
-ghost use Rattle.program_steps.specs.Template.{placeholder_named, placeholder_in, nth, in_place, filling, items_filling, fields_filling, filled, if_short, short_in_place, filled_short, Gives};
+ghost use Rattle.program_steps.specs.Template.{placeholder_named, placeholder_in, nth, in_place, filling, items_filling, fields_filling, filled};
+ghost use Rattle.program_steps.specs.Template.{if_short, short_in_place, filled_short, Gives};
 
 use crate::fault::FillFault;
 use crate::measuring::{measure, past_limits};
@@ -107,7 +108,8 @@ fn fill_value(
 
 #[cycle(filling)]
 fn fill_object(alloc: Global, fields: &Doc, params: &Items, ids: &Names) -> Result<Value, FillFault>
-    ensures { Gives view result (in_place params.now ids.now (placeholder_in (fields_of fields.now)) (made object (fields_filling params.now ids.now (fields_of fields.now)))) }
+    ensures { Gives view result
+        (in_place params.now ids.now (placeholder_in (fields_of fields.now)) (made object (fields_filling params.now ids.now (fields_of fields.now)))) }
 {
     match placeholder_in(fields) {
         Some(Placeholder::Parameter(number)) => parameter(params, number),

@@ -44,7 +44,8 @@ abbrev pub field_before : List ℕ → Option Val → Fields → Fields
 field_before name None fs = fs
 field_before name (Some v) fs = field name v fs
 
--- Paths that go on in a value go into the fields of an object and into each element of a list. Of any other value included paths leave nothing, and excluded ones all.
+-- Paths that go on in a value go into the fields of an object and into each element of a list.
+-- Of any other value included paths leave nothing, and excluded ones all.
 abbrev mutual
   pub value_projected : Bool → List APath → Val → Option Val
   value_projected including paths (object fs) = Some (object (fields_projected including paths fs))

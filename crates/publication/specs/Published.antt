@@ -1,4 +1,6 @@
--- What cursors publish of a store's contents: the documents of a cursor's collection that its selector holds of, or with a limit the first of these in the cursor's order, each projected, under the cursor's name (Meteor's guide, "Publications and data loading"; `sort` and `limit` of Meteor's `find`).
+-- What cursors publish of a store's contents: the documents of a cursor's collection that its selector holds of, or with a limit the first of these
+-- in the cursor's order, each projected, under the cursor's name (Meteor's guide, "Publications and data loading"; `sort` and `limit` of Meteor's
+-- `find`).
 use Rattle.std.specs.Prelude.{◌≡◌, ℕ, Bool, true, ◌&&◌, List, [], ◌∷◌, map, filter, count_by, nat_lt, Option, None, Some, option_and_then, if◌then◌else◌}
 use Rattle.std.specs.Option.{option_or}
 use Rattle.map_model.specs.Maps.{at, IsSorted}

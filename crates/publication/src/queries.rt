@@ -45,7 +45,8 @@ fn put_document(
     doc: &Doc,
 ) -> Result<(), Mem>
     requires { AreSorted (paths_of cursor.now.fields) (paths_in paths.now) }
-    ensures { OnOk result (found.new.entries ≡ set key_cmp found.old.entries (key_of cursor.now.name id.now) (Some (entries_of (projected cursor.now.fields (fields_of doc.now))))) }
+    ensures { OnOk result (found.new.entries
+        ≡ set key_cmp found.old.entries (key_of cursor.now.name id.now) (Some (entries_of (projected cursor.now.fields (fields_of doc.now))))) }
 {
     let fields = projected(alloc, &cursor.fields, paths, doc)?;
     let key = Key::of(&cursor.name, id)?;
@@ -66,7 +67,8 @@ fn put_if_shown(
 ) -> Result<(), Mem>
     requires paths { AreSorted (paths_of cursor.now.fields) (paths_in paths.now) }
     requires order { IsInOrder cursor.now.sort (documents_in docs.now) }
-    ensures { OnOk result (found.new.entries ≡ put_document found.old.entries (key_of cursor.now.name id.now) (published_among cursor.now (documents_in docs.now) id.now doc.now)) }
+    ensures { OnOk result (found.new.entries
+        ≡ put_document found.old.entries (key_of cursor.now.name id.now) (published_among cursor.now (documents_in docs.now) id.now doc.now)) }
 {
     if holds(&cursor.selector, id, doc) && is_within(cursor, docs, id, doc) {
         put_document(alloc, found, cursor, paths, id, doc)
@@ -86,7 +88,8 @@ fn put_collection(
 ) -> Result<(), Mem>
     requires paths { AreSorted (paths_of cursor.now.fields) (paths_in paths.now) }
     requires order { IsInOrder cursor.now.sort (documents_in docs.now) }
-    ensures { OnOk result (found.new.entries ≡ put_own (published_among cursor.now (documents_in docs.now)) found.old.entries cursor.now (rows_of cursor.now.collection contents.now)) }
+    ensures { OnOk result (found.new.entries
+        ≡ put_own (published_among cursor.now (documents_in docs.now)) found.old.entries cursor.now (rows_of cursor.now.collection contents.now)) }
 {
     for (key, doc) in contents.of_collection(&cursor.collection)? {
         put_if_shown(alloc, found, cursor, paths, docs, &key.id, doc)?;
@@ -106,7 +109,8 @@ fn put_named(
 ) -> Result<(), Mem>
     requires paths { AreSorted (paths_of cursor.now.fields) (paths_in paths.now) }
     requires order { IsInOrder cursor.now.sort (documents_in docs.now) }
-    ensures { OnOk result (found.new.entries ≡ put_document found.old.entries (key_of cursor.now.name id.now) (published_at (published_among cursor.now (documents_in docs.now)) cursor.now contents.now id.now)) }
+    ensures { OnOk result (found.new.entries ≡ put_document found.old.entries (key_of cursor.now.name id.now)
+        (published_at (published_among cursor.now (documents_in docs.now)) cursor.now contents.now id.now)) }
 {
     let key = Key::of(&cursor.collection, id)?;
     match contents.get(&key) {

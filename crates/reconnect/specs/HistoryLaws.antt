@@ -1,5 +1,6 @@
 -- What is said and what waits is what was to be said; only the client's own texts and losses change that.
-use Rattle.std.specs.Prelude.{◌≡◌, ℕ, List, [], ◌∷◌, ◌++◌, true, false, cond, not, ◌&&◌, ◌||◌, Option, Some, None, is_some, option_to_list, Result, Ok, Err, refl}
+use Rattle.std.specs.Prelude.{◌≡◌, ℕ, List, [], ◌∷◌, ◌++◌, true, false, cond, not, ◌&&◌, ◌||◌, Option, Some, None, is_some, option_to_list, Result}
+use Rattle.std.specs.Prelude.{Ok, Err, refl}
 use Rattle.std.proofs.Common.{sym, ap, ◌∙◌}
 use Rattle.std.proofs.lemmas.List.{append_assoc}
 use Rattle.ddp_messages.specs.Answers.{client_answer, server_answer}
@@ -10,7 +11,9 @@ use Rattle.ddp_messages.specs.ServerMessage as server
 use Rattle.ddp_messages.specs.ServerMessage.{ServerMessage}
 use Rattle.reconnect_model.specs.Revival.{Revival}
 use Rattle.reconnect_model.specs.Saying.{asked, asked_by, first_of, behind_first}
-use Rattle.reconnect_model.specs.Giving.{noted, settled, all_settled, gives, released_by, released, Heard, left_unsaid, updated_before, made_ready, revived, revived_then, revived_when, holds, passed, is_at_once, is_answered, text_refusal, heard_message, heard_unless, hears}
+use Rattle.reconnect_model.specs.Giving.{noted, settled, all_settled, gives, released_by, released, Heard, left_unsaid, updated_before, made_ready}
+use Rattle.reconnect_model.specs.Giving.{revived, revived_then, revived_when, holds, passed, is_at_once, is_answered, text_refusal, heard_message}
+use Rattle.reconnect_model.specs.Giving.{heard_unless, hears}
 use Rattle.reconnect_model.specs.History.{History, Event, queued, heard, said, lost, revival_of, said_in, to_say}
 
 -- ---- what a server sends changes nothing of what waits, and a text that no rule refuses breaks nothing
@@ -50,7 +53,8 @@ revived_same : (r : Revival) → Same r (revived r).revival
 revived_same r =
     let left = all_settled (made_ready r) (left_unsaid r) in
     let before = updated_before r.calls in
-    let same = same_then (made_ready r) left (released before left r.held).revival (all_settled-same (made_ready r) (left_unsaid r)) (released_same before left r.held) in
+    let same = same_then (made_ready r) left (released before left r.held).revival (all_settled-same (made_ready r) (left_unsaid r))
+    (released_same before left r.held) in
     record { waiting = same.waiting; broken = same.broken }
 
 passed_same : (r : Revival) (text : List ℕ) (m : ServerMessage) → Same r (passed r text m).revival

@@ -56,7 +56,11 @@ use Rattle.client_model.specs.Taking.{max_server_text, early_refusal}
 use Rattle.reconnect_model.specs.Revival.{Called, Revival, new_revival}
 use Rattle.reconnect_model.specs.Saying.{entered, called, asked, asked_by, queues, placed, in_order, loses, says}
 use Rattle.ddp_messages.specs.Texts.{server_text}
-use Rattle.reconnect_model.specs.Giving.{late, early, refused_by, answer_refusal, text_refusal, documents, is_among, connects, same_value, step_text, noted, answered, updated, changed_from, change_of, all_updated, settled, all_settled, gives, differences, half_done, half_ended, left_unsaid, updated_before, updated_left, given_for, Heard, released_by, released, made_ready, revived, is_at_once, is_held, holds, is_answered, passed, revived_then, revived_when, heard_message, heard_unless, hears}
+use Rattle.reconnect_model.specs.Giving.{late, early, refused_by, answer_refusal, text_refusal, documents, is_among, connects, same_value, step_text}
+use Rattle.reconnect_model.specs.Giving.{noted, answered, updated, changed_from, change_of, all_updated, settled, all_settled, gives, differences}
+use Rattle.reconnect_model.specs.Giving.{half_done, half_ended, left_unsaid, updated_before, updated_left, given_for, Heard, released_by, released}
+use Rattle.reconnect_model.specs.Giving.{made_ready, revived, is_at_once, is_held, holds, is_answered, passed, revived_then, revived_when}
+use Rattle.reconnect_model.specs.Giving.{heard_message, heard_unless, hears}
 use Rattle.reconnect_laws.specs.Given.{documents_by, all_documents}
 use Rattle.reconnect_laws.specs.ReadLaws.{data_read, AnswersShort, answers_read, AsksShort, asks_read}
 use Rattle.reconnect_laws.specs.Sent.{AreSent}
@@ -104,11 +108,13 @@ short_place (e ∷ m) n id all one =
     as (λ (o : Ordering). AreShort (map (λ (e : ℕ × List ℕ). e.1) (match_ordering o ((n, id) ∷ e ∷ m) ((e.0, id) ∷ m) (e ∷ insert_entry nat_cmp m n id))))
     [ Less ↦ (one, all) | Equal ↦ (one, all.1) | Greater ↦ (all.0, rest) ]
 
-short_placed : (m entries : List (ℕ × List ℕ)) → AreShort (map (λ (e : ℕ × List ℕ). e.1) m) → AreShort (map (λ (e : ℕ × List ℕ). e.1) entries) → AreShort (map (λ (e : ℕ × List ℕ). e.1) (placed m entries))
+short_placed : (m entries : List (ℕ × List ℕ)) → AreShort (map (λ (e : ℕ × List ℕ). e.1) m) → AreShort (map (λ (e : ℕ × List ℕ). e.1) entries) →
+    AreShort (map (λ (e : ℕ × List ℕ). e.1) (placed m entries))
 short_placed m [] all more = all
 short_placed m (e ∷ entries) all more = short_placed (insert_entry nat_cmp m e.0 e.1) entries (short_place m e.0 e.1 all more.0) more.1
 
-by_place : (calls : List (List ℕ × Called)) → AreShort (keys_of calls) → AreShort (map (λ (e : ℕ × List ℕ). e.1) (map (λ (e : List ℕ × Called). (e.1.place, e.0)) calls))
+by_place : (calls : List (List ℕ × Called)) → AreShort (keys_of calls) →
+    AreShort (map (λ (e : ℕ × List ℕ). e.1) (map (λ (e : List ℕ × Called). (e.1.place, e.0)) calls))
 by_place [] all = tt
 by_place (e ∷ calls) all = (all.0, by_place calls all.1)
 
@@ -477,7 +483,8 @@ passed_on r text m e goes =
 passed_connected : (r : Revival) (text : List ℕ) (m : ServerMessage) → (passed r text m).revival.is_connected ≡ r.is_connected
 passed_connected r text m =
     elim (r.is_revived || is_at_once r.is_known m)
-    as (λ b. (cond b (let h : Heard = record { revival = gives r m; texts = text ∷ [] } in h) (record { revival = holds r text m; texts = [] })).revival.is_connected ≡ r.is_connected)
+    as (λ b. (cond b (let h : Heard = record { revival = gives r m; texts = text ∷ [] } in h)
+    (record { revival = holds r text m; texts = [] })).revival.is_connected ≡ r.is_connected)
     [ true ↦ settled_connected r m | false ↦ refl ]
   where
     settled_connected : (r : Revival) (m : ServerMessage) → (settled r m).is_connected ≡ r.is_connected

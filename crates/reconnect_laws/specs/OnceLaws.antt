@@ -170,7 +170,8 @@ sorted_entered m k c s =
     let rest = sorted-set name_order m k (Some c) s in
     elim (is_some (at text_cmp m k)) as (λ b. IsSorted text_cmp (cond b m (set text_cmp m k (Some c)))) [ true ↦ s | false ↦ rest ]
 
-still_few : (text : List ℕ) (count : List ℕ → ℕ) (r : Revival) → Remembers r count → (id : List ℕ) → one_if (is_some (at text_cmp r.calls id)) ≤ with_text text count id
+still_few : (text : List ℕ) (count : List ℕ → ℕ) (r : Revival) → Remembers r count → (id : List ℕ) →
+    one_if (is_some (at text_cmp r.calls id)) ≤ with_text text count id
 still_few text count r w id = let before = w.few id in omega (arith, before)
 
 asked_remembers : (r : Revival) (text : List ℕ) (m : ClientMessage) (count : List ℕ → ℕ) → client_answer text ≡ Ok m → Remembers r count →
@@ -195,7 +196,8 @@ asked_remembers r text (client.method name method params seed) count e w = recor
 }
 asked_remembers r text _ count e w = record { subs = w.subs; calls = w.calls; sorted = w.sorted; few = still_few text count r w }
 
-asked_by-remembers : (r : Revival) (text : List ℕ) (answer : Result ClientMessage MsgFault) (count : List ℕ → ℕ) → client_answer text ≡ answer → Remembers r count →
+asked_by-remembers : (r : Revival) (text : List ℕ) (answer : Result ClientMessage MsgFault) (count : List ℕ → ℕ) → client_answer text ≡ answer →
+    Remembers r count →
     Remembers (asked_by r text answer) (with_text text count)
 asked_by-remembers r text (Ok m) count e w = asked_remembers r text m count e w
 asked_by-remembers r text (Err fault) count e w = record { subs = w.subs; calls = w.calls; sorted = w.sorted; few = still_few text count r w }
@@ -232,7 +234,8 @@ there : (m : List (List ℕ × Called)) (k id : List ℕ) (c : Called) (n : ℕ)
     eq_by_cmp text_cmp id k ≡ true → 1 ≤ n
 there m k id c n found before t =
     let same : id ≡ k = key_is name_order id k t in
-    let is : one_if (is_some (at text_cmp m id)) ≡ 1 = ap (λ q. one_if (is_some (at text_cmp m q))) same ∙ ap (λ (o : Option Called). one_if (is_some o)) found in
+    let is : one_if (is_some (at text_cmp m id)) ≡ 1 = ap (λ q. one_if (is_some (at text_cmp m q))) same
+    ∙ ap (λ (o : Option Called). one_if (is_some o)) found in
     omega (arith, before, is)
 
 at_most_one : (w : Option Called) (n : ℕ) → 1 ≤ n → one_if (is_some w) ≤ 0 + n
@@ -275,7 +278,8 @@ all_settled-remember : (r : Revival) (ms : List ServerMessage) (count : List ℕ
 all_settled-remember r [] count w = w
 all_settled-remember r (m ∷ ms) count w = all_settled-remember (settled r m) ms count (settled_remembers r m count w)
 
-released_by-remembers : (before : List (List ℕ)) (r : Revival) (text : List ℕ) (answer : Result ServerMessage MsgFault) (count : List ℕ → ℕ) → Remembers r count →
+released_by-remembers : (before : List (List ℕ)) (r : Revival) (text : List ℕ) (answer : Result ServerMessage MsgFault) (count : List ℕ → ℕ) →
+    Remembers r count →
     Remembers (released_by before r text answer).revival count
 released_by-remembers before r text (Ok m) count w = settled_remembers r m count w
 released_by-remembers before r text (Err fault) count w = w
@@ -290,13 +294,15 @@ released_remembers before r (text ∷ held) count w =
 revived_remembers : (r : Revival) (count : List ℕ → ℕ) → Remembers r count → Remembers (revived r).revival count
 revived_remembers r count w =
     let ready : Remembers (made_ready r) count = record { subs = w.subs; calls = w.calls; sorted = w.sorted; few = w.few } in
-    released_remembers (updated_before r.calls) (all_settled (made_ready r) (left_unsaid r)) r.held count (all_settled-remember (made_ready r) (left_unsaid r) count ready)
+    released_remembers (updated_before r.calls) (all_settled (made_ready r) (left_unsaid r)) r.held count
+    (all_settled-remember (made_ready r) (left_unsaid r) count ready)
 
 passed_remembers : (r : Revival) (text : List ℕ) (m : ServerMessage) (count : List ℕ → ℕ) → Remembers r count → Remembers (passed r text m).revival count
 passed_remembers r text m count w =
     let s = settled_remembers r m count w in
     elim (r.is_revived || is_at_once r.is_known m)
-    as (λ b. Remembers (cond b (let h : Heard = record { revival = gives r m; texts = text ∷ [] } in h) (record { revival = holds r text m; texts = [] })).revival count) [
+    as (λ b. Remembers (cond b (let h : Heard = record { revival = gives r m; texts = text ∷ [] } in h)
+    (record { revival = holds r text m; texts = [] })).revival count) [
       | true ↦ record { subs = s.subs; calls = s.calls; sorted = s.sorted; few = s.few }
       | false ↦ record { subs = w.subs; calls = w.calls; sorted = w.sorted; few = w.few }
     ]
@@ -342,17 +348,20 @@ append_calls id [] ys = omega arith
 append_calls id (x ∷ xs) ys = let rest = append_calls id xs ys in omega (arith, rest)
 
 place_calls : (id : List ℕ) (m : List (ℕ × List ℕ)) (n : ℕ) (text : List ℕ) →
-    calls_in id (map (λ (e : ℕ × List ℕ). e.1) (insert_entry nat_cmp m n text)) ≤ one_if (is_call id (client_answer text)) + calls_in id (map (λ (e : ℕ × List ℕ). e.1) m)
+    calls_in id (map (λ (e : ℕ × List ℕ). e.1) (insert_entry nat_cmp m n text))
+    ≤ one_if (is_call id (client_answer text)) + calls_in id (map (λ (e : ℕ × List ℕ). e.1) m)
 place_calls id [] n text = omega arith
 place_calls id (e ∷ m) n text =
     let rest = place_calls id m n text in
     elim (nat_cmp n e.0)
-    as (λ (o : Ordering). calls_in id (map (λ (e : ℕ × List ℕ). e.1) (match_ordering o ((n, text) ∷ e ∷ m) ((e.0, text) ∷ m) (e ∷ insert_entry nat_cmp m n text))) ≤
+    as (λ (o : Ordering).
+    calls_in id (map (λ (e : ℕ × List ℕ). e.1) (match_ordering o ((n, text) ∷ e ∷ m) ((e.0, text) ∷ m) (e ∷ insert_entry nat_cmp m n text))) ≤
     one_if (is_call id (client_answer text)) + calls_in id (map (λ (e : ℕ × List ℕ). e.1) (e ∷ m)))
     [ Less ↦ omega arith | Equal ↦ omega arith | Greater ↦ omega (arith, rest) ]
 
 placed_calls : (id : List ℕ) (m entries : List (ℕ × List ℕ)) →
-    calls_in id (map (λ (e : ℕ × List ℕ). e.1) (placed m entries)) ≤ calls_in id (map (λ (e : ℕ × List ℕ). e.1) m) + calls_in id (map (λ (e : ℕ × List ℕ). e.1) entries)
+    calls_in id (map (λ (e : ℕ × List ℕ). e.1) (placed m entries))
+    ≤ calls_in id (map (λ (e : ℕ × List ℕ). e.1) m) + calls_in id (map (λ (e : ℕ × List ℕ). e.1) entries)
 placed_calls id m [] = omega arith
 placed_calls id m (e ∷ entries) =
     let rest = placed_calls id (insert_entry nat_cmp m e.0 e.1) entries in
@@ -362,7 +371,8 @@ placed_calls id m (e ∷ entries) =
 ordered_calls : (id : List ℕ) (entries : List (ℕ × List ℕ)) → calls_in id (in_order entries) ≤ calls_in id (map (λ (e : ℕ × List ℕ). e.1) entries)
 ordered_calls id entries = let all = placed_calls id [] entries in omega (arith, all)
 
-no_call : (id : List ℕ) (subs : List (List ℕ × Wanted)) → AllAre IsSub subs → calls_in id (map (λ (e : ℕ × List ℕ). e.1) (map (λ (e : List ℕ × Wanted). (e.1.place, e.1.text)) subs)) ≡ 0
+no_call : (id : List ℕ) (subs : List (List ℕ × Wanted)) → AllAre IsSub subs →
+    calls_in id (map (λ (e : ℕ × List ℕ). e.1) (map (λ (e : List ℕ × Wanted). (e.1.place, e.1.text)) subs)) ≡ 0
 no_call id [] all = refl
 no_call id (e ∷ subs) all =
     let rest = no_call id subs all.1 in
@@ -374,13 +384,15 @@ abbrev entries_in : List ℕ → List (List ℕ × Called) → ℕ
 entries_in id [] = 0
 entries_in id (e ∷ m) = one_if (is_at (text_cmp id) e.0) + entries_in id m
 
-owed_calls : (id : List ℕ) (m : List (List ℕ × Called)) → AllAre IsCall m → calls_in id (map (λ (e : ℕ × List ℕ). e.1) (map (λ (e : List ℕ × Called). (e.1.place, e.1.text)) (owed m))) ≤ entries_in id m
+owed_calls : (id : List ℕ) (m : List (List ℕ × Called)) → AllAre IsCall m →
+    calls_in id (map (λ (e : ℕ × List ℕ). e.1) (map (λ (e : List ℕ × Called). (e.1.place, e.1.text)) (owed m))) ≤ entries_in id m
 owed_calls id [] all = omega arith
 owed_calls id (e ∷ m) all =
     let rest = owed_calls id m all.1 in
     let one : one_if (is_call id (client_answer e.1.text)) ≡ one_if (is_at (text_cmp id) e.0) = ap one_if (all.0 id) in
     elim (not e.1.is_answered)
-    as (λ b. calls_in id (map (λ (e : ℕ × List ℕ). e.1) (map (λ (e : List ℕ × Called). (e.1.place, e.1.text)) (cond b (e ∷ owed m) (owed m)))) ≤ entries_in id (e ∷ m))
+    as (λ b. calls_in id (map (λ (e : ℕ × List ℕ). e.1) (map (λ (e : List ℕ × Called). (e.1.place, e.1.text)) (cond b (e ∷ owed m) (owed m))))
+    ≤ entries_in id (e ∷ m))
     [ true ↦ omega (arith, rest, one) | false ↦ omega (arith, rest) ]
 
 one_entry : (id : List ℕ) (m : List (List ℕ × Called)) → IsSorted text_cmp m → entries_in id m ≤ one_if (is_some (at text_cmp m id))
@@ -399,7 +411,8 @@ connect_back : client_answer connect_text ≡ Ok (client.connect (codes "1") (So
 connect_back = client_text_back (client.connect (codes "1") (Some (codes "1" ∷ []))) tt tt
 
 -- what is said again has a method at most once
-said_again : (id : List ℕ) (r : Revival) (count : List ℕ → ℕ) → Remembers r count → calls_in id (connect_text ∷ sub_texts r.subs ++ call_texts r.calls) ≤ count id
+said_again : (id : List ℕ) (r : Revival) (count : List ℕ → ℕ) → Remembers r count →
+    calls_in id (connect_text ∷ sub_texts r.subs ++ call_texts r.calls) ≤ count id
 said_again id r count w =
     let first : one_if (is_call id (client_answer connect_text)) ≡ 0 = ap (λ answer. one_if (is_call id answer)) connect_back in
     let subs = ordered_calls id (map (λ (e : List ℕ × Wanted). (e.1.place, e.1.text)) r.subs) in

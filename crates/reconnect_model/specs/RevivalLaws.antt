@@ -9,7 +9,9 @@ use Rattle.ddp_messages.specs.ServerMessage as server
 use Rattle.ddp_messages.specs.ServerMessage.{ServerMessage}
 use Rattle.reconnect_model.specs.Revival.{Revival}
 use Rattle.reconnect_model.specs.Saying.{asked, asked_by, said_too, queues, loses}
-use Rattle.reconnect_model.specs.Giving.{documents, noted, settled, all_settled, gives, released_by, released, Heard, left_unsaid, updated_before, made_ready, revived, revived_then, revived_when, holds, passed, is_at_once, is_answered, text_refusal, heard_message, heard_unless, hears}
+use Rattle.reconnect_model.specs.Giving.{documents, noted, settled, all_settled, gives, released_by, released, Heard, left_unsaid, updated_before}
+use Rattle.reconnect_model.specs.Giving.{made_ready, revived, revived_then, revived_when, holds, passed, is_at_once, is_answered, text_refusal}
+use Rattle.reconnect_model.specs.Giving.{heard_message, heard_unless, hears}
 
 -- the documents given are those that the present session sent
 abbrev pub IsShown : Revival → Type 0
@@ -85,7 +87,8 @@ noted_shown r m w revived = ap (λ b. cond b (documents r.given m) r.given) revi
 passed_shown : (r : Revival) (text : List ℕ) (m : ServerMessage) → IsShown r → IsShown (passed r text m).revival
 passed_shown r text m w =
     elim (r.is_revived || is_at_once r.is_known m)
-    as (λ b. IsShown (cond b (let h : Heard = record { revival = gives r m; texts = text ∷ [] } in h) (record { revival = holds r text m; texts = [] })).revival) [
+    as (λ b. IsShown
+    (cond b (let h : Heard = record { revival = gives r m; texts = text ∷ [] } in h) (record { revival = holds r text m; texts = [] })).revival) [
       | true ↦ shown_same r (settled r m) (settled_same r m) w
       | false ↦ w
     ]

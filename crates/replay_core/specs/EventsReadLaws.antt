@@ -11,7 +11,8 @@ use Rattle.world_core.specs.world_model.declared.events.Event.TheVariants as eve
 use Rattle.world_core.specs.world_model.Events.{IsEvent}
 use Rattle.line_parts.specs.Parts.{text_first, is_nil, text_alone, texts_alone, have_few_levels, params_in}
 use Rattle.line_parts.proofs.Forms.{shallow_all}
-use Rattle.world_events.specs.Events.{admin_in, sub_in, call_in, number_in, placed_in, load_at, advance_by, called_in, act_of, asked_in, placed_row, row_in, event_in}
+use Rattle.world_events.specs.Events.{admin_in, sub_in, call_in, number_in, placed_in, load_at, advance_by, called_in, act_of, asked_in, placed_row}
+use Rattle.world_events.specs.Events.{row_in, event_in}
 use Rattle.replay_core.specs.ValuesReadLaws.{from_any, from_one, made_any, made_one}
 use Rattle.replay_core.specs.EventsRead.{AreFit, Follows}
 

@@ -38,4 +38,5 @@ kept_or (Some session) opened = Some session
 -- the text of the next call, where there is a session
 abbrev pub call_text : List ℕ → List Val → Own → Option (List ℕ)
 call_text method params own =
-    option_map (λ session. client_text (client.method (decimal (next_number own)) method params (Some (seed_of (Some session) (next_number own))))) own.client.session
+    option_map (λ session. client_text (client.method (decimal (next_number own)) method params (Some (seed_of (Some session) (next_number own)))))
+    own.client.session

@@ -1,4 +1,5 @@
--- A step that is made again and again until nothing is left to do. Several measures, the least first, say how far that is: a step lowers one of them and leaves all later ones, while it may raise
+-- A step that is made again and again until nothing is left to do. Several measures, the least first, say how far that is: a step lowers one of them
+-- and leaves all later ones, while it may raise
 -- those before it.
 use Rattle.std.specs.Prelude.{◌≡◌, ◌⊎◌, ℕ, zero, suc, ◌<◌, List, [], ◌∷◌, Bool, true}
 

@@ -8,8 +8,10 @@ ghost use Rattle.rounds_model.specs.Rounds.{through, none_in, Acts};
 
 /// A step that leads on comes to where nothing is left to do, by the tower of its measures.
 pub fn towers_end<W>()
-    ensures stuck { (is_kept stuck : W → Bool) (ms : List (W → ℕ)) (f : W → W) → Leads (λ w. is_kept w ≡ true) stuck ms f → (w : W) → is_kept w ≡ true → stuck (tower f ms w) ≡ true }
-    ensures kept { (is_kept stuck : W → Bool) (ms : List (W → ℕ)) (f : W → W) → Leads (λ w. is_kept w ≡ true) stuck ms f → (w : W) → is_kept w ≡ true → is_kept (tower f ms w) ≡ true }
+    ensures stuck { (is_kept stuck : W → Bool) (ms : List (W → ℕ)) (f : W → W) → Leads (λ w. is_kept w ≡ true) stuck ms f → (w : W) →
+        is_kept w ≡ true → stuck (tower f ms w) ≡ true }
+    ensures kept { (is_kept stuck : W → Bool) (ms : List (W → ℕ)) (f : W → W) → Leads (λ w. is_kept w ≡ true) stuck ms f → (w : W) →
+        is_kept w ≡ true → is_kept (tower f ms w) ≡ true }
 {}
 
 /// However many steps it takes until nothing is left to do, they then lead to where the tower ends.

@@ -4,8 +4,11 @@ use Rattle.std.proofs.Common.{ap, ◌∙◌}
 use Rattle.std.specs.Coded.{Coded, code_by}
 use Rattle.value_model.specs.Val.{Val, vals_of, list_of}
 use Rattle.value_model.specs.ValLaws.{list_of-vals_of}
-use Rattle.value_model.specs.Coding.{to, from, back, vals_to, vals_from, vals_back, numbers_to, numbers_from, numbers_back, boolean_to, boolean_by, boolean_back}
-use Rattle.selector_match.specs.Query.{Query, no_clauses, clause, Clause, all_of, any_of, none_of, at_path, Queries, no_queries, query, Predicates, no_predicates, predicate, Predicate, equal, not_equal, among, not_among, greater, at_least, less, at_most, present, sized, has_all, has_element, negated, ElementTest, by_predicates, by_query}
+use Rattle.value_model.specs.Coding.{to, from, back, vals_to, vals_from, vals_back, numbers_to, numbers_from, numbers_back, boolean_to, boolean_by}
+use Rattle.value_model.specs.Coding.{boolean_back}
+use Rattle.selector_match.specs.Query.{Query, no_clauses, clause, Clause, all_of, any_of, none_of, at_path, Queries, no_queries, query, Predicates}
+use Rattle.selector_match.specs.Query.{no_predicates, predicate, Predicate, equal, not_equal, among, not_among, greater, at_least, less, at_most}
+use Rattle.selector_match.specs.Query.{present, sized, has_all, has_element, negated, ElementTest, by_predicates, by_query}
 use base.Stored.{Gv, gnil, gnum, gcons, num}
 use denote.Struct.Codes.{itself}
 

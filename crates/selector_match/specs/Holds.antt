@@ -1,5 +1,6 @@
 -- When a selector holds of a document (query and projection operators, in MongoDB's documentation).
-use Rattle.std.specs.Prelude.{ℕ, Bool, true, false, not, List, [], ◌∷◌, length, map, Option, None, Some, is_some, unwrap_or, codes, if◌then◌else◌, ◌&&◌, ◌||◌, ◌==◌}
+use Rattle.std.specs.Prelude.{ℕ, Bool, true, false, not, List, [], ◌∷◌, length, map, Option, None, Some, is_some, unwrap_or, codes, if◌then◌else◌}
+use Rattle.std.specs.Prelude.{◌&&◌, ◌||◌, ◌==◌}
 use Rattle.std.specs.List.{list_any, list_all, flat_map}
 use Rattle.std.specs.Option.{option_map_or}
 use Rattle.std.specs.declared.cmp.Ordering.{Ordering}
@@ -8,7 +9,9 @@ use Rattle.value_model.specs.Val.{Val, null, text, list, object, Vals, Fields, E
 use Rattle.value_model.specs.Order.{kind, compare}
 use Rattle.value_model.specs.Doc.{put}
 use Rattle.value_model.specs.Branches.{Branch, branches}
-use Rattle.selector_match.specs.Query.{Query, no_clauses, clause, Clause, all_of, any_of, none_of, at_path, Queries, no_queries, query, Predicates, no_predicates, predicate, Predicate, equal, not_equal, among, not_among, greater, at_least, less, at_most, present, sized, has_all, has_element, negated, ElementTest, by_predicates, by_query}
+use Rattle.selector_match.specs.Query.{Query, no_clauses, clause, Clause, all_of, any_of, none_of, at_path, Queries, no_queries, query, Predicates}
+use Rattle.selector_match.specs.Query.{no_predicates, predicate, Predicate, equal, not_equal, among, not_among, greater, at_least, less, at_most}
+use Rattle.selector_match.specs.Query.{present, sized, has_all, has_element, negated, ElementTest, by_predicates, by_query}
 
 -- the list that was reached, if it is one
 abbrev pub list_in : Option Val → Option Vals

@@ -24,7 +24,8 @@ mutual
     no_predicates : Predicates
     predicate : Predicate → Predicates → Predicates
 
-  -- One operator with its operand: in this order `$eq`, `$ne`, `$in`, `$nin`, `$gt`, `$gte`, `$lt`, `$lte`, `$exists`, `$size`, `$all`, `$elemMatch` and `$not`.
+  -- One operator with its operand: in this order `$eq`, `$ne`, `$in`, `$nin`, `$gt`, `$gte`, `$lt`, `$lte`, `$exists`, `$size`, `$all`, `$elemMatch`
+  -- and `$not`.
   pub data Predicate : Type 0 where
     equal : Val → Predicate
     not_equal : Val → Predicate

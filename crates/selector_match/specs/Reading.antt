@@ -1,5 +1,6 @@
 -- How a value is read as a selector (query operators, in MongoDB's documentation). The first fault in reading order is answered, keys by bytes.
-use Rattle.std.specs.Prelude.{◌≡◌, ℕ, Bool, true, false, not, List, [], ◌∷◌, codes, bytes_eq, Option, None, Some, option_map, ok_or, Result, Ok, Err, if◌then◌else◌, ◌&&◌, ◌||◌, ◌==◌, pos}
+use Rattle.std.specs.Prelude.{◌≡◌, ℕ, Bool, true, false, not, List, [], ◌∷◌, codes, bytes_eq, Option, None, Some, option_map, ok_or, Result, Ok, Err}
+use Rattle.std.specs.Prelude.{if◌then◌else◌, ◌&&◌, ◌||◌, ◌==◌, pos}
 use Rattle.std.specs.List.{list_all}
 use Rattle.value_model.specs.Val.{Val, null, boolean, int, list, object, user, Vals, no_vals, val, Fields, no_fields, field, list_of}
 use Rattle.value_model.specs.Branches.{path_of}
@@ -12,7 +13,9 @@ use Rattle.selector_match.specs.declared.names.PlainName.{PlainName}
 use Rattle.selector_match.specs.declared.names.PlainName.TheVariants as plain
 use Rattle.selector_match.specs.declared.names.Connective.{Connective}
 use Rattle.selector_match.specs.declared.names.Connective.TheVariants as connective
-use Rattle.selector_match.specs.Query.{Query, no_clauses, clause, Clause, all_of, any_of, none_of, at_path, Queries, no_queries, query, Predicates, no_predicates, predicate, Predicate, equal, not_equal, among, not_among, greater, at_least, less, at_most, present, sized, has_all, has_element, negated, ElementTest, by_predicates, by_query}
+use Rattle.selector_match.specs.Query.{Query, no_clauses, clause, Clause, all_of, any_of, none_of, at_path, Queries, no_queries, query, Predicates}
+use Rattle.selector_match.specs.Query.{no_predicates, predicate, Predicate, equal, not_equal, among, not_among, greater, at_least, less, at_most}
+use Rattle.selector_match.specs.Query.{present, sized, has_all, has_element, negated, ElementTest, by_predicates, by_query}
 
 abbrev pub Reading : Type 0 → Type 0
 Reading X = Result X SelectorFault
@@ -167,7 +170,8 @@ abbrev mutual
   predicates_reading no_fields = Ok no_predicates
   predicates_reading (field n v fs) = with_both predicate (predicate_made (operator_named n) v (element_operand v) (set_operand v)) (predicates_reading fs)
 
-  -- The operand of `$elemMatch`, which is an object: a set of operators where all its names begin with `$`, or a selector, in which `_id` is a name like any other.
+  -- The operand of `$elemMatch`, which is an object: a set of operators where all its names begin with `$`, or a selector, in which `_id` is a name
+  -- like any other.
   pub element_operand : Val → Reading ElementTest
   element_operand (object fs) = if is_operator_set fs then made by_predicates (predicates_reading fs) else made by_query (clauses_reading fs)
   element_operand _ = Err fault.BadOperand

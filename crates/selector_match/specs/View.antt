@@ -1,7 +1,9 @@
 -- What contracts see of a selector's parts.
 use Rattle.std.specs.Prelude.{List, map}
 use Rattle.ejson_value.specs.View.{view}
-use Rattle.selector_match.specs.Query.{Query, Clause, all_of, any_of, none_of, at_path, Predicate, equal, not_equal, among, not_among, greater, at_least, less, at_most, present, sized, has_all, has_element, negated, ElementTest, by_predicates, by_query, Predicates, query_of, predicates_of}
+use Rattle.selector_match.specs.Query.{Query, Clause, all_of, any_of, none_of, at_path, Predicate, equal, not_equal, among, not_among, greater}
+use Rattle.selector_match.specs.Query.{at_least, less, at_most, present, sized, has_all, has_element, negated, ElementTest, by_predicates, by_query}
+use Rattle.selector_match.specs.Query.{Predicates, query_of, predicates_of}
 use Rattle.selector_match.specs.Named.{has_id}
 use Rattle.selector_match.specs.declared.selector.Condition.{Condition}
 use Rattle.selector_match.specs.declared.selector.Condition.TheVariants as condition

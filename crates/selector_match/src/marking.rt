@@ -102,7 +102,8 @@ fn mark_after(
 )
     requires rising { IsRising (views rising.now) }
     requires as_many { length marks.old ≡ length rising.now }
-    ensures { Marked (views rising.now) (λ v. met v (branches (part.now ∷ more.now) (option_map (λ w. view w.now) reached.entry) from_list)) marks.old marks.new }
+    ensures { Marked (views rising.now) (λ v. met v (branches (part.now ∷ more.now) (option_map (λ w. view w.now) reached.entry) from_list))
+        marks.old marks.new }
 {
     let Some(value) = reached else {
         return mark_nothing(rising, from_list, marks);
@@ -128,7 +129,8 @@ fn mark_after(
 fn mark_at_place(rising: &[Value], items: &Items, part: &Part, more: &[Part], marks: &mut [bool])
     requires rising { IsRising (views rising.now) }
     requires as_many { length marks.old ≡ length rising.now }
-    ensures { Marked (views rising.now) (λ v. met v (option_map_or (λ w. branches more.now (Some w) true) (element_at (vals_of items.now) part.now) [])) marks.old marks.new }
+    ensures { Marked (views rising.now)
+        (λ v. met v (option_map_or (λ w. branches more.now (Some w) true) (element_at (vals_of items.now) part.now) [])) marks.old marks.new }
 {
     let Some(place) = part.place() else {
         return;
@@ -144,7 +146,8 @@ fn mark_at_place(rising: &[Value], items: &Items, part: &Part, more: &[Part], ma
 fn mark_in_elements(rising: &[Value], items: &Items, part: &Part, more: &[Part], marks: &mut [bool])
     requires rising { IsRising (views rising.now) }
     requires as_many { length marks.old ≡ length rising.now }
-    ensures { Marked (views rising.now) (λ v. met v (flat_map (λ w. if_object (λ fs. branches more.now (field_of fs part.now) false) w) items.now)) marks.old marks.new }
+    ensures { Marked (views rising.now) (λ v. met v (flat_map (λ w. if_object (λ fs. branches more.now (field_of fs part.now) false) w) items.now))
+        marks.old marks.new }
 {
     for item in items.as_slice() {
         mark_in_element(rising, item, part, more, marks);

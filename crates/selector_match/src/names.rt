@@ -1,6 +1,7 @@
 //! The names of operators.
 ghost use Rattle.std.specs.Prelude.{◌≡◌};
-ghost use Rattle.selector_match.specs.Reading.{begins_with_dollar, connective_named, plain_named, operator_named, has_operator, has_plain_name, is_operator_set, is_literal};
+ghost use Rattle.selector_match.specs.Reading.{begins_with_dollar, connective_named, plain_named, operator_named, has_operator, has_plain_name};
+ghost use Rattle.selector_match.specs.Reading.{is_operator_set, is_literal};
 ghost use Rattle.value_model.specs.Val.{fields_of};
 ghost use Rattle.ejson_value.specs.View.{view};
 

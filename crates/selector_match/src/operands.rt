@@ -62,7 +62,8 @@ fn in_order(values: Vec<Value>) -> Vec<Value>
 // The place of the value that equals what was reached, found by halves.
 pub(crate) fn place_of(rising: &[Value], reached: Reached) -> Option<usize>
     requires { IsRising (views rising.now) }
-    ensures { MatchOption result (list_any (λ v. equals v (reached_view reached.entry)) (views rising.now) ≡ false) (λ k. (k < length rising.now) × (slice_index_or (views rising.now) k null ≡ unwrap_or (reached_view reached.entry) null)) }
+    ensures { MatchOption result (list_any (λ v. equals v (reached_view reached.entry)) (views rising.now) ≡ false)
+        (λ k. (k < length rising.now) × (slice_index_or (views rising.now) k null ≡ unwrap_or (reached_view reached.entry) null)) }
 {
     match rising.binary_search_by(|value| order_from(value, reached)) {
         Ok(place) => Some(place),

@@ -6,7 +6,10 @@ ghost use Rattle.value_model.specs.Val.{text, fields_of, vals_of};
 ghost use Rattle.value_model.specs.Order.{text_cmp};
 ghost use Rattle.ejson_value.specs.View.{view, views};
 ghost use Rattle.selector_match.specs.View.{clause_view, plain_view, predicate_view};
-ghost use Rattle.selector_match.specs.Reading.{Gives, reading, clauses_reading, clause_made, path_reading, joined, queries_reading, more_queries_reading, condition_reading, predicates_reading, plain_made, predicate_made, operator_named, literal, is_literal, list_operand, compared_operand, boolean_operand, size_operand, literals_operand, element_operand, set_operand, test_reading};
+ghost use Rattle.selector_match.specs.Reading.{Gives, reading, clauses_reading, clause_made, path_reading, joined, queries_reading};
+ghost use Rattle.selector_match.specs.Reading.{more_queries_reading, condition_reading, predicates_reading, plain_made, predicate_made};
+ghost use Rattle.selector_match.specs.Reading.{operator_named, literal, is_literal, list_operand, compared_operand, boolean_operand, size_operand};
+ghost use Rattle.selector_match.specs.Reading.{literals_operand, element_operand, set_operand, test_reading};
 
 use crate::asking::is_id;
 use crate::fault::SelectorFault;
@@ -298,7 +301,8 @@ fn read_operators(alloc: Global, fields: &Doc) -> Result<Operators, SelectorFaul
 
 #[cycle(reading)]
 fn read_operator(alloc: Global, name: &Text, value: &Value) -> Result<Operator, SelectorFault>
-    ensures { Gives predicate_view result (predicate_made (operator_named name.now) (view value.now) (element_operand (view value.now)) (set_operand (view value.now))) }
+    ensures { Gives predicate_view result
+        (predicate_made (operator_named name.now) (view value.now) (element_operand (view value.now)) (set_operand (view value.now))) }
 {
     let Some(name) = operator_named(name) else {
         return Err(SelectorFault::UnknownOperator);

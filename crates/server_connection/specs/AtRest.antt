@@ -16,7 +16,8 @@ abbrev pub AreDone : List Method → Type 0
 AreDone [] = Unit {0}
 AreDone (m ∷ ms) = IsDone m.phase × AreDone ms
 
--- Each message was handled and none of its calls blocks. Each call was refused, or has finished and was told `updated`. Each live subscription is loaded, and shows all that the session
+-- Each message was handled and none of its calls blocks. Each call was refused, or has finished and was told `updated`.
+-- Each live subscription is loaded, and shows all that the session
 -- knows of the history. Each text was taken out to be sent
 pub record IsAtRest (h : AHeld) : Type 0 where
   pub handled : h.session.carried.waiting ≡ []

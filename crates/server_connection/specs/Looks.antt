@@ -64,7 +64,8 @@ HadNoRoomFor app list k s = IfSome s.carried.own.blocking (λ (call : Blocking).
 
 -- ---- what is kept
 
--- The session is not closed, of the store's application, and has the caller's number. It knows no more of the history than the pass. The list has each call that the caller made, which is one of the session's
+-- The session is not closed, of the store's application, and has the caller's number. It knows no more of the history than the pass.
+-- The list has each call that the caller made, which is one of the session's
 pub record IsServed (app : App) (caller : ACaller) (pass : List Entry) (h : AHeld) : Type 0 where
   pub of_app : h.session.carried.app ≡ app
   pub number : h.session.carried.number ≡ caller.number

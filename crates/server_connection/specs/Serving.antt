@@ -72,7 +72,8 @@ module _ {S : Type 0} (Means : Texts → Texts → S → Type 0) (Rests : S → 
   ArePolls before (call ∷ calls) = ArePolls (before ++ call ∷ []) calls
 
   module _ {L : Type 0} (steps : L → Call → L → Type 0) (faults : L → ℕ) where
-    -- The calls so far. The session stands for the texts that were heard, but for the one that is held, and for those that were said, with the one that was handed back
+    -- The calls so far. The session stands for the texts that were heard, but for the one that is held, and for those that were said, with the one
+    -- that was handed back
     pub record Serving (first link : L) (s : S) (d : Desk) : Type 0 where
       pub calls : List Call
       pub leads : Leads steps first calls link

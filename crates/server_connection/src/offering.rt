@@ -47,7 +47,8 @@ fn offer<N: StoreName, L: Link>(session: &mut HeldSession<N>, desk: &mut Desk, l
     ensures stays { Stays session.old session.new }
     ensures nothing { result ≡ said.Nothing → (desk.new.back ≡ None) × (session.new.session.carried.outbox ≡ []) }
     ensures waits { result ≡ said.Waits → desk.new.refused ≡ true }
-    ensures gone { result ≡ said.Gone → (desk.new.refused ≡ true) × Closes StandsFor IsAtRest L.steps L.faults link.old session.old desk.old link.new session.new desk.new }
+    ensures gone { result ≡ said.Gone →
+        (desk.new.refused ≡ true) × Closes StandsFor IsAtRest L.steps L.faults link.old session.old desk.old link.new session.new desk.new }
     ensures broken { result ≡ said.Broken → L.faults link.old < L.faults link.new }
     ensures grows { L.faults link.old ≤ L.faults link.new }
 {
@@ -81,7 +82,8 @@ pub(crate) fn offer_all<R: Wait, N: StoreName, L: Link>(
     ensures stays { Stays session.old session.new }
     ensures all { IfOk result (λ all. all ≡ true → (desk.new.back ≡ None) × (session.new.session.carried.outbox ≡ [])) }
     ensures waits { IfOk result (λ all. all ≡ false → desk.new.refused ≡ true) }
-    ensures closed { result ≡ Err ended.PeerClosed → (desk.new.refused ≡ true) × Closes StandsFor IsAtRest L.steps L.faults link.old session.old desk.old link.new session.new desk.new }
+    ensures closed { result ≡ Err ended.PeerClosed →
+        (desk.new.refused ≡ true) × Closes StandsFor IsAtRest L.steps L.faults link.old session.old desk.old link.new session.new desk.new }
     ensures grows { L.faults link.old ≤ L.faults link.new }
     ensures cause { IfErr result (StopsOffer (L.faults link.old) (L.faults link.new)) }
 {

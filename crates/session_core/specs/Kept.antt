@@ -35,14 +35,16 @@ seen a = record {
   dropped = a.dropped;
 }
 
--- After so many items no more subscriptions were opened and no more calls handled; the call that blocks runs; and a fence is armed for each call that has finished and is to be told.
+-- After so many items no more subscriptions were opened and no more calls handled; the call that blocks runs; and a fence is armed for each call
+-- that has finished and is to be told.
 pub record IsCounted (items : ℕ) (st : State) (fences : List (ℕ × ℕ)) : Type 0 where
   pub opened : st.opened ≤ items
   pub calls : length st.methods ≤ items
   pub runs : IfSome st.blocking (λ b. phase_at b.k st.methods ≡ Some running)
   pub armed : (k : ℕ) → at nat_cmp fences k ≡ armed_at k st.methods
 
--- Nothing that is counted passes what there are items and texts for; each message that waits has its text's place; and the queue and the calls agree on what blocks.
+-- Nothing that is counted passes what there are items and texts for; each message that waits has its text's place; and the queue and the calls agree
+-- on what blocks.
 pub record IsKept (a : Inner) : Type 0 where
   pub limit : a.queue.limit ≡ max_waiting
   pub items : length a.parts.journal.lines ≤ max_items

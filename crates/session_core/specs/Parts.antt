@@ -39,7 +39,8 @@ pub record AreSame (old new : Parts) : Type 0 where
   pub counts : new.journal.counts ≡ old.journal.counts
   pub outbox : new.outbox.items ≡ old.outbox.items
 
--- the texts of an item that makes this of subscriptions and calls: of what is shown otherwise, then these words, then an `updated` for each call whose fence is open then
+-- the texts of an item that makes this of subscriptions and calls: of what is shown otherwise, then these words, then an `updated` for each call
+-- whose fence is open then
 abbrev pub gained_texts : State → List (List ℕ) → KeptDocs → KeptDocs → List (List ℕ)
 gained_texts state words old new =
     map server_text (map about (difference (merged old) (merged new))) ++ (words ++ map updated_text (all_told state.subs state.methods))
@@ -47,7 +48,8 @@ gained_texts state words old new =
 abbrev pub line_of : Addition → Line
 line_of a = record { item = a.item; id = a.id }
 
--- the item stands behind the journal, its texts behind the outbox; each call is told whose fence is open, and its fence is armed no longer; the box is one after the call of the merge
+-- the item stands behind the journal, its texts behind the outbox; each call is told whose fence is open, and its fence is armed no longer; the box
+-- is one after the call of the merge
 pub record HasGained (a : Addition) (call : Call Key Entries) (state : State) (old new : Parts) : Type 0 where
   pub lines : new.journal.lines ≡ old.journal.lines ++ line_of a ∷ []
   pub counts : new.journal.counts ≡ old.journal.counts ++ length (gained_texts state a.words.items old.shown.kept new.shown.kept) ∷ []

@@ -108,7 +108,8 @@ impl Asked<'_> {
 
     // The subscription is opened.
     fn open(&self, shown_id: Text, made: Sub) -> Addition
-        ensures { (m : ClientMessage) (cursors : ACursors) → id_of m ≡ shown_id → made.observer ≡ None → as_live made ≡ opening (state_in self.now) (state_in self.now).opened m cursors →
+        ensures { (m : ClientMessage) (cursors : ACursors) → id_of m ≡ shown_id → made.observer ≡ None →
+            as_live made ≡ opening (state_in self.now) (state_in self.now).opened m cursors →
             Adds self.now (item.subscribe (state_in self.now).opened m cursors) result }
     {
         Addition {
@@ -233,7 +234,8 @@ impl Asked<'_> {
         given: &Option<Value>,
     ) -> Result<Addition, Mem>
         ensures { IfOk result (λ a. let k = length (state_in self.now).methods in
-            Adds self.now (item.call k (calls id.now name.now params.now (option_map view given.now)) (seed_or self.now.number k (option_map view given.now))) a) }
+            Adds self.now
+            (item.call k (calls id.now name.now params.now (option_map view given.now)) (seed_or self.now.number k (option_map view given.now))) a) }
     {
         let kept_id = id.copy()?;
         let shown_id = id.copy()?;

@@ -45,7 +45,8 @@ module _ (number : ℕ) (C : List Moment) where
       let past2 = call_of C st j ∷ past in
       let st2 = after st j in
       ap (λ (ms : List ServerMessage). messages_of C number past st j ++ ms) (out_from-append past2 st2 items i)
-      ∙ sym (append_assoc (messages_of C number past st j) (out_from C number past2 st2 items) (messages_of C number (calls_from C past2 st2 items) (state_from st2 items) i))
+      ∙ sym (append_assoc (messages_of C number past st j) (out_from C number past2 st2 items)
+      (messages_of C number (calls_from C past2 st2 items) (state_from st2 items) i))
 
   pub out-append : (items : List Item) (i : Item) →
       out C number (items ++ i ∷ []) ≡ out C number items ++ messages_of C number (calls_of C items) (state_of items) i

@@ -60,16 +60,19 @@ pub call_number : (app : App) (number : ℕ) (st : State) (m : ClientMessage) (k
     item_for app number st m ≡ item.call k message seed → k ≡ length st.methods
 call_number app number st (client.method id name params s) k message seed e =
     elim (is_some (method app name)) as
-    (λ b. cond b (item.call (length st.methods) (client.method id name params s) (seed_or number (length st.methods) s)) (item.unknown (client.method id name params s)) ≡ item.call k message seed → k ≡ length st.methods) [
+    (λ b. cond b (item.call (length st.methods) (client.method id name params s) (seed_or number (length st.methods) s))
+    (item.unknown (client.method id name params s)) ≡ item.call k message seed → k ≡ length st.methods) [
       | true ↦ λ is. cc is
       | false ↦ λ is. cc is
     ] e
 call_number app number st (client.sub id name params) k message seed e =
     elim (is_some (sub_named id st.subs)) as
-    (λ b. cond b (item.same (client.sub id name params)) (cond (is_crowded st.subs) (item.nosub (client.sub id name params) (Some fault.TooMany)) (opened_by st.opened (client.sub id name params) (making app name params))) ≡ item.call k message seed → k ≡ length st.methods) [
+    (λ b. cond b (item.same (client.sub id name params)) (cond (is_crowded st.subs) (item.nosub (client.sub id name params) (Some fault.TooMany))
+    (opened_by st.opened (client.sub id name params) (making app name params))) ≡ item.call k message seed → k ≡ length st.methods) [
       | true ↦ λ is. cc is
       | false ↦ elim (is_crowded st.subs) as
-          (λ b. cond b (item.nosub (client.sub id name params) (Some fault.TooMany)) (opened_by st.opened (client.sub id name params) (making app name params)) ≡ item.call k message seed → k ≡ length st.methods) [
+          (λ b. cond b (item.nosub (client.sub id name params) (Some fault.TooMany))
+          (opened_by st.opened (client.sub id name params) (making app name params)) ≡ item.call k message seed → k ≡ length st.methods) [
             | true ↦ λ is. cc is
             | false ↦ λ is. absurd (call_none (client.sub id name params) (making app name params) st.opened k message seed is)
           ]

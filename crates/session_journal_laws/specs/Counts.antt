@@ -12,7 +12,8 @@ use Rattle.session_model.specs.Counting.{results, updateds, method_by, is_runnin
 abbrev pub OwnCounts : List Moment → ℕ → List ℕ → State → Item → Type 0
 OwnCounts C number id st i =
     (method_by id i + number_in is_running id st.methods ≡ results id (own_messages C number st i) + number_in is_running id (own_after st i).methods)
-    × (results id (own_messages C number st i) + number_in is_armed id st.methods ≡ updateds id (own_messages C number st i) + number_in is_armed id (own_after st i).methods)
+    × (results id (own_messages C number st i) + number_in is_armed id st.methods
+    ≡ updateds id (own_messages C number st i) + number_in is_armed id (own_after st i).methods)
 
 abbrev pub Counts : List ℕ → ℕ → State → List ServerMessage → State → Type 0
 Counts id n st ms st2 =

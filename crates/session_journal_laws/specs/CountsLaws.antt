@@ -16,9 +16,11 @@ use Rattle.session_model.specs.Methods.{Phase, running, refused, finished, told,
 use Rattle.session_model.specs.State.{State, started, own_after, after, state_from, state_of}
 use Rattle.session_model.specs.Moments.{Moment, end_at}
 use Rattle.session_model.specs.Shown.{Calls, call_of, merge_of, difference}
-use Rattle.session_model.specs.Out.{about, ready, updated, result_by, results_by, history_full, refused_with, all_refused_with, own_messages, told_after, words_of, messages_of, out_from, out}
+use Rattle.session_model.specs.Out.{about, ready, updated, result_by, results_by, history_full, refused_with, all_refused_with, own_messages}
+use Rattle.session_model.specs.Out.{told_after, words_of, messages_of, out_from, out}
 use Rattle.session_model.specs.Fits.{CanFollow, FitsFrom, Fits}
-use Rattle.session_model.specs.Counting.{one_if, count, result_in, updated_in, total, results, updateds, method_by, methods_handled, is_running, is_armed, in_phase, number_in}
+use Rattle.session_model.specs.Counting.{one_if, count, result_in, updated_in, total, results, updateds, method_by, methods_handled, is_running}
+use Rattle.session_model.specs.Counting.{is_armed, in_phase, number_in}
 use Rattle.session_journal_laws.specs.Blocking.{BlocksLast}
 use Rattle.session_journal_laws.specs.BlockingLaws.{last_after, refused_runs}
 use Rattle.session_journal_laws.specs.Counts.{Counts, OwnCounts}
@@ -173,7 +175,19 @@ item_counts app number C id past st i f l =
     let rs = total-append (result_in id) (own_messages C number st i) (map updated ts) in
     let us = total-append (updated_in id) (own_messages C number st i) (map updated ts) in (
       omega (arith, c.0, rd, rs, no_results id ds, updated_results id ts, fire_running id own.subs own.methods),
-      omega (arith, c.1, rd, ud, rs, us, no_results id ds, no_updateds id ds, updated_results id ts, updated_updateds id ts, fire_armed id own.subs own.methods),
+      omega (
+        arith,
+        c.1,
+        rd,
+        ud,
+        rs,
+        us,
+        no_results id ds,
+        no_updateds id ds,
+        updated_results id ts,
+        updated_updateds id ts,
+        fire_armed id own.subs own.methods,
+      ),
     )
 
 pub items_count : (app : App) (number : ℕ) (C : List Moment) (id : List ℕ) (past : Calls) (st : State) (items : List Item) →

@@ -1,4 +1,5 @@
--- From the `updated` of a call on, no subscription shows less than what the call wrote: one that was live then is as far, and one that is opened later has a floor as high.
+-- From the `updated` of a call on, no subscription shows less than what the call wrote: one that was live then is as far, and one that is opened
+-- later has a floor as high.
 use Rattle.std.specs.Prelude.{◌≡◌, ℕ, ◌≤◌, List, [], ◌∷◌, false}
 use Rattle.session_model.specs.Subscriptions.{Live, is_open}
 use Rattle.session_model.specs.Methods.{Phase, finished, told, Method}

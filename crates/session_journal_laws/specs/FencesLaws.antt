@@ -1,5 +1,7 @@
--- Laws: From the `updated` of a call on, no subscription shows less than what the call wrote: one that was live then is as far, and one that is opened later has a floor as high.
-use Rattle.std.specs.Prelude.{◌≡◌, ℕ, zero, suc, ◌+◌, ◌≤◌, ◌==◌, max, nat_le, is_none, ◌&&◌, List, [], ◌∷◌, ◌++◌, true, false, cond, not, Option, Some, None, refl}
+-- Laws: From the `updated` of a call on, no subscription shows less than what the call wrote: one that was live then is as far, and one that is
+-- opened later has a floor as high.
+use Rattle.std.specs.Prelude.{◌≡◌, ℕ, zero, suc, ◌+◌, ◌≤◌, ◌==◌, max, nat_le, is_none, ◌&&◌, List, [], ◌∷◌, ◌++◌, true, false, cond, not, Option}
+use Rattle.std.specs.Prelude.{Some, None, refl}
 use Rattle.std.proofs.Common.{arith}
 use Rattle.std.proofs.lemmas.Bool.{leb-true}
 use Rattle.app_model.specs.App.{App}
@@ -36,7 +38,8 @@ far_loaded : (place s n : ℕ) (ls : List Live) → may_load s n ls ≡ true →
 far_loaded place s n [] f a = tt
 far_loaded place s n (l ∷ ls) f a =
     elim (s == l.sub) as
-    (λ b. cond b (is_none l.cursor && nat_le l.floor n) (may_load s n ls) ≡ true → AreFar place (cond b (record l { cursor = Some n } ∷ ls) (l ∷ loaded s n ls))) [
+    (λ b. cond b (is_none l.cursor && nat_le l.floor n) (may_load s n ls) ≡ true →
+    AreFar place (cond b (record l { cursor = Some n } ∷ ls) (l ∷ loaded s n ls))) [
       | true ↦ λ g. (unloaded place n l.floor l.cursor g a.0, a.1)
       | false ↦ λ g. (a.0, far_loaded place s n ls g a.1)
     ] f

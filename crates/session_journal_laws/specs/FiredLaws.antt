@@ -1,5 +1,6 @@
 -- The fences that stay armed are those of the calls that are still to be told.
-use Rattle.std.specs.Prelude.{◌≡◌, ℕ, zero, suc, nat_le, List, [], ◌∷◌, ◌++◌, Bool, true, false, cond, not, ◌&&◌, ◌||◌, Option, Some, None, is_none, option_and_then, refl}
+use Rattle.std.specs.Prelude.{◌≡◌, ℕ, zero, suc, nat_le, List, [], ◌∷◌, ◌++◌, Bool, true, false, cond, not, ◌&&◌, ◌||◌, Option, Some, None, is_none}
+use Rattle.std.specs.Prelude.{option_and_then, refl}
 use Rattle.std.proofs.Common.{ap, sym, subst, ◌∙◌, arith}
 use Rattle.std.specs.Ordering.{nat_cmp, eq_by_cmp}
 use Rattle.std.proofs.lemmas.Bool.{le-leb, leb-true, leb-false}
@@ -60,10 +61,13 @@ open_with place o (l ∷ ls) = by (λ a. open_with place a ls) l.cursor refl
         l.cursor ≡ c → (is_reached o place && (past place l.cursor && is_open place ls)) ≡
         (not (is_none l.cursor || is_opening ls) && is_reached (least_with (lesser o l.cursor) ls) place)
     by rest None e = subst
-        (λ c. (is_reached o place && (past place c && is_open place ls)) ≡ (not (is_none c || is_opening ls) && is_reached (least_with (lesser o c) ls) place)) (sym e) (with_false (is_reached o place))
+        (λ c. (is_reached o place && (past place c && is_open place ls))
+        ≡ (not (is_none c || is_opening ls) && is_reached (least_with (lesser o c) ls) place)) (sym e) (with_false (is_reached o place))
     by rest (Some n) e = subst
-        (λ c. (is_reached o place && (past place c && is_open place ls)) ≡ (not (is_none c || is_opening ls) && is_reached (least_with (lesser o c) ls) place)) (sym e)
-        (assoc (is_reached o place) (nat_le place n) (is_open place ls) ∙ (ap (λ b. b && is_open place ls) (sym (lesser_is o n place)) ∙ rest (lesser o (Some n))))
+        (λ c. (is_reached o place && (past place c && is_open place ls))
+        ≡ (not (is_none c || is_opening ls) && is_reached (least_with (lesser o c) ls) place)) (sym e)
+        (assoc (is_reached o place) (nat_le place n) (is_open place ls)
+        ∙ (ap (λ b. b && is_open place ls) (sym (lesser_is o n place)) ∙ rest (lesser o (Some n))))
 
 pub open_is : (place : ℕ) (ls : List Live) → is_open place ls ≡ (not (is_opening ls) && is_reached (least_with None ls) place)
 open_is place ls = open_with place None ls
@@ -93,9 +97,11 @@ turned_armed armed n end q ms s h there k =
     at-set number_order armed n (Some end) k s
     ∙ elim (eq_by_cmp nat_cmp k n) as (λ b. eq_by_cmp nat_cmp k n ≡ b → cond b (Some end) (at nat_cmp armed k) ≡ armed_at k (turned n (finished end) ms)) [
       | true ↦ λ e. sym
-          (ap (λ x. armed_at x (turned n (finished end) ms)) (key_is number_order k n e) ∙ ap (option_and_then end_of) (turned_here n (finished end) q ms there))
+          (ap (λ x. armed_at x (turned n (finished end) ms)) (key_is number_order k n e)
+          ∙ ap (option_and_then end_of) (turned_here n (finished end) q ms there))
       | false ↦ λ e. h k
-          ∙ sym (ap (option_and_then end_of) (turned_other k n (finished end) ms (λ same. differ (sym (eq_by_cmp-self number_order n) ∙ (ap (λ x. eq_by_cmp nat_cmp x n) (sym same) ∙ e)))))
+          ∙ sym (ap (option_and_then end_of) (turned_other k n (finished end) ms
+          (λ same. differ (sym (eq_by_cmp-self number_order n) ∙ (ap (λ x. eq_by_cmp nat_cmp x n) (sym same) ∙ e)))))
     ] refl
   where
     differ : true ≡ false → ⊥

@@ -61,13 +61,15 @@ floors_stay items i (l ∷ ls) h = (floor_stays items i l h.0, floors_stay items
 floors_loaded : (items : List Item) (s place : ℕ) (ls : List Live) → HaveFloors items ls → HaveFloors items (loaded s place ls)
 floors_loaded items s place [] h = tt
 floors_loaded items s place (l ∷ ls) h = elim (s == l.sub) as
-    (λ b. HaveFloors items (cond b (record l { cursor = Some place } ∷ ls) (l ∷ loaded s place ls))) [ true ↦ h | false ↦ (h.0, floors_loaded items s place ls h.1) ]
+    (λ b. HaveFloors items (cond b (record l { cursor = Some place } ∷ ls) (l ∷ loaded s place ls)))
+    [ true ↦ h | false ↦ (h.0, floors_loaded items s place ls h.1) ]
 
 floors_advanced : (items : List Item) (s count : ℕ) (ls : List Live) → HaveFloors items ls → HaveFloors items (advanced s count ls)
 floors_advanced items s count [] h = tt
 floors_advanced items s count (l ∷ ls) h =
     elim (s == l.sub) as
-    (λ b. HaveFloors items (cond b (record l { cursor = moved count l.cursor } ∷ ls) (l ∷ advanced s count ls))) [ true ↦ h | false ↦ (h.0, floors_advanced items s count ls h.1) ]
+    (λ b. HaveFloors items (cond b (record l { cursor = moved count l.cursor } ∷ ls) (l ∷ advanced s count ls)))
+    [ true ↦ h | false ↦ (h.0, floors_advanced items s count ls h.1) ]
 
 floors_closed : (items : List Item) (s : ℕ) (ls : List Live) → HaveFloors items ls → HaveFloors items (closed s ls)
 floors_closed items s [] h = tt

@@ -33,10 +33,12 @@ pub open_is : (app : App) (number : ℕ) (st : State) (m : ClientMessage) (s : �
 open_is app number st (client.sub id name params) s message cursors e =
     let m = client.sub id name params in
     elim (is_some (sub_named id st.subs)) as
-    (λ b. is_some (sub_named id st.subs) ≡ b → cond b (item.same m) (cond (is_crowded st.subs) (item.nosub m (Some fault.TooMany)) (opened_by st.opened m (making app name params))) ≡ item.subscribe s message cursors → IsOpened app st s message cursors) [
+    (λ b. is_some (sub_named id st.subs) ≡ b → cond b (item.same m) (cond (is_crowded st.subs) (item.nosub m (Some fault.TooMany))
+    (opened_by st.opened m (making app name params))) ≡ item.subscribe s message cursors → IsOpened app st s message cursors) [
       | true ↦ λ new is. absurd (cc is)
       | false ↦ λ new. elim (is_crowded st.subs) as
-          (λ b. is_crowded st.subs ≡ b → cond b (item.nosub m (Some fault.TooMany)) (opened_by st.opened m (making app name params)) ≡ item.subscribe s message cursors → IsOpened app st s message cursors) [
+          (λ b. is_crowded st.subs ≡ b → cond b (item.nosub m (Some fault.TooMany)) (opened_by st.opened m (making app name params))
+          ≡ item.subscribe s message cursors → IsOpened app st s message cursors) [
             | true ↦ λ room is. absurd (cc is)
             | false ↦ λ room is.
                 let p = opened_made m (making app name params) st.opened s message cursors is in
@@ -46,7 +48,8 @@ open_is app number st (client.sub id name params) s message cursors e =
 open_is app number st (client.unsub id) s message cursors e = absurd (closed_no_open (client.unsub id) (sub_named id st.subs) s message cursors e)
 open_is app number st (client.method id name params seed) s message cursors e =
     elim (is_some (method app name)) as
-    (λ b. cond b (item.call (length st.methods) (client.method id name params seed) (seed_or number (length st.methods) seed)) (item.unknown (client.method id name params seed)) ≡ item.subscribe s message cursors → IsOpened app st s message cursors) [
+    (λ b. cond b (item.call (length st.methods) (client.method id name params seed) (seed_or number (length st.methods) seed))
+    (item.unknown (client.method id name params seed)) ≡ item.subscribe s message cursors → IsOpened app st s message cursors) [
       | true ↦ λ is. absurd (cc is)
       | false ↦ λ is. absurd (cc is)
     ] e
@@ -80,17 +83,20 @@ close_is app number st (client.unsub id) s message e =
 close_is app number st (client.sub id name params) s message e =
     let m = client.sub id name params in
     elim (is_some (sub_named id st.subs)) as
-    (λ b. cond b (item.same m) (cond (is_crowded st.subs) (item.nosub m (Some fault.TooMany)) (opened_by st.opened m (making app name params))) ≡ item.close s message → sub_named (id_of message) st.subs ≡ Some s) [
+    (λ b. cond b (item.same m) (cond (is_crowded st.subs) (item.nosub m (Some fault.TooMany)) (opened_by st.opened m (making app name params)))
+    ≡ item.close s message → sub_named (id_of message) st.subs ≡ Some s) [
       | true ↦ λ is. absurd (cc is)
       | false ↦ elim (is_crowded st.subs) as
-          (λ b. cond b (item.nosub m (Some fault.TooMany)) (opened_by st.opened m (making app name params)) ≡ item.close s message → sub_named (id_of message) st.subs ≡ Some s) [
+          (λ b. cond b (item.nosub m (Some fault.TooMany)) (opened_by st.opened m (making app name params)) ≡ item.close s message →
+          sub_named (id_of message) st.subs ≡ Some s) [
             | true ↦ λ is. absurd (cc is)
             | false ↦ λ is. absurd (opened_no_close m (making app name params) st.opened s message is)
           ]
     ] e
 close_is app number st (client.method id name params seed) s message e =
     elim (is_some (method app name)) as
-    (λ b. cond b (item.call (length st.methods) (client.method id name params seed) (seed_or number (length st.methods) seed)) (item.unknown (client.method id name params seed)) ≡ item.close s message → sub_named (id_of message) st.subs ≡ Some s) [
+    (λ b. cond b (item.call (length st.methods) (client.method id name params seed) (seed_or number (length st.methods) seed))
+    (item.unknown (client.method id name params seed)) ≡ item.close s message → sub_named (id_of message) st.subs ≡ Some s) [
       | true ↦ λ is. absurd (cc is)
       | false ↦ λ is. absurd (cc is)
     ] e

@@ -1,6 +1,7 @@
 -- Laws: How many items a journal has: at most three for each text that was taken, and as many as the history is long for each subscription that was opened.
 use native.Mathlib.Nat.{mul-add}
-use Rattle.std.specs.Prelude.{◌≡◌, ℕ, zero, suc, ◌+◌, ◌-◌, ◌*◌, ◌≤◌, ◌==◌, nat_le, is_none, List, [], ◌∷◌, ◌++◌, length, filter, Bool, true, false, cond, not, ◌&&◌, Option, Some, None, refl}
+use Rattle.std.specs.Prelude.{◌≡◌, ℕ, zero, suc, ◌+◌, ◌-◌, ◌*◌, ◌≤◌, ◌==◌, nat_le, is_none, List, [], ◌∷◌, ◌++◌, length, filter, Bool, true, false}
+use Rattle.std.specs.Prelude.{cond, not, ◌&&◌, Option, Some, None, refl}
 use Rattle.std.proofs.Common.{ap, arith}
 use Rattle.std.proofs.lemmas.List.{length-append}
 use Rattle.std.proofs.lemmas.Bool.{and_parts}
@@ -105,7 +106,12 @@ module _ (app : App) (number : ℕ) (C : List Moment) (n : ℕ) (many : length C
   lowers st (item.call k message seed) f l =
       let m : Method = record { id = id_of message; phase = running } in omega (arith, calls_fired st.subs (st.methods ++ m ∷ []), calls_more st.methods m)
   lowers st (item.refused k place) f l =
-      omega (arith, calls_fired st.subs (turned k refused st.methods), calls_turned k refused st.methods (refused_runs C st k place f l) refl, block_freed k st.blocking)
+      omega (
+        arith,
+        calls_fired st.subs (turned k refused st.methods),
+        calls_turned k refused st.methods (refused_runs C st k place f l) refl,
+        block_freed k st.blocking,
+      )
   lowers st (item.unblocked k) f l = omega (arith, calls_fired st.subs st.methods, block_gone k st.blocking f.0)
   lowers st (item.finished k place) f l =
       omega (arith, calls_fired st.subs (turned k (finished place) st.methods), calls_turned k (finished place) st.methods f.0 refl, block_freed k st.blocking)
@@ -132,7 +138,8 @@ texts_are (i ∷ items) = omega (arith, texts_are items, length-append (handled_
   where
     one : length (at_once_in (i ∷ items)) ≡ length (filter is_at_once (i ∷ [])) + length (at_once_in items)
     one = elim (is_at_once i) as
-        (λ b. length (cond b (i ∷ at_once_in items) (at_once_in items)) ≡ length (cond b (i ∷ []) []) + length (at_once_in items)) [ true ↦ omega arith | false ↦ omega arith ]
+        (λ b. length (cond b (i ∷ at_once_in items) (at_once_in items)) ≡ length (cond b (i ∷ []) []) + length (at_once_in items))
+        [ true ↦ omega arith | false ↦ omega arith ]
 
 -- each text comes to one thing
 taken_once : (connected : Bool) (ts : List (List ℕ)) → length (queued_from connected ts) + length (answered_from connected ts) ≡ length ts

@@ -26,7 +26,8 @@ module _ {A : Type 0} (f : Live → A) (otherwise : A) where
   same_advanced s r count [] e = refl
   same_advanced s r count (l ∷ ls) e =
       elim (s == l.sub) as
-      (λ b. s == l.sub ≡ b → of_sub f otherwise r (cond b (record l { cursor = moved count l.cursor } ∷ ls) (l ∷ advanced s count ls)) ≡ of_sub f otherwise r (l ∷ ls)) [
+      (λ b. s == l.sub ≡ b →
+      of_sub f otherwise r (cond b (record l { cursor = moved count l.cursor } ∷ ls) (l ∷ advanced s count ls)) ≡ of_sub f otherwise r (l ∷ ls)) [
         | true ↦ λ is. let differs : (r == l.sub) ≡ false = subst (λ x. (r == x) ≡ false) (eqb-true s l.sub is) e in
             ap (λ b. cond b (f (record l { cursor = moved count l.cursor })) (of_sub f otherwise r ls)) differs
             ∙ sym (ap (λ b. cond b (f l) (of_sub f otherwise r ls)) differs)

@@ -1,5 +1,6 @@
 -- Laws: A journal that fits a store's moments fits those with later ones, and its messages stay.
-use Rattle.std.specs.Prelude.{◌≡◌, ℕ, zero, suc, ◌<◌, ◌≤◌, ◌==◌, List, [], ◌∷◌, ◌++◌, length, map, true, false, cond, not, Option, Some, None, option_and_then, refl}
+use Rattle.std.specs.Prelude.{◌≡◌, ℕ, zero, suc, ◌<◌, ◌≤◌, ◌==◌, List, [], ◌∷◌, ◌++◌, length, map, true, false, cond, not, Option, Some, None}
+use Rattle.std.specs.Prelude.{option_and_then, refl}
 use Rattle.std.proofs.Common.{ap, ap₂, sym, subst, ◌∙◌, arith}
 use Rattle.std.proofs.lemmas.List.{length-append}
 use Rattle.merge_model.specs.Publishing.{Call, apply}
@@ -34,7 +35,8 @@ within_loaded : (n s place : ℕ) (ls : List Live) → place < n → AreWithin n
 within_loaded n s place [] p w = tt
 within_loaded n s place (l ∷ ls) p w =
     elim (s == l.sub) as
-    (λ b. AreWithin n (cond b (record l { cursor = Some place } ∷ ls) (l ∷ loaded s place ls))) [ true ↦ (p, w.1) | false ↦ (w.0, within_loaded n s place ls p w.1) ]
+    (λ b. AreWithin n (cond b (record l { cursor = Some place } ∷ ls) (l ∷ loaded s place ls)))
+    [ true ↦ (p, w.1) | false ↦ (w.0, within_loaded n s place ls p w.1) ]
 
 moved_within : (n count : ℕ) (o : Option ℕ) → MayAdvance n count o → IsPlace n (moved count o)
 moved_within n count None may = tt
@@ -44,7 +46,8 @@ within_advanced : (n s count : ℕ) (ls : List Live) → MayAdvance n count (cur
 within_advanced n s count [] may w = tt
 within_advanced n s count (l ∷ ls) may w =
     elim (s == l.sub) as
-    (λ b. MayAdvance n count (cond b l.cursor (cursor_of s ls)) → AreWithin n (cond b (record l { cursor = moved count l.cursor } ∷ ls) (l ∷ advanced s count ls))) [
+    (λ b. MayAdvance n count (cond b l.cursor (cursor_of s ls)) →
+    AreWithin n (cond b (record l { cursor = moved count l.cursor } ∷ ls) (l ∷ advanced s count ls))) [
       | true ↦ λ m. (moved_within n count l.cursor m, w.1)
       | false ↦ λ m. (w.0, within_advanced n s count ls m w.1)
     ] may
@@ -89,7 +92,8 @@ run_kept C more place k status e =
 pub end_kept : (C more : List Moment) (place k : ℕ) (end : End) → end_at C place k ≡ Some end → end_at (C ++ more) place k ≡ Some end
 end_kept C more place k end e =
     elim (run_at C place k) as
-    (λ o. run_at C place k ≡ o → option_and_then (λ (s : Status). s.ended) o ≡ Some end → option_and_then (λ (s : Status). s.ended) (run_at (C ++ more) place k) ≡ Some end) [
+    (λ o. run_at C place k ≡ o → option_and_then (λ (s : Status). s.ended) o ≡ Some end →
+    option_and_then (λ (s : Status). s.ended) (run_at (C ++ more) place k) ≡ Some end) [
       | None ↦ λ is has. cc has
       | Some status ↦ λ is has. ap (option_and_then (λ (s : Status). s.ended)) (run_kept C more place k status is) ∙ has
     ] refl e

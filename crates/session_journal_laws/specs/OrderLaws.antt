@@ -16,7 +16,8 @@ use Rattle.session_model.specs.Methods.{id_at}
 use Rattle.session_model.specs.State.{State, started, own_after, after}
 use Rattle.session_model.specs.Moments.{Moment, end_at}
 use Rattle.session_model.specs.Shown.{Calls, call_of, merge_of, difference}
-use Rattle.session_model.specs.Out.{about, ready, updated, result_by, results_by, history_full, all_refused_with, own_messages, told_after, words_of, messages_of, out_from, out}
+use Rattle.session_model.specs.Out.{about, ready, updated, result_by, results_by, history_full, all_refused_with, own_messages, told_after, words_of}
+use Rattle.session_model.specs.Out.{messages_of, out_from, out}
 use Rattle.session_model.specs.Fits.{CanFollow, FitsFrom, Fits}
 use Rattle.session_model.specs.Counting.{one_if, count, result_in, updated_in, results, updateds, is_armed, number_in}
 use Rattle.session_journal_laws.specs.Blocking.{BlocksLast}

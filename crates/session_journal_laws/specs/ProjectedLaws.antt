@@ -11,7 +11,8 @@ use Rattle.value_model.specs.Valid.{IsValue, AreValues, HaveValues, HasRisingNam
 use Rattle.ddp_messages.specs.Limits.{IsShallow}
 use Rattle.app_model.specs.declared.publication.Projection.{Projection}
 use Rattle.app_model.specs.declared.publication.Projection.TheVariants as projection
-use Rattle.publication.specs.Projected.{APath, rests_below, ends_here, reaches_nothing, whole_if, field_projected, element_before, field_before, value_projected, elements_projected, fields_projected, at_field, projected}
+use Rattle.publication.specs.Projected.{APath, rests_below, ends_here, reaches_nothing, whole_if, field_projected, element_before, field_before}
+use Rattle.publication.specs.Projected.{value_projected, elements_projected, fields_projected, at_field, projected}
 
 -- what is left of a value is a value of no more levels
 abbrev Left : Val → Option Val → Type 0
@@ -37,7 +38,8 @@ each_left including paths no_fields = refl
 each_left including paths (field name v fs) =
     let rest = each_left including paths fs in
     elim (at_field including paths name v)
-    as (λ o. entries_of (field_before name o (fields_projected including paths fs)) ≡ keyed name o (filter_map_entries (at_field including paths) (entries_of fs)))
+    as (λ o. entries_of (field_before name o (fields_projected including paths fs))
+    ≡ keyed name o (filter_map_entries (at_field including paths) (entries_of fs)))
     [ None ↦ rest | Some w ↦ ap (λ es. (name, w) ∷ es) rest ]
 
 rising_left : (including : Bool) (paths : List APath) (fs : Fields) → HasRisingNames (entries_of fs) →
@@ -86,7 +88,8 @@ fields_keepable : (including : Bool) (paths : List APath) (doc : Entries) → Is
 fields_keepable including paths doc k =
     let left = fields_projected including paths (fields_of doc) in
     let r = fields_left including paths (fields_of doc) k.0.values in
-    let rising : HasRisingNames (entries_of left) = rising_left including paths (fields_of doc) (subst HasRisingNames (sym (entries_of-fields_of doc)) k.0.names) in (
+    let rising : HasRisingNames (entries_of left) =
+    rising_left including paths (fields_of doc) (subst HasRisingNames (sym (entries_of-fields_of doc)) k.0.names) in (
       record { names = rising; values = subst HaveValues (sym (fields_of-entries_of left)) r.0 },
       subst (λ fs. IsShallow (object fs)) (sym (fields_of-entries_of left)) (omega (arith, r.1, k.1)),
     )

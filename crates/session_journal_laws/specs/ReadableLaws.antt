@@ -1,5 +1,6 @@
 -- Laws: The texts of a journal read as its messages.
-use Rattle.std.specs.Prelude.{◌≡◌, ℕ, zero, suc, ◌<◌, ◌≤◌, ◌==◌, List, [], ◌∷◌, ◌++◌, length, map, filter, Bool, true, false, not, cond, Option, Some, None, IfSome, Ok, option_and_then, refl}
+use Rattle.std.specs.Prelude.{◌≡◌, ℕ, zero, suc, ◌<◌, ◌≤◌, ◌==◌, List, [], ◌∷◌, ◌++◌, length, map, filter, Bool, true, false, not, cond, Option, Some}
+use Rattle.std.specs.Prelude.{None, IfSome, Ok, option_and_then, refl}
 use Rattle.std.proofs.Common.{ap, ap₂, sym, ◌∙◌, arith}
 use Rattle.std.specs.Ordering.{eq_by_cmp}
 use Rattle.std.specs.Map.{keys_of}
@@ -33,7 +34,8 @@ use Rattle.session_model.specs.Methods.{Phase, running, refused, finished, Metho
 use Rattle.session_model.specs.State.{State, started, opening, own_after, after}
 use Rattle.session_model.specs.Moments.{Moment, moment_at, rows_of, run_of, rows_at, end_at}
 use Rattle.session_model.specs.Shown.{shown_at, shown_in, Calls, call_of, merge_of, difference}
-use Rattle.session_model.specs.Out.{about, ready, updated, result_by, results_by, history_full, all_refused_with, own_messages, told_after, words_of, messages_of, out_from, out, out_texts}
+use Rattle.session_model.specs.Out.{about, ready, updated, result_by, results_by, history_full, all_refused_with, own_messages, told_after, words_of}
+use Rattle.session_model.specs.Out.{messages_of, out_from, out, out_texts}
 use Rattle.session_model.specs.Fits.{CanFollow, FitsFrom, Fits}
 use Rattle.session_model.specs.Kept.{IsStored, AreStored, HasResult, IsKept, AreKept}
 use Rattle.session_journal_laws.specs.PublicationLaws.{stored_queried}
@@ -153,7 +155,8 @@ live_loaded s place (l ∷ ls) a = elim (s == l.sub) as
 live_advanced : (s count : ℕ) (ls : List Live) → AreLiveShort ls → AreLiveShort (advanced s count ls)
 live_advanced s count [] a = tt
 live_advanced s count (l ∷ ls) a = elim (s == l.sub) as
-    (λ b. AreLiveShort (cond b (record l { cursor = moved count l.cursor } ∷ ls) (l ∷ advanced s count ls))) [ true ↦ a | false ↦ (a.0, live_advanced s count ls a.1) ]
+    (λ b. AreLiveShort (cond b (record l { cursor = moved count l.cursor } ∷ ls) (l ∷ advanced s count ls)))
+    [ true ↦ a | false ↦ (a.0, live_advanced s count ls a.1) ]
 
 live_closed : (s : ℕ) (ls : List Live) → AreLiveShort ls → AreLiveShort (closed s ls)
 live_closed s [] a = tt
@@ -186,7 +189,8 @@ own_short app number C st (item.finished k place) f a = record { live = a.live; 
 own_short app number C st i f a = record { live = a.live; calls = a.calls }
 
 pub short_after : (app : App) (number : ℕ) (C : List Moment) (st : State) (i : Item) → CanFollow app number C st i → AreShort st → AreShort (after st i)
-short_after app number C st i f a = let own = own_after st i in let b = own_short app number C st i f a in record { live = b.live; calls = calls_fired own.subs own.methods b.calls }
+short_after app number C st i f a = let own = own_after st i in let b = own_short app number C st i f a in
+    record { live = b.live; calls = calls_fired own.subs own.methods b.calls }
 
 short_ids : (s : ℕ) (ls : List Live) → AreLiveShort ls → AreIdsShort (ids_of s ls)
 short_ids s [] a = tt

@@ -1,5 +1,6 @@
 -- No more methods are told `updated` than have their writes shown.
-use Rattle.std.specs.Prelude.{◌≡◌, ◌⊎◌, ℕ, zero, suc, ◌+◌, ◌≤◌, ◌==◌, List, [], ◌∷◌, ◌++◌, length, drop, Bool, true, false, cond, not, ◌||◌, Option, Some, None, option_map, refl}
+use Rattle.std.specs.Prelude.{◌≡◌, ◌⊎◌, ℕ, zero, suc, ◌+◌, ◌≤◌, ◌==◌, List, [], ◌∷◌, ◌++◌, length, drop, Bool, true, false, cond, not, ◌||◌, Option}
+use Rattle.std.specs.Prelude.{Some, None, option_map, refl}
 use Rattle.std.proofs.Common.{ap, ap₂, sym, subst, ◌∙◌, arith, inl, inr}
 use Rattle.std.proofs.lemmas.Bool.{le-ltb, eq-eqb}
 use Rattle.value_model.specs.Size.{is_name}
@@ -206,7 +207,8 @@ module _ (app : App) (number : ℕ) (C : List Moment) (id : List ℕ) (whole : L
       one c true w =
           let here : in_phase waits id c.method ≡ one_if (is_name id x) = ap₂ (λ b y. cond b (one_if (is_name id y)) 0) w c.id_is in omega (arith, here)
       one c false w =
-          let there : cond (is_reflected k whole) (one_if (is_name id x)) 0 ≡ one_if (is_name id x) = ap (λ b. cond b (one_if (is_name id x)) 0) (ends k c.method.phase c.phase_is w) in omega (arith, there)
+          let there : cond (is_reflected k whole) (one_if (is_name id x)) 0 ≡ one_if (is_name id x) =
+          ap (λ b. cond b (one_if (is_name id x)) 0) (ends k c.method.phase c.phase_is w) in omega (arith, there)
 
   same_left : (n m : ℕ) → n ≡ m → left n ≡ left m
   same_left n m e = ap left e
@@ -218,7 +220,8 @@ module _ (app : App) (number : ℕ) (C : List Moment) (id : List ℕ) (whole : L
       let new = st.methods ++ m ∷ [] in
       let next : k ≡ length st.methods = call_number app number st message k message seed f.made in
       let id_is : id_at k ms ≡ id_of message ∷ [] = keeps k (id_of message) (id_fired k st.subs new ∙ (ap (λ n. id_at n new) next ∙ id_new st.methods m)) in
-      let longer : left (length (fire st.subs new)) ≡ left (suc k) = same_left (length (fire st.subs new)) (suc k) (fire_length st.subs new ∙ (grown st.methods m ∙ ap suc (sym next))) in
+      let longer : left (length (fire st.subs new)) ≡ left (suc k) =
+      same_left (length (fire st.subs new)) (suc k) (fire_length st.subs new ∙ (grown st.methods m ∙ ap suc (sym next))) in
       omega (arith, called_left k (id_of message) id_is, longer, same_left k (length st.methods) next)
     where
       grown : (ms : List Method) (m : Method) → length (ms ++ m ∷ []) ≡ suc (length ms)
@@ -229,7 +232,11 @@ module _ (app : App) (number : ℕ) (C : List Moment) (id : List ℕ) (whole : L
       omega (arith, same_left (length (fire own.subs own.methods)) (length st.methods) (fire_length own.subs own.methods ∙ turned_length j refused st.methods))
   step_left st (item.finished j place) f keeps =
       let own = own_after st (item.finished j place) in
-      omega (arith, same_left (length (fire own.subs own.methods)) (length st.methods) (fire_length own.subs own.methods ∙ turned_length j (finished place) st.methods))
+      omega (
+        arith,
+        same_left (length (fire own.subs own.methods)) (length st.methods)
+            (fire_length own.subs own.methods ∙ turned_length j (finished place) st.methods),
+      )
   step_left st i f keeps = let own = own_after st i in omega
       (arith, same_left (length (fire own.subs own.methods)) (length st.methods) (fire_length own.subs own.methods))
 

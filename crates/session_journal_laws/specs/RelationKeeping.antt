@@ -56,7 +56,16 @@ seen_is past kept stands =
 -- ---- at first
 
 pub new_stands : (app : App) (number : ℕ) (C : List Moment) → Stands [] C [] (new_session app number)
-new_stands app number C = record { count = refl; placed = tt; fits = tt; answers = answers_first; own = refl; shows = stands_at_first key_order name_order; texts = refl; counts = refl }
+new_stands app number C = record {
+  count = refl;
+  placed = tt;
+  fits = tt;
+  answers = answers_first;
+  own = refl;
+  shows = stands_at_first key_order name_order;
+  texts = refl;
+  counts = refl;
+}
 
 -- ---- one item more
 
@@ -91,7 +100,8 @@ module _ (C : List Moment) (order : AreInOrder C) (items : List Item) (i : Item)
 
 module _ (taken taken2 : List (List ℕ)) (C : List Moment) (sent : List (List ℕ)) (old new : Carried) (stored : Stored) (call : Call Key Entries)
     (own : State) (words : List ServerMessage) where
-  -- The item is one that may follow, what it makes of the session is what the code made of it, and the call shows what the subscriptions show then: the new session stands for
+  -- The item is one that may follow, what it makes of the session is what the code made of it, and the call shows what the subscriptions show then:
+  -- the new session stands for
   -- the same moments and sent texts, and for these texts taken.
   pub added_stands : AreInOrder C → Stands taken C sent old → IsAdded stored call own words old new →
       let items = items_of taken old in
@@ -108,20 +118,25 @@ module _ (taken taken2 : List (List ℕ)) (C : List Moment) (sent : List (List �
       let past = calls_of C items in
       let here : items_of taken2 new ≡ items ++ i ∷ [] =
       ap₂ (λ (app : App) (number : ℕ). map (resolved app number taken2) new.journal) a.app a.number
-      ∙ (ap (map (resolved old.app old.number taken2)) a.journal ∙ (map-append (resolved old.app old.number taken2) old.journal (stored ∷ []) ∙ ap (λ (xs : List Item). xs ++ i ∷ []) same)) in
+      ∙ (ap (map (resolved old.app old.number taken2)) a.journal
+      ∙ (map-append (resolved old.app old.number taken2) old.journal (stored ∷ []) ∙ ap (λ (xs : List Item). xs ++ i ∷ []) same)) in
       let now : state_of (items ++ i ∷ []) ≡ after st i = state-append started items i in
       let calls : calls_of C (items ++ i ∷ []) ≡ call_of C st i ∷ past = calls-append C [] started items i in
-      let next : (r : ℕ) → shown key_cmp (call ∷ past) r ≡ shown key_cmp (call_of C st i ∷ past) r = λ r. shows r ∙ sym (one_more C order past st i (calls_show C order items) r) in
-      let stands : StandsFor (call_of C st i ∷ past) new.box = same_calls (call_of C st i) call past new.box next (stands_after key_order name_order call past old.box new.box p.shows a.box a.order) in
+      let next : (r : ℕ) → shown key_cmp (call ∷ past) r ≡ shown key_cmp (call_of C st i ∷ past) r = λ r. shows r
+      ∙ sym (one_more C order past st i (calls_show C order items) r) in
+      let stands : StandsFor (call_of C st i ∷ past) new.box =
+      same_calls (call_of C st i) call past new.box next (stands_after key_order name_order call past old.box new.box p.shows a.box a.order) in
       let messages : added_messages own words old.box new.box ≡ messages_of C old.number past st i =
       ap₂ (λ m n. map about (difference m n) ++ (words ++ map updated (all_told own.subs own.methods))) (seen_is past old.box p.shows)
       (seen_is (call_of C st i ∷ past) new.box stands)
-      ∙ ap₂ (λ (ws : List ServerMessage) (o : State). map about (difference (merge_of past) (merge_of (call_of C st i ∷ past))) ++ (ws ++ map updated (all_told o.subs o.methods))) is_words is_own in
+      ∙ ap₂ (λ (ws : List ServerMessage) (o : State). map about (difference (merge_of past) (merge_of (call_of C st i ∷ past)))
+      ++ (ws ++ map updated (all_told o.subs o.methods))) is_words is_own in
       record {
         count = count;
         placed = placed;
         fits = subst (Fits new.app new.number C) (sym here)
-            (subst (λ (app : App). Fits app new.number C (items ++ i ∷ [])) (sym a.app) (subst (λ n. Fits old.app n C (items ++ i ∷ [])) (sym a.number) (fits-append old.app old.number C started items i p.fits can)));
+            (subst (λ (app : App). Fits app new.number C (items ++ i ∷ [])) (sym a.app)
+            (subst (λ n. Fits old.app n C (items ++ i ∷ [])) (sym a.number) (fits-append old.app old.number C started items i p.fits can)));
         answers = subst (λ (xs : List Item). Answers taken2 xs new.waiting) (sym here) answers;
         own = a.own ∙ (ap fired_state is_own ∙ sym (ap state_of here ∙ now));
         shows = subst (λ (cs : Calls). StandsFor cs new.box) (sym (ap (calls_of C) here ∙ calls)) stands;

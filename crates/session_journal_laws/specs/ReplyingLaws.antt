@@ -1,5 +1,6 @@
 -- Laws: The `ready`s and `nosub`s of an id are those that the requests with this id have, in their order.
-use Rattle.std.specs.Prelude.{◌≡◌, ℕ, ◌≤◌, ◌==◌, List, [], ◌∷◌, ◌++◌, length, map, Bool, true, false, cond, not, ◌&&◌, ◌||◌, Option, Some, None, Ok, Err, is_none, is_some, if◌then◌else◌, refl}
+use Rattle.std.specs.Prelude.{◌≡◌, ℕ, ◌≤◌, ◌==◌, List, [], ◌∷◌, ◌++◌, length, map, Bool, true, false, cond, not, ◌&&◌, ◌||◌, Option, Some, None, Ok}
+use Rattle.std.specs.Prelude.{Err, is_none, is_some, if◌then◌else◌, refl}
 use Rattle.std.specs.Option.{option_or}
 use Rattle.std.proofs.Common.{ap, ap₂, sym, subst, ◌∙◌, append-nil, arith}
 use Rattle.std.proofs.lemmas.List.{append_assoc}
@@ -26,7 +27,8 @@ use Rattle.session_model.specs.Methods.{id_at}
 use Rattle.session_model.specs.State.{State, started, opening, own_after, after}
 use Rattle.session_model.specs.Moments.{Moment, end_at}
 use Rattle.session_model.specs.Shown.{Calls, call_of, merge_of, difference}
-use Rattle.session_model.specs.Out.{about, ready as ready_message, updated, result_by, results_by, history_full, all_refused_with, own_messages, told_after, words_of, messages_of, out_from, out}
+use Rattle.session_model.specs.Out.{about, ready as ready_message, updated, result_by, results_by, history_full, all_refused_with, own_messages}
+use Rattle.session_model.specs.Out.{told_after, words_of, messages_of, out_from, out}
 use Rattle.session_model.specs.Fits.{seed_or, opened_by, closed_by, item_for, CanFollow, FitsFrom, Fits}
 use Rattle.session_model.specs.LooksBack.{SubAnswer, ready, ended, load_by, loaded_at, advances, is_closed, closes}
 use Rattle.session_model.specs.Replies.{reply_in, replies, reply_to, replies_due}
@@ -89,13 +91,15 @@ named_loaded : (id : List ℕ) (s place : ℕ) (ls : List Live) → sub_named id
 named_loaded id s place [] = refl
 named_loaded id s place (l ∷ ls) =
     elim (s == l.sub) as
-    (λ b. sub_named id (cond b (record l { cursor = Some place } ∷ ls) (l ∷ loaded s place ls)) ≡ sub_named id (l ∷ ls)) [ true ↦ refl | false ↦ ap (cond (is_name id l.id) (Some l.sub)) (named_loaded id s place ls) ]
+    (λ b. sub_named id (cond b (record l { cursor = Some place } ∷ ls) (l ∷ loaded s place ls)) ≡ sub_named id (l ∷ ls))
+    [ true ↦ refl | false ↦ ap (cond (is_name id l.id) (Some l.sub)) (named_loaded id s place ls) ]
 
 named_advanced : (id : List ℕ) (s count : ℕ) (ls : List Live) → sub_named id (advanced s count ls) ≡ sub_named id ls
 named_advanced id s count [] = refl
 named_advanced id s count (l ∷ ls) =
     elim (s == l.sub) as
-    (λ b. sub_named id (cond b (record l { cursor = moved count l.cursor } ∷ ls) (l ∷ advanced s count ls)) ≡ sub_named id (l ∷ ls)) [ true ↦ refl | false ↦ ap (cond (is_name id l.id) (Some l.sub)) (named_advanced id s count ls) ]
+    (λ b. sub_named id (cond b (record l { cursor = moved count l.cursor } ∷ ls) (l ∷ advanced s count ls)) ≡ sub_named id (l ∷ ls))
+    [ true ↦ refl | false ↦ ap (cond (is_name id l.id) (Some l.sub)) (named_advanced id s count ls) ]
 
 unnamed_closed : (id : List ℕ) (s : ℕ) (ls : List Live) → sub_named id ls ≡ None → sub_named id (closed s ls) ≡ None
 unnamed_closed id s [] e = refl
@@ -142,19 +146,22 @@ named_opened : (id : List ℕ) (ls : List Live) (l : Live) →
 named_opened id [] l = refl
 named_opened id (x ∷ ls) l =
     elim (is_name id x.id) as
-    (λ b. cond b (Some x.sub) (sub_named id (ls ++ l ∷ [])) ≡ option_or (cond b (Some x.sub) (sub_named id ls)) (if is_name id l.id then Some l.sub else None)) [ true ↦ refl | false ↦ named_opened id ls l ]
+    (λ b. cond b (Some x.sub) (sub_named id (ls ++ l ∷ [])) ≡ option_or (cond b (Some x.sub) (sub_named id ls))
+    (if is_name id l.id then Some l.sub else None)) [ true ↦ refl | false ↦ named_opened id ls l ]
 
 are_loaded : (s place : ℕ) (ls : List Live) → AreNamed ls → AreNamed (loaded s place ls)
 are_loaded s place [] n = tt
 are_loaded s place (l ∷ ls) n =
     elim (s == l.sub) as
-    (λ b. AreNamed (cond b (record l { cursor = Some place } ∷ ls) (l ∷ loaded s place ls))) [ true ↦ n | false ↦ (named_loaded l.id s place ls ∙ n.0, are_loaded s place ls n.1) ]
+    (λ b. AreNamed (cond b (record l { cursor = Some place } ∷ ls) (l ∷ loaded s place ls)))
+    [ true ↦ n | false ↦ (named_loaded l.id s place ls ∙ n.0, are_loaded s place ls n.1) ]
 
 are_advanced : (s count : ℕ) (ls : List Live) → AreNamed ls → AreNamed (advanced s count ls)
 are_advanced s count [] n = tt
 are_advanced s count (l ∷ ls) n =
     elim (s == l.sub) as
-    (λ b. AreNamed (cond b (record l { cursor = moved count l.cursor } ∷ ls) (l ∷ advanced s count ls))) [ true ↦ n | false ↦ (named_advanced l.id s count ls ∙ n.0, are_advanced s count ls n.1) ]
+    (λ b. AreNamed (cond b (record l { cursor = moved count l.cursor } ∷ ls) (l ∷ advanced s count ls)))
+    [ true ↦ n | false ↦ (named_advanced l.id s count ls ∙ n.0, are_advanced s count ls n.1) ]
 
 are_closed : (s : ℕ) (ls : List Live) → AreNamed ls → AreNamed (closed s ls)
 are_closed s [] n = tt
@@ -210,10 +217,12 @@ nosub_made : (app : App) (number : ℕ) (st : State) (m : ClientMessage) (messag
 nosub_made app number st (client.sub id name params) message e is =
     let m = client.sub id name params in
     elim (is_some (sub_named id st.subs)) as
-    (λ b. is_some (sub_named id st.subs) ≡ b → cond b (item.same m) (cond (is_crowded st.subs) (item.nosub m (Some fault.TooMany)) (opened_by st.opened m (making app name params))) ≡ item.nosub message e → sub_named (id_of message) st.subs ≡ None) [
+    (λ b. is_some (sub_named id st.subs) ≡ b → cond b (item.same m) (cond (is_crowded st.subs) (item.nosub m (Some fault.TooMany))
+    (opened_by st.opened m (making app name params))) ≡ item.nosub message e → sub_named (id_of message) st.subs ≡ None) [
       | true ↦ λ live f. absurd (cc f)
       | false ↦ λ live. elim (is_crowded st.subs) as
-          (λ b. cond b (item.nosub m (Some fault.TooMany)) (opened_by st.opened m (making app name params)) ≡ item.nosub message e → sub_named (id_of message) st.subs ≡ None) [
+          (λ b. cond b (item.nosub m (Some fault.TooMany)) (opened_by st.opened m (making app name params)) ≡ item.nosub message e →
+          sub_named (id_of message) st.subs ≡ None) [
             | true ↦ λ f. let same : message ≡ m = cc f in ap (λ x. sub_named (id_of x) st.subs) same ∙ without (sub_named id st.subs) live
             | false ↦ λ f. ap (λ x. sub_named (id_of x) st.subs) (opened (making app name params) f) ∙ without (sub_named id st.subs) live
           ]
@@ -233,7 +242,8 @@ nosub_made app number st (client.unsub id) message e is = by (sub_named id st.su
     by (Some s) some f = cc f
 nosub_made app number st (client.method id name params seed) message e is =
     elim (is_some (method app name)) as
-    (λ b. cond b (item.call (length st.methods) (client.method id name params seed) (seed_or number (length st.methods) seed)) (item.unknown (client.method id name params seed)) ≡ item.nosub message e → sub_named (id_of message) st.subs ≡ None) [
+    (λ b. cond b (item.call (length st.methods) (client.method id name params seed) (seed_or number (length st.methods) seed))
+    (item.unknown (client.method id name params seed)) ≡ item.nosub message e → sub_named (id_of message) st.subs ≡ None) [
       | true ↦ λ f. absurd (cc f)
       | false ↦ λ f. absurd (cc f)
     ] is
@@ -248,7 +258,8 @@ closed_stays : (app : App) (number : ℕ) (C : List Moment) (st : State) (before
 closed_stays app number C st before [] s t shut f = refl
 closed_stays app number C st before (i ∷ items) s t shut f =
     ap₂ option_or (none_here i f.0)
-    (closed_stays app number C (after st i) (before ++ i ∷ []) items s (tracks_after st before t app number C i f.0) (closed-append s before i ∙ ap (λ b. b || closes s i) shut) f.1)
+    (closed_stays app number C (after st i) (before ++ i ∷ []) items s (tracks_after st before t app number C i f.0)
+    (closed-append s before i ∙ ap (λ b. b || closes s i) shut) f.1)
   where
     none_here : (i : Item) → CanFollow app number C st i → load_by s i ≡ None
     none_here (item.load r place) g =
@@ -315,9 +326,11 @@ module _ (app : App) (number : ℕ) (C : List Moment) (id : List ℕ) where
             ∙ (ap (λ c. cond (is_some (loaded_at s items) && is_none c) (ready ∷ []) []) (cursors_same s ∙ unloaded)
             ∙ (and_true (is_some (loaded_at s items)) ∙ ap (λ x. pending_of x st.subs items ++ cond (is_some (loaded_at s items)) (ready ∷ []) []) (sym new)))
         | false ↦ λ is.
-            let now : sub_named id (st.subs ++ l ∷ []) ≡ sub_named id st.subs = named_opened id st.subs l ∙ (ap (λ b. option_or (sub_named id st.subs) (cond b (Some s) None)) is ∙ or_none (sub_named id st.subs)) in
+            let now : sub_named id (st.subs ++ l ∷ []) ≡ sub_named id st.subs = named_opened id st.subs l
+            ∙ (ap (λ b. option_or (sub_named id st.subs) (cond b (Some s) None)) is ∙ or_none (sub_named id st.subs)) in
             ap (λ x. pending_of x (st.subs ++ l ∷ []) items) now
-            ∙ (same_pending (sub_named id st.subs) (st.subs ++ l ∷ []) st.subs items (λ r. ap is_none (cursors_same r)) ∙ sym (append-nil (pending id st.subs items)))
+            ∙ (same_pending (sub_named id st.subs) (st.subs ++ l ∷ []) st.subs items (λ r. ap is_none (cursors_same r))
+            ∙ sym (append-nil (pending id st.subs items)))
       ] refl)
     where
       without : (o : Option ℕ) → is_some o ≡ false → o ≡ None
@@ -369,13 +382,15 @@ module _ (app : App) (number : ℕ) (C : List Moment) (id : List ℕ) where
       by None e =
           none_due (pending id st.subs (item.load r place ∷ items)) (pending id (loaded r place st.subs) items) (told_ready r st.subs)
           (apart (λ f. none_some (sym e ∙ f)))
-          (ap (λ x. pending_of x (loaded r place st.subs) items) (named_loaded id r place st.subs ∙ e) ∙ sym (ap (λ x. pending_of x st.subs (item.load r place ∷ items)) e))
+          (ap (λ x. pending_of x (loaded r place st.subs) items) (named_loaded id r place st.subs ∙ e)
+          ∙ sym (ap (λ x. pending_of x st.subs (item.load r place ∷ items)) e))
       by (Some s) e =
           elim (s == r) as (λ b. s == r ≡ b → Due st items (item.load r place)) [
             | true ↦ λ is.
                 let same : s ≡ r = eqb-true s r is in
                 let ids : ids_of r st.subs ≡ id ∷ [] = ap (λ x. ids_of x st.subs) (sym same) ∙ named_id id s st.subs t.distinct e in
-                let told : told_ready r st.subs ≡ ready ∷ [] = ap (λ xs. replies id (map ready_message xs)) ids ∙ ap (λ b. (cond b (ready ∷ []) [] ++ []) ++ []) (name_self id) in
+                let told : told_ready r st.subs ≡ ready ∷ [] = ap (λ xs. replies id (map ready_message xs)) ids
+                ∙ ap (λ b. (cond b (ready ∷ []) [] ++ []) ++ []) (name_self id) in
                 let after_ : pending id (loaded r place st.subs) items ≡ [] =
                 ap (λ x. pending_of x (loaded r place st.subs) items) (named_loaded id r place st.subs ∙ (e ∙ ap Some same))
                 ∙ (ap (λ c. cond (is_some (loaded_at r items) && is_none c) (ready ∷ []) []) here.0 ∙ and_false (is_some (loaded_at r items))) in
@@ -396,7 +411,8 @@ module _ (app : App) (number : ℕ) (C : List Moment) (id : List ℕ) where
   advanced_due : (st : State) (items : List Item) (r count : ℕ) → Due st items (item.advance r count)
   advanced_due st items r count =
       quiet_due st items (item.advance r count) (λ s. refl) (none_due (pending id st.subs items) (pending id (advanced r count st.subs) items) [] refl
-      (ap (λ x. pending_of x (advanced r count st.subs) items) (named_advanced id r count st.subs) ∙ same_pending (sub_named id st.subs) (advanced r count st.subs) st.subs items each))
+      (ap (λ x. pending_of x (advanced r count st.subs) items) (named_advanced id r count st.subs)
+      ∙ same_pending (sub_named id st.subs) (advanced r count st.subs) st.subs items each))
     where
       moved_none : (o : Option ℕ) → is_none (moved count o) ≡ is_none o
       moved_none None = refl
@@ -414,10 +430,12 @@ module _ (app : App) (number : ℕ) (C : List Moment) (id : List ℕ) where
       sub_named (id_of message) st.subs ≡ Some r → loaded_at r items ≡ None → Due st items (item.close r message)
   closed_due st before items r message t n named never =
       quiet_due st items (item.close r message) (λ s. refl)
-      (elim (is_name id (id_of message)) as (λ b. is_name id (id_of message) ≡ b → (if_of b ++ []) ++ pending id (closed r st.subs) items ≡ pending id st.subs items ++ if_of b) [
+      (elim (is_name id (id_of message))
+      as (λ b. is_name id (id_of message) ≡ b → (if_of b ++ []) ++ pending id (closed r st.subs) items ≡ pending id st.subs items ++ if_of b) [
         | true ↦ λ is.
             let own : sub_named id st.subs ≡ Some r = ap (λ x. sub_named x st.subs) (name_is id (id_of message) is) ∙ named in
-            let was : pending id st.subs items ≡ [] = ap (λ x. pending_of x st.subs items) own ∙ ap (λ o. cond (is_some o && is_none (cursor_of r st.subs)) (ready ∷ []) []) never in
+            let was : pending id st.subs items ≡ [] = ap (λ x. pending_of x st.subs items) own
+            ∙ ap (λ o. cond (is_some o && is_none (cursor_of r st.subs)) (ready ∷ []) []) never in
             let now : pending id (closed r st.subs) items ≡ [] = ap (λ x. pending_of x (closed r st.subs) items) (closed_unnamed id r st.subs n own) in
             ap (λ x. ended ∷ x) now ∙ sym (ap (λ x. x ++ ended ∷ []) was)
         | false ↦ λ is. by is (sub_named id st.subs) refl ∙ sym (append-nil (pending id st.subs items))
@@ -438,7 +456,8 @@ module _ (app : App) (number : ℕ) (C : List Moment) (id : List ℕ) where
           other : (b : Bool) → s == r ≡ b → b ≡ false
           other false f = refl
           other true f =
-              let ids : id ∷ [] ≡ id_of message ∷ [] = sym (named_id id s st.subs t.distinct e) ∙ (ap (λ x. ids_of x st.subs) (eqb-true s r f) ∙ named_id (id_of message) r st.subs t.distinct named) in
+              let ids : id ∷ [] ≡ id_of message ∷ [] = sym (named_id id s st.subs t.distinct e)
+              ∙ (ap (λ x. ids_of x st.subs) (eqb-true s r f) ∙ named_id (id_of message) r st.subs t.distinct named) in
               absurd (differ (sym (ap (is_name id) (sym (first id (id_of message) ids)) ∙ name_self id) ∙ is))
 
           turned : (b : Bool) → r == s ≡ b → (s == r) ≡ false → b ≡ false
@@ -462,7 +481,8 @@ module _ (app : App) (number : ℕ) (C : List Moment) (id : List ℕ) where
       or_true false e = e
   item_due st before items (item.nosub message e) t n f g =
       quiet_due st items (item.nosub message e) (λ s. refl) (ended_due (is_name id (id_of message)) (pending id st.subs items)
-      (λ is. ap (λ x. pending_of x st.subs items) (ap (λ x. sub_named x st.subs) (name_is id (id_of message) is) ∙ nosub_made app number st message message e f.made)))
+      (λ is. ap (λ x. pending_of x st.subs items)
+      (ap (λ x. sub_named x st.subs) (name_is id (id_of message) is) ∙ nosub_made app number st message message e f.made)))
   item_due st before items (item.refused k place) t n f g =
       quiet_due st items (item.refused k place) (λ s. refl)
       (nothing_due st items (replies id (all_refused_with history_full (id_at k st.methods))) (no_refused id history_full (id_at k st.methods)))
@@ -490,7 +510,8 @@ module _ (app : App) (number : ℕ) (C : List Moment) (id : List ℕ) where
       let own = own_messages C number st i in
       let ts = told_after st i in
       replies-append id (map about ds) (words_of C number st i)
-      ∙ (ap₂ (λ a b. a ++ b) (no_data id ds) (replies-append id own (map updated ts) ∙ (ap (λ a. replies id own ++ a) (no_updated id ts) ∙ append-nil (replies id own))))
+      ∙ (ap₂ (λ a b. a ++ b) (no_data id ds)
+      (replies-append id own (map updated ts) ∙ (ap (λ a. replies id own ++ a) (no_updated id ts) ∙ append-nil (replies id own))))
 
   replies_from : (past : Calls) (st : State) (before items : List Item) → Tracks st before → AreNamed st.subs → FitsFrom app number C st items →
       replies id (out_from C number past st items) ≡ pending id st.subs items ++ replies_due id items

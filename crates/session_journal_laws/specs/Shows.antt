@@ -48,7 +48,8 @@ module _ {K D : Type 0} {R : K → K → Ordering} (o : IsKeyOrder R) where
       (λ c. eq_by_cmp R q k ≡ c → at R (renewed R a2 (map (λ x. (x, at R b x)) ks)) q ≡ cond (c || list_any (eq_by_cmp R q) ks) (at R b q) (at R a q)) [
         | true ↦ λ is.
             let same : at R a2 q ≡ at R b q = here ∙ (ap (λ c. cond c (at R b k) (at R a q)) is ∙ ap (at R b) (sym (key_is o q k is))) in
-            rest ∙ (ap (λ x. cond (list_any (eq_by_cmp R q) ks) (at R b q) x) same ∙ elim (list_any (eq_by_cmp R q) ks) as (λ c. cond c (at R b q) (at R b q) ≡ at R b q) [ true ↦ refl | false ↦ refl ])
+            rest ∙ (ap (λ x. cond (list_any (eq_by_cmp R q) ks) (at R b q) x) same
+            ∙ elim (list_any (eq_by_cmp R q) ks) as (λ c. cond c (at R b q) (at R b q) ≡ at R b q) [ true ↦ refl | false ↦ refl ])
         | false ↦ λ is. rest ∙ ap (λ x. cond (list_any (eq_by_cmp R q) ks) (at R b q) x) (here ∙ ap (λ c. cond c (at R b k) (at R a q)) is)
       ] refl
 
@@ -64,7 +65,8 @@ module _ {K D : Type 0} {R : K → K → Ordering} (o : IsKeyOrder R) where
       ∙ elim (list_any (eq_by_cmp R k) (keys_of (union R a b))) as
       (λ c. list_any (eq_by_cmp R k) (keys_of (union R a b)) ≡ c → cond c (at R b k) (at R a k) ≡ at R b k) [
         | true ↦ λ is. refl
-        | false ↦ λ is. let none = none_there (at R a k) (at R b k) (ap is_some (sym (at-union o a b k)) ∙ (is_some-at R (union R a b) k ∙ is)) in none.0 ∙ sym none.1
+        | false ↦ λ is. let none = none_there (at R a k) (at R b k) (ap is_some (sym (at-union o a b k)) ∙ (is_some-at R (union R a b) k ∙ is)) in
+            none.0 ∙ sym none.1
       ] refl)
 
 -- ---- what the calls show

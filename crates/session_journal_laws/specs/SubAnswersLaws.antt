@@ -50,22 +50,26 @@ next_answers app number C st items i t f h s =
         (is_some (option_or (loaded_at s items) (load_by s i))) (is_closed s items || closes s i)
     here (item.load r place) f =
         elim (s == r) as
-        (λ b. s == r ≡ b → (answers_by_fate (is_some (loaded_at s items)) (is_closed s items) ++ cond b (ready ∷ []) []) ≡ answers_by_fate (is_some (option_or (loaded_at s items) (cond b (Some place) None))) (is_closed s items || false)) [
+        (λ b. s == r ≡ b → (answers_by_fate (is_some (loaded_at s items)) (is_closed s items) ++ cond b (ready ∷ []) [])
+        ≡ answers_by_fate (is_some (option_or (loaded_at s items) (cond b (Some place) None))) (is_closed s items || false)) [
           | true ↦ λ is.
               let same : r ≡ s = sym (eqb-true s r is) in
               let l = loaded_here r place st.subs f.0 in
               let not_closed : is_closed s items ≡ false = subst (λ x. is_closed x items ≡ false) same (live_below st items t r l.2).1 in
-              let not_loaded : loaded_at s items ≡ None = unloaded_yet st items t s not_closed (sym (t.cursors s) ∙ subst (λ x. cursor_of x st.subs ≡ None) same l.1) in
+              let not_loaded : loaded_at s items ≡ None =
+              unloaded_yet st items t s not_closed (sym (t.cursors s) ∙ subst (λ x. cursor_of x st.subs ≡ None) same l.1) in
               ap₂ (λ o b. answers_by_fate (is_some o) b ++ ready ∷ []) not_loaded not_closed
               ∙ sym (ap₂ (λ o b. answers_by_fate (is_some (option_or o (Some place))) (b || false)) not_loaded not_closed)
           | false ↦ λ is. none
         ] refl
     here (item.close r message) f =
         elim (s == r) as
-        (λ b. s == r ≡ b → (answers_by_fate (is_some (loaded_at s items)) (is_closed s items) ++ cond b (ended ∷ []) []) ≡ answers_by_fate (is_some (option_or (loaded_at s items) None)) (is_closed s items || b)) [
+        (λ b. s == r ≡ b → (answers_by_fate (is_some (loaded_at s items)) (is_closed s items) ++ cond b (ended ∷ []) [])
+        ≡ answers_by_fate (is_some (option_or (loaded_at s items) None)) (is_closed s items || b)) [
           | true ↦ λ is.
               let same : r ≡ s = sym (eqb-true s r is) in
-              let not_closed : is_closed s items ≡ false = subst (λ x. is_closed x items ≡ false) same (live_below st items t r (close_live app number st message r message f.made)).1 in
+              let not_closed : is_closed s items ≡ false =
+              subst (λ x. is_closed x items ≡ false) same (live_below st items t r (close_live app number st message r message f.made)).1 in
               ap (λ b. answers_by_fate (is_some (loaded_at s items)) b ++ ended ∷ []) not_closed
               ∙ (closed_now (is_some (loaded_at s items)) ∙ sym (ap₂ (λ o b. answers_by_fate (is_some o) (b || true)) (or_none (loaded_at s items)) not_closed))
           | false ↦ λ is. none
@@ -77,7 +81,8 @@ answers_from : (app : App) (number : ℕ) (C : List Moment) (st : State) (before
 answers_from app number C st before [] t h f = subst KnowsAnswers (sym (append-nil before)) h
 answers_from app number C st before (i ∷ items) t h f =
     subst KnowsAnswers (append_assoc before (i ∷ []) items)
-    (answers_from app number C (after st i) (before ++ i ∷ []) items (tracks_after st before t app number C i f.0) (next_answers app number C st before i t f.0 h) f.1)
+    (answers_from app number C (after st i) (before ++ i ∷ []) items (tracks_after st before t app number C i f.0)
+    (next_answers app number C st before i t f.0 h) f.1)
 
 pub sub_answers : (app : App) (number : ℕ) (C : List Moment) (items : List Item) → Fits app number C items → (s : ℕ) →
     answers_of s items ≡ answers_by_fate (is_some (loaded_at s items)) (is_closed s items)

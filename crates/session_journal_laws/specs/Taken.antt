@@ -25,7 +25,8 @@ use Rattle.session_model.specs.Moments.{Moment, end_at}
 use Rattle.session_model.specs.Shown.{Calls, call_of, calls_from, merge_of, merged, difference}
 use Rattle.session_model.specs.Data.{data_in, data_of}
 use Rattle.ejson_value.specs.Messages.{saying}
-use Rattle.session_model.specs.Out.{about, ready, updated, result_by, results_by, history_full, all_refused_with, own_messages, told_after, words_of, messages_of, out_from, out}
+use Rattle.session_model.specs.Out.{about, ready, updated, result_by, results_by, history_full, all_refused_with, own_messages, told_after, words_of}
+use Rattle.session_model.specs.Out.{messages_of, out_from, out}
 use Rattle.session_journal_laws.specs.Shows.{merge_is}
 
 pub data_of-append : (xs ys : List ServerMessage) → data_of (xs ++ ys) ≡ data_of xs ++ data_of ys
@@ -109,7 +110,8 @@ out_from-taken C number past st (i ∷ items) =
     let rest = out_from C number past2 (after st i) items in
     ap (all_taken text_cmp key_cmp (merge_of past)) (data_of-append ms rest)
     ∙ (all_taken-append (merge_of past) (data_of ms) (data_of rest)
-    ∙ (ap (λ rows. all_taken text_cmp key_cmp rows (data_of rest)) (ap (all_taken text_cmp key_cmp (merge_of past)) (data_of-messages C number past st i) ∙ difference_taken past past2)
+    ∙ (ap (λ rows. all_taken text_cmp key_cmp rows (data_of rest))
+    (ap (all_taken text_cmp key_cmp (merge_of past)) (data_of-messages C number past st i) ∙ difference_taken past past2)
     ∙ out_from-taken C number past2 (after st i) items))
 
 -- a reader that takes the messages of a journal has the merge

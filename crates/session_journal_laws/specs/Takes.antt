@@ -1,5 +1,6 @@
 -- What a session makes of a text may follow its journal, and the journal with it answers the texts with that one.
-use Rattle.std.specs.Prelude.{◌≡◌, ℕ, List, [], ◌∷◌, ◌++◌, length, Bool, true, false, cond, not, ◌&&◌, nat_le, nat_lt, Option, Some, None, IfSome, codes, is_some, option_and_then, Result, Ok, Err, refl}
+use Rattle.std.specs.Prelude.{◌≡◌, ℕ, List, [], ◌∷◌, ◌++◌, length, Bool, true, false, cond, not, ◌&&◌, nat_le, nat_lt, Option, Some, None, IfSome}
+use Rattle.std.specs.Prelude.{codes, is_some, option_and_then, Result, Ok, Err, refl}
 use Rattle.std.proofs.Common.{ap, ap₂, sym, subst, ◌∙◌, append-nil}
 use Rattle.std.proofs.lemmas.List.{append_assoc}
 use Rattle.std.proofs.lemmas.Bool.{leb-true}
@@ -28,7 +29,8 @@ use Rattle.session_model.specs.Items as item
 use Rattle.session_model.specs.State.{State, started, after, state_of}
 use Rattle.session_model.specs.Moments.{Moment}
 use Rattle.session_model.specs.Fits.{CanFollow}
-use Rattle.session_model.specs.Taking.{max_text, Taken, at_once, to_queue, offending_of, refused_for, taken_as, taken_named, taken_tree, taken_text, connects, item_of, message_of, is_connected_by, answered_from, queued_from}
+use Rattle.session_model.specs.Taking.{max_text, Taken, at_once, to_queue, offending_of, refused_for, taken_as, taken_named, taken_tree, taken_text}
+use Rattle.session_model.specs.Taking.{connects, item_of, message_of, is_connected_by, answered_from, queued_from}
 use Rattle.session_model.specs.Answering.{is_at_once, at_once_in, Answers}
 use Rattle.session_journal_laws.specs.Appending.{state-append, handled-append}
 

@@ -1,5 +1,6 @@
 -- Laws: A call is told `updated` with the item after which its fence is open for the first time.
-use Rattle.std.specs.Prelude.{◌≡◌, ◌⊎◌, ◌↔◌, ℕ, zero, suc, ◌≤◌, ◌<◌, ◌==◌, nat_lt, List, [], ◌∷◌, ◌++◌, length, take, Bool, true, false, cond, not, ◌&&◌, Option, Some, None, option_map, refl}
+use Rattle.std.specs.Prelude.{◌≡◌, ◌⊎◌, ◌↔◌, ℕ, zero, suc, ◌≤◌, ◌<◌, ◌==◌, nat_lt, List, [], ◌∷◌, ◌++◌, length, take, Bool, true, false, cond, not}
+use Rattle.std.specs.Prelude.{◌&&◌, Option, Some, None, option_map, refl}
 use Rattle.std.proofs.Common.{ap, ap₂, sym, subst, ◌∙◌, arith, inl, inr, append-nil, eq-or-lt_of_le}
 use Rattle.std.proofs.lemmas.List.{append_assoc, length-append}
 use Rattle.std.proofs.lemmas.Bool.{lt-ltb, ltb-true, eqb-true, eq-eqb, and_parts}
@@ -26,13 +27,15 @@ open_each place [] e s live = cc live
 open_each place (l ∷ ls) e s live =
     let p = and_parts (past place l.cursor) (is_open place ls) e in
     elim (s == l.sub) as
-    (λ b. cond b true (is_live s ls) ≡ true → past place (cond b l.cursor (cursor_of s ls)) ≡ true) [ true ↦ λ is. p.0 | false ↦ λ is. open_each place ls p.1 s is ] live
+    (λ b. cond b true (is_live s ls) ≡ true → past place (cond b l.cursor (cursor_of s ls)) ≡ true)
+    [ true ↦ λ is. p.0 | false ↦ λ is. open_each place ls p.1 s is ] live
 
 each_open : (place : ℕ) (ls : List Live) → AreDistinct ls → ((s : ℕ) → is_live s ls ≡ true → past place (cursor_of s ls) ≡ true) → is_open place ls ≡ true
 each_open place [] d all = refl
 each_open place (l ∷ ls) d all =
     let self : (l.sub == l.sub) ≡ true = eq-eqb l.sub l.sub refl in
-    let first : past place l.cursor ≡ true = ap (λ b. past place (cond b l.cursor (cursor_of l.sub ls))) (sym self) ∙ all l.sub (ap (λ b. cond b true (is_live l.sub ls)) self) in
+    let first : past place l.cursor ≡ true = ap (λ b. past place (cond b l.cursor (cursor_of l.sub ls))) (sym self)
+    ∙ all l.sub (ap (λ b. cond b true (is_live l.sub ls)) self) in
     let rest : is_open place ls ≡ true = each_open place ls d.1 (λ s live.
     elim (s == l.sub) as (λ b. s == l.sub ≡ b → past place (cursor_of s ls) ≡ true) [
       | true ↦ λ is. absurd (differ (sym live ∙ (ap (λ x. is_live x ls) (eqb-true s l.sub is) ∙ d.0)))
@@ -221,7 +224,8 @@ says_from : (app : App) (number : ℕ) (C : List Moment) (st : State) (before it
 says_from app number C st before [] t l h f = subst (KnowsFences st) (sym (append-nil before)) h
 says_from app number C st before (i ∷ items) t l h f =
     subst (KnowsFences (state_from (after st i) items)) (append_assoc before (i ∷ []) items)
-    (says_from app number C (after st i) (before ++ i ∷ []) items (tracks_after st before t app number C i f.0) (last_after app number C st i f.0 l) (after_says app number C st before i t f.0 l h) f.1)
+    (says_from app number C (after st i) (before ++ i ∷ []) items (tracks_after st before t app number C i f.0) (last_after app number C st i f.0 l)
+    (after_says app number C st before i t f.0 l h) f.1)
 
 pub says : (app : App) (number : ℕ) (C : List Moment) (items : List Item) → Fits app number C items → (k : ℕ) →
     Says k items (phase_at k (state_of items).methods)

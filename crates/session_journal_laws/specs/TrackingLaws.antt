@@ -1,5 +1,6 @@
 -- Laws: The subscriptions that the items of a journal leave are those that the journal says, looking back.
-use Rattle.std.specs.Prelude.{◌≡◌, ◌⊎◌, ℕ, suc, ◌+◌, ◌<◌, ◌≤◌, ◌==◌, nat_lt, nat_le, List, [], ◌∷◌, ◌++◌, length, Bool, true, false, cond, not, ◌&&◌, ◌||◌, Option, Some, None, is_none, option_map, refl}
+use Rattle.std.specs.Prelude.{◌≡◌, ◌⊎◌, ℕ, suc, ◌+◌, ◌<◌, ◌≤◌, ◌==◌, nat_lt, nat_le, List, [], ◌∷◌, ◌++◌, length, Bool, true, false, cond, not, ◌&&◌}
+use Rattle.std.specs.Prelude.{◌||◌, Option, Some, None, is_none, option_map, refl}
 use Rattle.std.proofs.Common.{ap, ap₂, sym, subst, ◌∙◌, arith, inl, inr, append-nil}
 use Rattle.std.proofs.lemmas.List.{append_assoc}
 use Rattle.std.proofs.lemmas.Bool.{ltb-true, lt-ltb, le-ltb, cases_order, eqb-true, eq-eqb, ne_eqb, and_parts}
@@ -96,7 +97,8 @@ pub advanced_here : (s count : ℕ) (ls : List Live) → cursor_of s (advanced s
 advanced_here s count [] = refl
 advanced_here s count (l ∷ ls) =
     elim (s == l.sub) as
-    (λ b. s == l.sub ≡ b → cursor_of s (cond b (record l { cursor = moved count l.cursor } ∷ ls) (l ∷ advanced s count ls)) ≡ moved count (cond b l.cursor (cursor_of s ls))) [
+    (λ b. s == l.sub ≡ b → cursor_of s (cond b (record l { cursor = moved count l.cursor } ∷ ls) (l ∷ advanced s count ls))
+    ≡ moved count (cond b l.cursor (cursor_of s ls))) [
       | true ↦ λ is. ap (λ b. cond b (moved count l.cursor) (cursor_of s ls)) is
       | false ↦ λ is. ap (λ b. cond b l.cursor (cursor_of s (advanced s count ls))) is ∙ advanced_here s count ls
     ] refl
@@ -114,13 +116,15 @@ closed_here s (l ∷ ls) =
 live_loaded : (s r place : ℕ) (ls : List Live) → is_live s (loaded r place ls) ≡ is_live s ls
 live_loaded s r place [] = refl
 live_loaded s r place (l ∷ ls) = elim (r == l.sub) as
-    (λ b. is_live s (cond b (record l { cursor = Some place } ∷ ls) (l ∷ loaded r place ls)) ≡ is_live s (l ∷ ls)) [ true ↦ refl | false ↦ ap (cond (s == l.sub) true) (live_loaded s r place ls) ]
+    (λ b. is_live s (cond b (record l { cursor = Some place } ∷ ls) (l ∷ loaded r place ls)) ≡ is_live s (l ∷ ls))
+    [ true ↦ refl | false ↦ ap (cond (s == l.sub) true) (live_loaded s r place ls) ]
 
 live_advanced : (s r count : ℕ) (ls : List Live) → is_live s (advanced r count ls) ≡ is_live s ls
 live_advanced s r count [] = refl
 live_advanced s r count (l ∷ ls) =
     elim (r == l.sub) as
-    (λ b. is_live s (cond b (record l { cursor = moved count l.cursor } ∷ ls) (l ∷ advanced r count ls)) ≡ is_live s (l ∷ ls)) [ true ↦ refl | false ↦ ap (cond (s == l.sub) true) (live_advanced s r count ls) ]
+    (λ b. is_live s (cond b (record l { cursor = moved count l.cursor } ∷ ls) (l ∷ advanced r count ls)) ≡ is_live s (l ∷ ls))
+    [ true ↦ refl | false ↦ ap (cond (s == l.sub) true) (live_advanced s r count ls) ]
 
 live_closed : (s r : ℕ) (ls : List Live) → is_live s (closed r ls) ≡ (is_live s ls && not (s == r))
 live_closed s r [] = refl
@@ -156,13 +160,15 @@ distinct_loaded : (s place : ℕ) (ls : List Live) → AreDistinct ls → AreDis
 distinct_loaded s place [] d = tt
 distinct_loaded s place (l ∷ ls) d =
     elim (s == l.sub) as
-    (λ b. AreDistinct (cond b (record l { cursor = Some place } ∷ ls) (l ∷ loaded s place ls))) [ true ↦ d | false ↦ (live_loaded l.sub s place ls ∙ d.0, distinct_loaded s place ls d.1) ]
+    (λ b. AreDistinct (cond b (record l { cursor = Some place } ∷ ls) (l ∷ loaded s place ls)))
+    [ true ↦ d | false ↦ (live_loaded l.sub s place ls ∙ d.0, distinct_loaded s place ls d.1) ]
 
 distinct_advanced : (s count : ℕ) (ls : List Live) → AreDistinct ls → AreDistinct (advanced s count ls)
 distinct_advanced s count [] d = tt
 distinct_advanced s count (l ∷ ls) d =
     elim (s == l.sub) as
-    (λ b. AreDistinct (cond b (record l { cursor = moved count l.cursor } ∷ ls) (l ∷ advanced s count ls))) [ true ↦ d | false ↦ (live_advanced l.sub s count ls ∙ d.0, distinct_advanced s count ls d.1) ]
+    (λ b. AreDistinct (cond b (record l { cursor = moved count l.cursor } ∷ ls) (l ∷ advanced s count ls)))
+    [ true ↦ d | false ↦ (live_advanced l.sub s count ls ∙ d.0, distinct_advanced s count ls d.1) ]
 
 distinct_closed : (s : ℕ) (ls : List Live) → AreDistinct ls → AreDistinct (closed s ls)
 distinct_closed s [] d = tt
@@ -177,8 +183,10 @@ distinct_opened [] l new d = (refl, tt)
 distinct_opened (x ∷ ls) l new d =
     elim (l.sub == x.sub) as (λ b. l.sub == x.sub ≡ b → cond b true (is_live l.sub ls) ≡ false → AreDistinct (x ∷ (ls ++ l ∷ []))) [
       | true ↦ λ is e. absurd (cc e)
-      | false ↦ λ is e.
-          (live_opened x.sub ls l ∙ ap₂ (λ a b. a || b) d.0 (ne_eqb x.sub l.sub (λ same. differ (sym (eq-eqb l.sub x.sub (sym same)) ∙ is))), distinct_opened ls l e d.1)
+      | false ↦ λ is e. (
+        live_opened x.sub ls l ∙ ap₂ (λ a b. a || b) d.0 (ne_eqb x.sub l.sub (λ same. differ (sym (eq-eqb l.sub x.sub (sym same)) ∙ is))),
+        distinct_opened ls l e d.1,
+      )
     ] refl new
   where
     differ : true ≡ false → ⊥
@@ -187,7 +195,14 @@ distinct_opened (x ∷ ls) l new d =
 -- ---- all of it, over a journal
 
 pub tracks_first : Tracks started []
-tracks_first = record { cursors = λ s. refl; live = λ s. sym (ap (λ b. b && true) (le-ltb s 0 (omega arith))); distinct = tt; unloaded = λ s e. refl; fresh = λ s le. (refl, refl); opened = refl }
+tracks_first = record {
+  cursors = λ s. refl;
+  live = λ s. sym (ap (λ b. b && true) (le-ltb s 0 (omega arith)));
+  distinct = tt;
+  unloaded = λ s e. refl;
+  fresh = λ s le. (refl, refl);
+  opened = refl;
+}
 
 module _ (st : State) (items : List Item) (t : Tracks st items) where
   pub live_below : (s : ℕ) → is_live s st.subs ≡ true → (s < st.opened) × (is_closed s items ≡ false)
@@ -229,7 +244,8 @@ module _ (st : State) (items : List Item) (t : Tracks st items) where
   cursor_closed : (s : ℕ) (i : Item) → closes s i ≡ true → cursor_of s (closed s st.subs) ≡ cursor_in s (items ++ i ∷ [])
   cursor_closed s i e =
       closed_here s st.subs
-      ∙ sym (cursor-append s items i ∙ (ap (λ c. cursor_by c (option_or (loaded_at s items) (load_by s i)) (advances s items + advance_by s i)) (ap (λ c. is_closed s items || c) e ∙ or_true (is_closed s items))))
+      ∙ sym (cursor-append s items i ∙ (ap (λ c. cursor_by c (option_or (loaded_at s items) (load_by s i)) (advances s items + advance_by s i))
+      (ap (λ c. is_closed s items || c) e ∙ or_true (is_closed s items))))
     where
       or_true : (b : Bool) → (b || true) ≡ true
       or_true true = refl
@@ -327,7 +343,8 @@ module _ (st : State) (items : List Item) (t : Tracks st items) where
     where
       no_cursor : (r : ℕ) → loaded_at r items ≡ None → cursor_of r st.subs ≡ None
       no_cursor r e = t.cursors r
-          ∙ (ap (λ o. cursor_by (is_closed r items) o (advances r items)) e ∙ elim (is_closed r items) as (λ b. cursor_by b None (advances r items) ≡ None) [ true ↦ refl | false ↦ refl ])
+          ∙ (ap (λ o. cursor_by (is_closed r items) o (advances r items)) e
+          ∙ elim (is_closed r items) as (λ b. cursor_by b None (advances r items) ≡ None) [ true ↦ refl | false ↦ refl ])
 
       stays : (i : Item) → CanFollow app number C st i → loaded_at s items ≡ None → advance_by s i ≡ 0
       stays (item.advance r count) f none =

@@ -10,7 +10,8 @@ use Rattle.session_journal_laws.specs.declared.stored.Stored.{Stored}
 use Rattle.session_journal_laws.specs.Stands.{IsAdded}
 use Rattle.session_laws.specs.Session.{ASession}
 
--- The item stands behind the journal; the data of what is shown otherwise, the item's words, and an `updated` for each call whose fence is open then stand behind the outbox. What else a session has
+-- The item stands behind the journal; the data of what is shown otherwise, the item's words, and an `updated` for each call whose fence is open then
+-- stand behind the outbox. What else a session has
 -- is said where the item is made
 pub record HasAdded (item : Stored) (id : Option (List ℕ)) (call : Call Key Entries) (state : State) (words : List ServerMessage)
     (old new : ASession) : Type 0 where

@@ -56,7 +56,8 @@ listed_at : (documents : Rows) (key : Key) →
     at key_cmp (news_of (map publish_of documents)) key ≡ option_map (λ (doc : Entries). let one : Option Entries = Some doc in one) (at key_cmp documents key)
 listed_at [] key = refl
 listed_at (row ∷ documents) key = elim (eq_by_cmp key_cmp key row.0) as
-    (λ b. cond b (Some (Some row.1)) (at key_cmp (news_of (map publish_of documents)) key) ≡ option_map (λ (doc : Entries). let one : Option Entries = Some doc in one) (cond b (Some row.1) (at key_cmp documents key))) [
+    (λ b. cond b (Some (Some row.1)) (at key_cmp (news_of (map publish_of documents)) key)
+    ≡ option_map (λ (doc : Entries). let one : Option Entries = Some doc in one) (cond b (Some row.1) (at key_cmp documents key))) [
       | true ↦ refl
       | false ↦ listed_at documents key
     ]
@@ -76,7 +77,8 @@ query_leads cursors rows answer s q =
     ∙ same_maps key_order (renewed key_cmp none news) (queried cursors rows) (sorted_renewed key_order none news (sorted-nil key_cmp))
     (sorted_queried cursors rows s) (λ key.
     renewed_at key_order none news key (sorted-nil key_cmp) sorted
-    ∙ (ap (λ (x : Option (Option Entries)). unwrap_or x None) (listed_at documents key) ∙ (some_back (at key_cmp documents key) ∙ (q.each key ∙ sym (at_queried cursors rows key s)))))
+    ∙ (ap (λ (x : Option (Option Entries)). unwrap_or x None) (listed_at documents key)
+    ∙ (some_back (at key_cmp documents key) ∙ (q.each key ∙ sym (at_queried cursors rows key s)))))
 
 -- ---- a difference
 

@@ -1,5 +1,6 @@
 -- The events of a session: what each changes, when and why it is refused, that a refusal changes nothing, and what the session stands for afterwards.
-use Rattle.std.specs.Prelude.{◌≡◌, ◌⊎◌, ℕ, suc, ◌+◌, ◌<◌, List, [], ◌∷◌, ◌++◌, drop, length, map, true, false, Option, None, Some, Result, OnOk, OnErr, IfErr, IfSome}
+use Rattle.std.specs.Prelude.{◌≡◌, ◌⊎◌, ℕ, suc, ◌+◌, ◌<◌, List, [], ◌∷◌, ◌++◌, drop, length, map, true, false, Option, None, Some, Result, OnOk}
+use Rattle.std.specs.Prelude.{OnErr, IfErr, IfSome}
 use Rattle.map_model.specs.Changes.{Leads}
 use Rattle.merge_model.specs.Publishing.{Call, apply, drop_sub, renewed}
 use Rattle.value_model.specs.Val.{Entries}
@@ -28,7 +29,8 @@ use Rattle.session_model.specs.Out.{own_messages, result_by}
 use Rattle.session_model.specs.Fits.{item_for, IsRefusedAt}
 use Rattle.session_laws.specs.declared.fault.EventFault.{EventFault}
 use Rattle.session_laws.specs.declared.fault.EventFault.TheVariants as fault
-use Rattle.session_laws.specs.Session.{ASession, is_full, is_crowded, is_at_work, can_handle, can_load, can_advance, can_learn, can_refuse, IsCause, HadRoom, dropped}
+use Rattle.session_laws.specs.Session.{ASession, is_full, is_crowded, is_at_work, can_handle, can_load, can_advance, can_learn, can_refuse, IsCause}
+use Rattle.session_laws.specs.Session.{HadRoom, dropped}
 use Rattle.session_model.specs.Observers.{observers_without, observer_at, observers_with, observers_changed}
 use Rattle.session_laws.specs.Adding.{HasAdded}
 use Rattle.session_laws.specs.Storing.{kept_as, shown_id}
@@ -218,7 +220,8 @@ pub record HasFed (sub count : ℕ) (news : List Publish) (old new : ASession) :
   pub waits : Waits old new
   pub observers : new.observers ≡ old.observers
 
--- The news lead from what the subscription shows at its place to what it publishes so many entries on, where the store has such a moment. None of its cursors has a limit
+-- The news lead from what the subscription shows at its place to what it publishes so many entries on, where the store has such a moment.
+-- None of its cursors has a limit
 pub record IsFeed (C : List Moment) (sub count : ℕ) (news : List Publish) (s : ASession) : Type 0 where
   pub from : ℕ
   pub loaded : cursor_of sub s.carried.own.subs ≡ Some from

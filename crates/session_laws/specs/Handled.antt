@@ -95,7 +95,8 @@ pub read_back : (app : App) (number : ℕ) (taken : List (List ℕ)) (place : �
 read_back app number taken place st m w e = item_cases (λ (i : Item). resolved app number taken (kept_as place i) ≡ i) app number st m w
     (ap (λ (x : ClientMessage). item.same x) e)
     (λ f. ap (λ (x : ClientMessage). item.nosub x f) e)
-    (λ cursors is. ap (λ (x : ClientMessage). item.subscribe st.opened x (cursors_in (making app (name_of x) (params_of x)))) e ∙ ap (λ (x : Making). item.subscribe st.opened m (cursors_in x)) is)
+    (λ cursors is. ap (λ (x : ClientMessage). item.subscribe st.opened x (cursors_in (making app (name_of x) (params_of x)))) e
+    ∙ ap (λ (x : Making). item.subscribe st.opened m (cursors_in x)) is)
     (λ s. ap (λ (x : ClientMessage). item.close s x) e)
     (ap (called number (length st.methods)) e)
     (ap (λ (x : ClientMessage). item.unknown x) e)
@@ -117,7 +118,8 @@ plain_shows C order app number items m w =
     (λ (i : Item). (r : ℕ) → shown key_cmp (plain_call i ∷ calls_of C items) r ≡ shown_in C (after st i).subs r) app number st m w
     (shows_idle C order items (item.same m) refl refl)
     (λ f. shows_idle C order items (item.nosub m f) refl refl)
-    (λ cursors is. shows_idle C order items (item.subscribe st.opened m cursors) refl (sym (same_opened (λ (l : Live). shown_at C l.cursors l.cursor) [] 0 st.subs (opening st st.opened m cursors) refl)))
+    (λ cursors is. shows_idle C order items (item.subscribe st.opened m cursors) refl
+    (sym (same_opened (λ (l : Live). shown_at C l.cursors l.cursor) [] 0 st.subs (opening st st.opened m cursors) refl)))
     (λ s. shows_end C order items (item.close s m) (shows_none C s st.subs))
     (shows_idle C order items (item.call (length st.methods) m (seed_or number (length st.methods) (seed_in m))) refl refl)
     (shows_idle C order items (item.unknown m) refl refl)
@@ -168,30 +170,37 @@ module _ (old new : ASession) (free : old.carried.own.blocking ≡ None) where
       let own = old.carried.own in
       let i = item_for app number own m in
       let items = items_of taken old.carried in
-      let from : AreFrom taken (place ∷ places) (m ∷ ms) = subst (λ (ps : List ℕ). AreFrom taken ps (m ∷ ms)) first (subst (λ (xs : List ClientMessage). AreFrom taken old.places xs) waiting k.from) in
+      let from : AreFrom taken (place ∷ places) (m ∷ ms) =
+      subst (λ (ps : List ℕ). AreFrom taken ps (m ∷ ms)) first (subst (λ (xs : List ClientMessage). AreFrom taken old.places xs) waiting k.from) in
       let f = from.0 in
       let reads : resolved app number taken (kept_as place i) ≡ i = read_back app number taken place own m f.waits f.says in
       let turn = in_turn app number own m f.waits in
       let connected : own.connected ≡ true = subst (λ (xs : List ClientMessage). AreOpen own.connected xs) waiting k.connected in
       let rest : new.carried.waiting ≡ ms = a.waiting ∙ ap (drop 1) waiting in
       let shows : (r : ℕ) → shown key_cmp (plain_call i ∷ calls_of C items) r ≡ shown_in C (after (state_of items) i).subs r =
-      subst (λ (st : State). (r : ℕ) → shown key_cmp (plain_call (item_for app number st m) ∷ calls_of C items) r ≡ shown_in C (after (state_of items) (item_for app number st m)).subs r) (sym k.stands.own) (plain_shows C k.order app number items m f.waits) in
+      subst (λ (st : State). (r : ℕ) → shown key_cmp (plain_call (item_for app number st m) ∷ calls_of C items) r ≡ shown_in C
+      (after (state_of items) (item_for app number st m)).subs r) (sym k.stands.own) (plain_shows C k.order app number items m f.waits) in
       record {
         order = k.order;
         stands = later_stands taken C sent old.carried new.carried (kept_as place i) (plain_call i) (own_after own i)
             (own_messages [] number own i) k.order k.stands a.done.added (ap is_at_once reads ∙ turn.later) a.taken
-            (waiting ∙ (ap (λ (xs : List ClientMessage). m ∷ xs) (sym rest) ∙ ap (λ (xs : List ClientMessage). xs ++ new.carried.waiting) (sym (ap handled_by reads ∙ turn.handles))))
+            (waiting ∙ (ap (λ (xs : List ClientMessage). m ∷ xs) (sym rest)
+            ∙ ap (λ (xs : List ClientMessage). xs ++ new.carried.waiting) (sym (ap handled_by reads ∙ turn.handles))))
             (turn.placed (length taken) place f.within)
-            (subst (CanFollow app number C own) (sym reads) (may_follow C app number own m f.waits (record { connected = connected; free = free; short = f.short; made = refl })))
+            (subst (CanFollow app number C own) (sym reads)
+            (may_follow C app number own m f.waits (record { connected = connected; free = free; short = f.short; made = refl })))
             (ap (own_after own) (sym reads)) (turn.says C number own ∙ ap (own_messages C number own) (sym reads))
-            (subst (λ (j : Item). (r : ℕ) → shown key_cmp (plain_call i ∷ calls_of C items) r ≡ shown_in C (after (state_of items) j).subs r) (sym reads) shows);
+            (subst (λ (j : Item). (r : ℕ) → shown key_cmp (plain_call i ∷ calls_of C items) r ≡ shown_in C (after (state_of items) j).subs r)
+            (sym reads) shows);
         ids = ids_added taken (kept_as place i) i (plain_call i) (own_after own i) (own_messages [] number own i) old new a.done reads k.ids;
         from = subst (λ (ps : List ℕ). AreFrom taken ps new.carried.waiting) (sym a.places)
             (subst (λ (xs : List ClientMessage). AreFrom taken (drop 1 old.places) xs) (sym a.waiting) (tail_from taken old.places old.carried.waiting k.from));
         connected = subst (λ (xs : List ClientMessage). AreOpen new.carried.own.connected xs) (sym a.waiting)
-            (open_less new.carried.own.connected old.carried.waiting (open_after own i new.carried.own.connected old.carried.waiting (ap (λ (st : State). st.connected) a.done.added.own) k.connected));
+            (open_less new.carried.own.connected old.carried.waiting
+            (open_after own i new.carried.own.connected old.carried.waiting (ap (λ (st : State). st.connected) a.done.added.own) k.connected));
         watched = subst (λ (os : List (Option AnObserver)). AreWatched C new.carried.own.subs os) (sym a.observers)
-            (subst (λ (ls : List Live). AreWatched C ls (observers_after i own.subs old.observers)) (sym (ap (λ (st : State). st.subs) a.done.added.own)) (watched_after C app number own m old.observers f.waits k.watched));
+            (subst (λ (ls : List Live). AreWatched C ls (observers_after i own.subs old.observers))
+            (sym (ap (λ (st : State). st.subs) a.done.added.own)) (watched_after C app number own m old.observers f.waits k.watched));
       }
 
   by : (places : List ℕ) (ms : List ClientMessage) → old.places ≡ places → old.carried.waiting ≡ ms → HasHandled places ms old new → Keeps old new

@@ -49,7 +49,8 @@ ids_added taken kept i call state words old new a is ids =
     let items = items_of taken old.carried in
     a.ids ∙ (ap (λ (xs : List (Option (List ℕ))). xs ++ shown_id i ∷ []) ids
     ∙ (ap (λ (j : Item). map shown_id items ++ shown_id j ∷ []) (sym is)
-    ∙ sym (ap (map shown_id) (items_added taken kept old.carried new.carried a.added.app a.added.number a.added.journal) ∙ map-append shown_id items (resolved old.carried.app old.carried.number taken kept ∷ []))))
+    ∙ sym (ap (map shown_id) (items_added taken kept old.carried new.carried a.added.app a.added.number a.added.journal)
+    ∙ map-append shown_id items (resolved old.carried.app old.carried.number taken kept ∷ []))))
 
 message_more : (app : App) (number : ℕ) (taken more : List (List ℕ)) (place : ℕ) → place < length taken →
     message_at (taken ++ more) place ≡ message_at taken place
@@ -61,8 +62,15 @@ pub from-more : (app : App) (number : ℕ) (taken more : List (List ℕ)) (place
 from-more app number taken more [] [] f = tt
 from-more app number taken more [] (m ∷ ms) f = absurd f
 from-more app number taken more (p ∷ ps) [] f = absurd f
-from-more app number taken more (p ∷ ps) (m ∷ ms) f =
-    (record { within = omega (arith, f.0.within, length-append taken more); says = message_more app number taken more p f.0.within ∙ f.0.says; waits = f.0.waits; short = f.0.short }, from-more app number taken more ps ms f.1)
+from-more app number taken more (p ∷ ps) (m ∷ ms) f = (
+  record {
+    within = omega (arith, f.0.within, length-append taken more);
+    says = message_more app number taken more p f.0.within ∙ f.0.says;
+    waits = f.0.waits;
+    short = f.0.short;
+  },
+  from-more app number taken more ps ms f.1,
+)
 
 from-append : (taken : List (List ℕ)) (places : List ℕ) (ms : List ClientMessage) (place : ℕ) (message : ClientMessage) → AreFrom taken places ms →
     IsFrom taken place message → AreFrom taken (places ++ place ∷ []) (ms ++ message ∷ [])
@@ -89,10 +97,13 @@ module _ (t : List ℕ) (i : Item) (old new : ASession) (failed : old.carried.ow
       let number = old.carried.number in
       let kept = kept_as old.carried.taken i in
       let once = answered_once old.carried.own.connected t i is in
-      let connected : is_connected_by false taken ≡ old.carried.own.connected = m.stands.answers.connected ∙ ap (λ (st : State). st.connected) (sym m.stands.own) in
+      let connected : is_connected_by false taken ≡ old.carried.own.connected = m.stands.answers.connected
+      ∙ ap (λ (st : State). st.connected) (sym m.stands.own) in
       let now : taken_text (is_connected_by false taken) t ≡ at_once i = ap (λ c. taken_text c t) connected ∙ is in
-      let reads : resolved app number (taken ++ t ∷ []) kept ≡ i = ap (λ n. resolved app number (taken ++ t ∷ []) (kept_as n i)) m.stands.count ∙ once_resolved app number taken t i once now in
-      let may : CanFollow app number C old.carried.own i = subst (IsRight app number C old.carried.own.connected) is (taken_right app number C old.carried.own.connected t) old.carried.own refl failed in
+      let reads : resolved app number (taken ++ t ∷ []) kept ≡ i = ap (λ n. resolved app number (taken ++ t ∷ []) (kept_as n i)) m.stands.count
+      ∙ once_resolved app number taken t i once now in
+      let may : CanFollow app number C old.carried.own i = subst (IsRight app number C old.carried.own.connected) is
+      (taken_right app number C old.carried.own.connected t) old.carried.own refl failed in
       let subs : new.carried.own.subs ≡ old.carried.own.subs = ap (λ (st : State). st.subs) a.done.added.own ∙ once_subs old.carried.own i once in
       record {
         order = m.order;
@@ -106,7 +117,8 @@ module _ (t : List ℕ) (i : Item) (old new : ASession) (failed : old.carried.ow
             (own_messages [] number old.carried.own i) old new a.done reads
             (m.ids ∙ ap (map shown_id) (sym (items-more app number taken (t ∷ []) old.carried.journal m.stands.placed)));
         from = subst (λ (ps : List ℕ). AreFrom (taken ++ t ∷ []) ps new.carried.waiting) (sym a.places)
-            (subst (λ (ms : List ClientMessage). AreFrom (taken ++ t ∷ []) old.places ms) (sym a.waiting) (from-more app number taken (t ∷ []) old.places old.carried.waiting m.from));
+            (subst (λ (ms : List ClientMessage). AreFrom (taken ++ t ∷ []) old.places ms) (sym a.waiting)
+            (from-more app number taken (t ∷ []) old.places old.carried.waiting m.from));
         connected = subst (λ (ms : List ClientMessage). AreOpen new.carried.own.connected ms) (sym a.waiting)
             (open_after old.carried.own i new.carried.own.connected old.carried.waiting (ap (λ (st : State). st.connected) a.done.added.own) m.connected);
         watched = subst (λ (os : List (Option AnObserver)). AreWatched C new.carried.own.subs os) (sym a.observers)
@@ -120,9 +132,15 @@ module _ (t : List ℕ) (message : ClientMessage) (n : ℕ) (old : ASession) (is
   queued_keeps taken C sent m =
       let app = old.carried.app in
       let number = old.carried.number in
-      let connected : is_connected_by false taken ≡ old.carried.own.connected = m.stands.answers.connected ∙ ap (λ (st : State). st.connected) (sym m.stands.own) in
+      let connected : is_connected_by false taken ≡ old.carried.own.connected = m.stands.answers.connected
+      ∙ ap (λ (st : State). st.connected) (sym m.stands.own) in
       let now : taken_text (is_connected_by false taken) t ≡ to_queue message = ap (λ c. taken_text c t) connected ∙ is in
-      let last : IsFrom (taken ++ t ∷ []) (length taken) message = record { within = omega (arith, length-append taken (t ∷ [])); says = ap message_or_pong (last_taken taken t ∙ now); waits = queued_waits old.carried.own.connected t message is; short = subst (IsRight app number C old.carried.own.connected) is (taken_right app number C old.carried.own.connected t) } in
+      let last : IsFrom (taken ++ t ∷ []) (length taken) message = record {
+        within = omega (arith, length-append taken (t ∷ []));
+        says = ap message_or_pong (last_taken taken t ∙ now);
+        waits = queued_waits old.carried.own.connected t message is;
+        short = subst (IsRight app number C old.carried.own.connected) is (taken_right app number C old.carried.own.connected t);
+      } in
       record {
         order = m.order;
         stands = queued_stands taken C sent old.carried t message m.stands is;

@@ -47,9 +47,11 @@ module _ (taken : List (List ℕ)) (C : List Moment) (sent : List (List ℕ)) (i
       let subs : new.carried.own.subs ≡ own.subs = ap (λ (s : State). s.subs) a.added.added.own ∙ q.subs own in
       let same : shown_in C st.subs 0 ≡ shown_in C (after st i).subs 0 = ap (λ (ls : List Live). shown_in C ls 0) (sym (q.subs st)) in
       added_keeps taken C sent i (apply 0 []) words old new q.textless m
-      (subst (λ (id : Option (List ℕ)). HasAdded (kept_as 0 i) id (apply 0 []) (own_after own i) words old new) (sym q.textless.prints) a.added) a.waits reads can says
+      (subst (λ (id : Option (List ℕ)). HasAdded (kept_as 0 i) id (apply 0 []) (own_after own i) words old new) (sym q.textless.prints) a.added)
+      a.waits reads can says
       (shows_idle C m.order (items_of taken old.carried) i q.subject same)
-      (subst (λ (os : List (Option AnObserver)). AreWatched C new.carried.own.subs os) (sym a.observers) (subst (λ (ls : List Live). AreWatched C ls old.observers) (sym subs) m.watched))
+      (subst (λ (os : List (Option AnObserver)). AreWatched C new.carried.own.subs os) (sym a.observers)
+      (subst (λ (ls : List Live). AreWatched C ls old.observers) (sym subs) m.watched))
 
 -- ---- the run of a call
 
@@ -98,7 +100,14 @@ refused_keeps k place old new a taken C sent m full =
 pub sent_keeps : (t : List ℕ) (rest : List (List ℕ)) (old : ASession) → old.carried.outbox ≡ t ∷ rest →
     (taken : List (List ℕ)) (C : List Moment) (sent : List (List ℕ)) → Means taken C sent old →
     Means taken C (sent ++ t ∷ []) (record old { carried = record old.carried { outbox = rest } })
-sent_keeps t rest old e taken C sent m = record { order = m.order; stands = sent_stands taken C sent rest old.carried t m.stands e; ids = m.ids; from = m.from; connected = m.connected; watched = m.watched }
+sent_keeps t rest old e taken C sent m = record {
+  order = m.order;
+  stands = sent_stands taken C sent rest old.carried t m.stands e;
+  ids = m.ids;
+  from = m.from;
+  connected = m.connected;
+  watched = m.watched;
+}
 
 pub dropped_keeps : (old : ASession) → Keeps old (dropped old)
 dropped_keeps old taken C sent m = record { order = m.order; stands = m.stands; ids = m.ids; from = m.from; connected = m.connected; watched = m.watched }

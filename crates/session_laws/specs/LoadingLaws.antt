@@ -19,7 +19,8 @@ use Rattle.session_laws.specs.Loading.{IsWatchingAt, cursors_in}
 pub advanced_is : (s from count : ℕ) (ls : List Live) → cursor_of s ls ≡ Some from → advanced s count ls ≡ loaded s (from + count) ls
 advanced_is s from count [] e = refl
 advanced_is s from count (l ∷ ls) e = elim (s == l.sub) as
-    (λ b. cond b l.cursor (cursor_of s ls) ≡ Some from → cond b (record l { cursor = moved count l.cursor } ∷ ls) (l ∷ advanced s count ls) ≡ cond b (record l { cursor = Some (from + count) } ∷ ls) (l ∷ loaded s (from + count) ls)) [
+    (λ b. cond b l.cursor (cursor_of s ls) ≡ Some from → cond b (record l { cursor = moved count l.cursor } ∷ ls) (l ∷ advanced s count ls)
+    ≡ cond b (record l { cursor = Some (from + count) } ∷ ls) (l ∷ loaded s (from + count) ls)) [
       | true ↦ λ c. ap (λ (o : Option ℕ). record l { cursor = moved count o } ∷ ls) c
       | false ↦ λ c. ap (λ (xs : List Live). l ∷ xs) (advanced_is s from count ls c)
     ] e
@@ -28,7 +29,8 @@ module _ (C : List Moment) (s : ℕ) where
   pub shown_loaded : (place : ℕ) (ls : List Live) → shown_in C (loaded s place ls) s ≡ queried (cursors_in s ls) (rows_at C place)
   shown_loaded place [] = refl
   shown_loaded place (l ∷ ls) = elim (s == l.sub) as
-      (λ b. s == l.sub ≡ b → shown_in C (cond b (record l { cursor = Some place } ∷ ls) (l ∷ loaded s place ls)) s ≡ queried (cond b l.cursors (cursors_in s ls)) (rows_at C place)) [
+      (λ b. s == l.sub ≡ b → shown_in C (cond b (record l { cursor = Some place } ∷ ls) (l ∷ loaded s place ls)) s
+      ≡ queried (cond b l.cursors (cursors_in s ls)) (rows_at C place)) [
         | true ↦ λ is. ap (λ (b : Bool). cond b (queried l.cursors (rows_at C place)) (shown_in C ls s)) is
         | false ↦ λ is. ap (λ (b : Bool). cond b (shown_at C l.cursors l.cursor) (shown_in C (loaded s place ls) s)) is ∙ shown_loaded place ls
       ] refl
@@ -36,7 +38,8 @@ module _ (C : List Moment) (s : ℕ) where
   pub shown_from : (from : ℕ) (ls : List Live) → cursor_of s ls ≡ Some from → shown_in C ls s ≡ queried (cursors_in s ls) (rows_at C from)
   shown_from from [] e = cc e
   shown_from from (l ∷ ls) e = elim (s == l.sub) as
-      (λ b. cond b l.cursor (cursor_of s ls) ≡ Some from → cond b (shown_at C l.cursors l.cursor) (shown_in C ls s) ≡ queried (cond b l.cursors (cursors_in s ls)) (rows_at C from)) [
+      (λ b. cond b l.cursor (cursor_of s ls) ≡ Some from →
+      cond b (shown_at C l.cursors l.cursor) (shown_in C ls s) ≡ queried (cond b l.cursors (cursors_in s ls)) (rows_at C from)) [
         | true ↦ λ c. ap (shown_at C l.cursors) c
         | false ↦ λ c. shown_from from ls c
       ] e
@@ -77,7 +80,8 @@ module _ (C : List Moment) (s : ℕ) where
   watched_loaded place o (l ∷ ls) [] w same stands = absurd w
   watched_loaded place o (l ∷ ls) (x ∷ os) w same stands =
       elim (s == l.sub) as
-      (λ b. cursors_of o ≡ cond b l.cursors (cursors_in s ls) → AreWatched C (cond b (record l { cursor = Some place } ∷ ls) (l ∷ loaded s place ls)) (cond b (Some o ∷ os) (x ∷ observers_with s (Some o) ls os))) [
+      (λ b. cursors_of o ≡ cond b l.cursors (cursors_in s ls) → AreWatched C (cond b (record l { cursor = Some place } ∷ ls) (l ∷ loaded s place ls))
+      (cond b (Some o ∷ os) (x ∷ observers_with s (Some o) ls os))) [
         | true ↦ λ c. (record { cursors = c; stands = stands }, w.1)
         | false ↦ λ c. (w.0, watched_loaded place o ls os w.1 c stands)
       ] same

@@ -34,7 +34,8 @@ pub longer_means : (taken : List (List ℕ)) (C more : List Moment) (sent : List
     Means taken C sent s → Means taken (C ++ more) sent s
 longer_means taken C more sent s order m =
     let items = items_of taken s.carried in
-    let within : AreWithin (length C) s.carried.own.subs = subst (λ (st : State). AreWithin (length C) st.subs) (sym m.stands.own) (within_from s.carried.app s.carried.number C started items m.stands.fits tt) in
+    let within : AreWithin (length C) s.carried.own.subs = subst (λ (st : State). AreWithin (length C) st.subs) (sym m.stands.own)
+    (within_from s.carried.app s.carried.number C started items m.stands.fits tt) in
     record {
       order = order;
       stands = longer_stands taken C more sent s.carried m.stands;

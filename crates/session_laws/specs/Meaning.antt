@@ -54,7 +54,8 @@ abbrev pub AreOpen : Bool → List ClientMessage → Type 0
 AreOpen b [] = Unit {0}
 AreOpen b (m ∷ ms) = b ≡ true
 
--- The texts sent and those of the outbox are the texts of the journal, and all that is carried along is as the journal says. The documents of each moment stand by key.
+-- The texts sent and those of the outbox are the texts of the journal, and all that is carried along is as the journal says.
+-- The documents of each moment stand by key.
 pub record Means (taken : List (List ℕ)) (C : List Moment) (sent : List (List ℕ)) (s : ASession) : Type 0 where
   pub order : AreInOrder C
   pub stands : Stands taken C sent s.carried

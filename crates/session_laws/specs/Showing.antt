@@ -1,5 +1,6 @@
 -- A subscription that is loaded, goes on or is fed keeps what a session stands for.
-use Rattle.std.specs.Prelude.{◌≡◌, ℕ, zero, suc, ◌+◌, ◌<◌, List, [], ◌∷◌, length, Bool, true, false, cond, ◌&&◌, Option, Some, None, IfSome, is_some, option_map, refl}
+use Rattle.std.specs.Prelude.{◌≡◌, ℕ, zero, suc, ◌+◌, ◌<◌, List, [], ◌∷◌, length, Bool, true, false, cond, ◌&&◌, Option, Some, None, IfSome, is_some}
+use Rattle.std.specs.Prelude.{option_map, refl}
 use Rattle.std.proofs.Common.{ap, sym, subst, ◌∙◌, arith}
 use Rattle.map_model.specs.Maps.{IsSorted}
 use Rattle.merge_model.specs.Publishing.{apply, renewed, shown}
@@ -27,7 +28,8 @@ use Rattle.session_journal_laws.specs.RelationKeeping.{shows_news}
 use Rattle.session_laws.specs.Session.{ASession, is_at_work, place_on, can_load, can_advance}
 use Rattle.session_model.specs.Observers.{observers_with}
 use Rattle.session_laws.specs.Meaning.{AreWatched, Means}
-use Rattle.session_laws.specs.Events.{HasDone, Waits, cursors_at, observer_of, HasLoaded, KeepsLoading, Tells, HasAdvanced, IsBatch, KeepsAdvancing, HasFed, IsFeed, KeepsFeeding}
+use Rattle.session_laws.specs.Events.{HasDone, Waits, cursors_at, observer_of, HasLoaded, KeepsLoading, Tells, HasAdvanced, IsBatch, KeepsAdvancing}
+use Rattle.session_laws.specs.Events.{HasFed, IsFeed, KeepsFeeding}
 use Rattle.session_laws.specs.Added.{IsTextless, added_keeps}
 use Rattle.session_laws.specs.Differences.{query_leads, difference_leads}
 use Rattle.session_laws.specs.Loading.{IsWatchingAt}
@@ -77,7 +79,8 @@ module _ (sub place : ℕ) (rows : Rows) (old new : ASession) (can : can_load su
       watched_loaded C sub place a.observer own.subs old.observers m.watched a.cursors (subst (StandsAt a.observer) snapshot.documents a.stands) in
       added_keeps taken C sent i (apply sub news) (own_messages [] number own i) old new (load_textless sub place) m a.done a.waits refl
       (may, snapshot.within) refl shows
-      (subst (λ (ls : List Live). AreWatched C ls new.observers) (sym (ap (λ (st : State). st.subs) a.done.added.own)) (subst (λ (os : List (Option AnObserver)). AreWatched C (loaded sub place own.subs) os) (sym a.observers) watched))
+      (subst (λ (ls : List Live). AreWatched C ls new.observers) (sym (ap (λ (st : State). st.subs) a.done.added.own))
+      (subst (λ (os : List (Option AnObserver)). AreWatched C (loaded sub place own.subs) os) (sym a.observers) watched))
 
 -- ---- it goes on
 
@@ -102,7 +105,8 @@ module _ (sub from count : ℕ) (news : List (Key × Option Entries)) (old new :
       let shows : (r : ℕ) → shown key_cmp (apply sub news ∷ calls_of C items) r ≡ shown_in C (after (state_of items) i).subs r =
       shows_news C m.order items i news
       (subst (λ (st : State). renewed key_cmp (shown_in C st.subs sub) news ≡ shown_in C (after st i).subs sub) m.stands.own on) in
-      let may : MayAdvance (length C) count (cursor_of sub own.subs) = subst (MayAdvance (length C) count) (sym is) (some_on old sub from count can is, within) in
+      let may : MayAdvance (length C) count (cursor_of sub own.subs) =
+      subst (MayAdvance (length C) count) (sym is) (some_on old sub from count can is, within) in
       added_keeps taken C sent i (apply sub news) (own_messages [] old.carried.number own i) old new
       (advance_textless sub count) m done waits refl may refl shows
       (subst (λ (ls : List Live). AreWatched C ls new.observers) (sym (ap (λ (st : State). st.subs) done.added.own ∙ moved)) watched)
@@ -121,12 +125,14 @@ module _ (sub start count : ℕ) (changes : List Change) (old new : ASession) (c
       let rows = rows_at C start in
       let later = rows_at C place in
       let step : IsStep o rows later news a.plan = tells rows later (record { by_key = m.order start; stands = w.1; leads = b.leads }) in
-      let differs : IsDifference (published cursors rows) (published cursors later) news = subst (λ (cs : ACursors). IsDifference (published cs rows) (published cs later) news) w.0 step.differs in
+      let differs : IsDifference (published cursors rows) (published cursors later) news =
+      subst (λ (cs : ACursors). IsDifference (published cs rows) (published cs later) news) w.0 step.differs in
       let observers : new.observers ≡ observers_with sub (Some (carried o a.plan)) subs old.observers =
       a.observers ∙ ap (λ (x : Option AnObserver). observers_with sub (option_map (λ (y : AnObserver). carried y a.plan) x) subs old.observers) e in
       gone_keeps sub start count news old new can b.from a.done a.waits taken C sent m b.within
       (difference_leads cursors rows later news (m.order start) (m.order place) differs)
-      (subst (λ (os : List (Option AnObserver)). AreWatched C (loaded sub place subs) os) (sym observers) (watched_loaded C sub place (carried o a.plan) subs old.observers m.watched (same_cursors o a.plan ∙ w.0) step.lands))
+      (subst (λ (os : List (Option AnObserver)). AreWatched C (loaded sub place subs) os) (sym observers)
+      (watched_loaded C sub place (carried o a.plan) subs old.observers m.watched (same_cursors o a.plan ∙ w.0) step.lands))
 
   pub advanced_keeps : KeepsAdvancing sub start count changes old new
   advanced_keeps taken C sent m b =
@@ -151,7 +157,8 @@ module _ (sub count : ℕ) (news : List Publish) (old new : ASession) (can : can
       a.observers ∙ (sym (with_same sub subs old.observers) ∙ ap (λ (x : Option AnObserver). observers_with sub x subs old.observers) e) in
       gone_keeps sub f.from count (news_of news) old new can f.loaded a.done a.waits taken C sent m f.within f.leads
       (subst (λ (os : List (Option AnObserver)). AreWatched C (loaded sub place subs) os) (sym observers)
-      (watched_loaded C sub place o subs old.observers m.watched w.0 (stands (subst (λ (cs : ACursors). HaveNoLimit cs) (sym w.0) f.no_limit) (rows_at C place))))
+      (watched_loaded C sub place o subs old.observers m.watched w.0
+      (stands (subst (λ (cs : ACursors). HaveNoLimit cs) (sym w.0) f.no_limit) (rows_at C place))))
 
   pub fed_keeps : KeepsFeeding sub count news old new
   fed_keeps taken C sent m f =

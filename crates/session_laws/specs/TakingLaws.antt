@@ -1,5 +1,6 @@
 -- Laws: What comes of a text at once, as the journal reads it.
-use Rattle.std.specs.Prelude.{◌≡◌, ℕ, List, [], ◌∷◌, ◌++◌, drop, length, not, nat_lt, ◌&&◌, Bool, true, false, cond, codes, Option, Some, None, option_and_then, refl}
+use Rattle.std.specs.Prelude.{◌≡◌, ℕ, List, [], ◌∷◌, ◌++◌, drop, length, not, nat_lt, ◌&&◌, Bool, true, false, cond, codes, Option, Some, None}
+use Rattle.std.specs.Prelude.{option_and_then, refl}
 use Rattle.std.proofs.Common.{ap, sym, subst, ◌∙◌}
 use Rattle.serde_json.specs.Data.{Data}
 use Rattle.serde_json.specs.Read as json
@@ -15,7 +16,8 @@ use Rattle.session_model.specs.Items as item
 use Rattle.session_model.specs.State.{State, own_after}
 use Rattle.session_model.specs.Moments.{Moment}
 use Rattle.session_model.specs.Out.{own_messages}
-use Rattle.session_model.specs.Taking.{max_text, Taken, at_once, to_queue, refused_for, connected_by, taken_as, taken_named, taken_tree, taken_text, is_connected_by}
+use Rattle.session_model.specs.Taking.{max_text, Taken, at_once, to_queue, refused_for, connected_by, taken_as, taken_named, taken_tree, taken_text}
+use Rattle.session_model.specs.Taking.{is_connected_by}
 use Rattle.session_model.specs.Answering.{is_at_once}
 use Rattle.session_journal_laws.specs.Resolved.{item_or_pong, resolved}
 use Rattle.session_journal_laws.specs.ResolvedLaws.{last_taken}
@@ -74,7 +76,8 @@ never_named : (d : Data) (o : Option (List ℕ)) → name_of d ≡ o → IsNever
 never_named d None e = tt
 never_named d (Some name) e =
     elim (is_name name (codes "connect")) as
-    (λ b. is_name name (codes "connect") ≡ b → IsNever (cond (not b) (refused_for (codes "Must connect first") d) (cond (false && b) (refused_for (codes "Already connected") d) (taken_as d (client_reading d))))) [
+    (λ b. is_name name (codes "connect") ≡ b → IsNever (cond (not b) (refused_for (codes "Must connect first") d)
+    (cond (false && b) (refused_for (codes "Already connected") d) (taken_as d (client_reading d))))) [
       | true ↦ λ is. subst (λ (o : Option (List ℕ)). IsNever (taken_as d (option_and_then (client_named d) o))) (sym e)
           (rw is (never_connect d (needed as_str (codes "version") d) (optional texts_of (codes "support") d)))
       | false ↦ λ is. tt

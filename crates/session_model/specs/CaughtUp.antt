@@ -1,4 +1,5 @@
--- From the `updated` of a call on, what the call wrote is shown (Meteor's DDP.md, "Remote procedure calls": `updated` comes once the method's writes are reflected in the data messages).
+-- From the `updated` of a call on, what the call wrote is shown (Meteor's DDP.md, "Remote procedure calls": `updated` comes once the method's writes
+-- are reflected in the data messages).
 use Rattle.std.specs.Prelude.{ℕ, ◌≤◌, List, [], ◌∷◌, Option, Some, None}
 use Rattle.session_model.specs.Subscriptions.{Live}
 use Rattle.session_model.specs.Methods.{Phase, told, Method}

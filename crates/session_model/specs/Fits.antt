@@ -1,5 +1,6 @@
 -- Which items may follow a journal: the item is the one that is made of its message there, and what it says of the store is so at the moments of the store.
-use Rattle.std.specs.Prelude.{◌≡◌, ℕ, ◌+◌, ◌<◌, List, [], ◌∷◌, length, true, false, Option, Some, None, Ok, Err, IfSome, is_some, decimal, codes, ◌++◌, if◌then◌else◌}
+use Rattle.std.specs.Prelude.{◌≡◌, ℕ, ◌+◌, ◌<◌, List, [], ◌∷◌, length, true, false, Option, Some, None, Ok, Err, IfSome, is_some, decimal, codes}
+use Rattle.std.specs.Prelude.{◌++◌, if◌then◌else◌}
 use Rattle.value_model.specs.Val.{Val, text}
 use Rattle.value_model.specs.Valid.{IsValue}
 use Rattle.ddp_messages.specs.Limits.{IsShort, IsShallow}

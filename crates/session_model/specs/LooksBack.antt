@@ -1,5 +1,6 @@
 -- What a journal says of subscriptions and fences, by looking back over its items. What the items leave of a session agrees with it.
-use Rattle.std.specs.Prelude.{◌≡◌, ℕ, ◌+◌, ◌<◌, ◌≤◌, ◌==◌, List, [], ◌∷◌, ◌++◌, length, max, take, Bool, true, false, Option, Some, None, option_map, if◌then◌else◌}
+use Rattle.std.specs.Prelude.{◌≡◌, ℕ, ◌+◌, ◌<◌, ◌≤◌, ◌==◌, List, [], ◌∷◌, ◌++◌, length, max, take, Bool, true, false, Option, Some, None, option_map}
+use Rattle.std.specs.Prelude.{if◌then◌else◌}
 use Rattle.std.specs.List.{list_any}
 use Rattle.std.specs.Option.{option_or}
 use Rattle.session_model.specs.Items.{Item}
@@ -94,7 +95,8 @@ abbrev pub finished_at : ℕ → List Item → Option ℕ
 finished_at k [] = None
 finished_at k (i ∷ items) = option_or (finish_by k i) (finished_at k items)
 
--- The fence of a call is open: it has finished, no subscription is opened and neither loaded nor closed, and each live one is at least at the place where the call had ended.
+-- The fence of a call is open: it has finished, no subscription is opened and neither loaded nor closed, and each live one is at least at the place
+-- where the call had ended.
 pub record IsFenceOpen (k : ℕ) (items : List Item) : Type 0 where
   pub place : ℕ
   pub finished : finished_at k items ≡ Some place

@@ -1,4 +1,5 @@
--- The moments of a store as a session sees them: after each number of entries of its history, the documents, how far the runs of the session's calls are, and whether there is room
+-- The moments of a store as a session sees them: after each number of entries of its history, the documents, how far the runs of the session's calls
+-- are, and whether there is room
 -- for more.
 use Rattle.std.specs.Prelude.{ℕ, zero, suc, List, [], ◌∷◌, Bool, Option, Some, None, option_and_then}
 use Rattle.value_model.specs.Val.{Val}

@@ -1,4 +1,5 @@
--- The messages of a journal, and their texts: with each item the difference of the merge before and after it, then the item's own messages, then `updated` for each finished call
+-- The messages of a journal, and their texts: with each item the difference of the merge before and after it, then the item's own messages, then
+-- `updated` for each finished call
 -- whose fence is open then (Meteor's DDP.md, "Managing data", "Remote procedure calls").
 use Rattle.std.specs.Prelude.{ℕ, List, [], ◌∷◌, ◌++◌, length, map, Option, Some, None, option_map, decimal, codes}
 use Rattle.map_model.specs.Differences.{Step}

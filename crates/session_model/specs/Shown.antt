@@ -1,4 +1,5 @@
--- What each subscription of a session shows, and the merge of it: one call of the merge for each item, which hands in all that its subscription shows then (Meteor's guide,
+-- What each subscription of a session shows, and the merge of it: one call of the merge for each item, which hands in all that its subscription
+-- shows then (Meteor's guide,
 -- "Publications and data loading": a document that several subscriptions publish is merged by top-level field).
 use Rattle.std.specs.Prelude.{ℕ, List, [], ◌∷◌, map, Option, Some, None}
 use Rattle.std.specs.declared.cmp.Ordering.{Ordering}

@@ -1,4 +1,5 @@
--- What a session makes of a text that it takes. The first rule that holds decides (DDP.md, "Establishing a DDP Connection", "Heartbeats", "Errors"; the order and the reasons are ours).
+-- What a session makes of a text that it takes. The first rule that holds decides (DDP.md, "Establishing a DDP Connection", "Heartbeats", "Errors";
+-- the order and the reasons are ours).
 use Rattle.std.specs.Prelude.{ℕ, List, [], ◌∷◌, ◌++◌, Bool, true, not, ◌&&◌, nat_lt, length, codes, Option, Some, None, is_some, if◌then◌else◌}
 use Rattle.serde_json.specs.Data.{Data}
 use Rattle.serde_json.specs.Find.{as_object}

@@ -5,7 +5,8 @@ ghost use Rattle.session_model.specs.State.{started};
 ghost use Rattle.session_model.specs.Methods.{freed};
 ghost use Rattle.session_journal_laws.specs.Stands.{fired_state};
 ghost use Rattle.session_state.specs.declared.own.Step.TheVariants as step;
-ghost use Rattle.session_state.specs.Own.{as_state, as_blocking, stepped, turned_state, started_by, ended_by, told_with, watch_after, CanStep, HasRoom, SameOwn, max_items};
+ghost use Rattle.session_state.specs.Own.{as_state, as_blocking, stepped, turned_state, started_by, ended_by, told_with, watch_after, CanStep};
+ghost use Rattle.session_state.specs.Own.{HasRoom, SameOwn, max_items};
 ghost use Rattle.session_model.specs.Observers.{observer_at, observers_with, observers_changed};
 ghost use Rattle.session_state.specs.Subs.{observers_of};
 ghost use Rattle.session_state.specs.Calls.{as_phase, has_refused, passed_by};
@@ -226,7 +227,8 @@ impl Own {
     /// The subscription with this number has this observer from now on.
     pub fn watch(&mut self, number: u64, observer: Observer)
         ensures same { as_state self.new ≡ as_state self.old }
-        ensures observers { observers_of self.new.subs.items ≡ observers_with number (Some observer) (as_state self.old).subs (observers_of self.old.subs.items) }
+        ensures observers { observers_of self.new.subs.items
+            ≡ observers_with number (Some observer) (as_state self.old).subs (observers_of self.old.subs.items) }
     {
         watch(&mut self.subs, number, observer);
     }
@@ -235,7 +237,8 @@ impl Own {
     pub fn commit(&mut self, number: u64, plan: Plan)
         requires { IfSome (observer_at number (as_state self.old).subs (observers_of self.old.subs.items)) (λ o. IsPlanOf o plan) }
         ensures same { as_state self.new ≡ as_state self.old }
-        ensures observers { observers_of self.new.subs.items ≡ observers_changed number (λ o. carried o plan) (as_state self.old).subs (observers_of self.old.subs.items) }
+        ensures observers { observers_of self.new.subs.items
+            ≡ observers_changed number (λ o. carried o plan) (as_state self.old).subs (observers_of self.old.subs.items) }
     {
         commit(&mut self.subs, number, plan);
     }

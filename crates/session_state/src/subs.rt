@@ -127,7 +127,8 @@ fn commit_in(sub: &mut Sub, plan: Plan)
 fn commit_at(subs: &mut Vec<Sub>, place: usize, plan: Plan)
     requires { IfSome (observer_in place (observers_of subs.old.items)) (λ o. IsPlanOf o plan) }
     ensures same { map as_live subs.new.items ≡ map as_live subs.old.items }
-    ensures observers { observers_of subs.new.items ≡ slice_set (observers_of subs.old.items) place (option_map (λ o. carried o plan) (observer_in place (observers_of subs.old.items))) }
+    ensures observers { observers_of subs.new.items
+        ≡ slice_set (observers_of subs.old.items) place (option_map (λ o. carried o plan) (observer_in place (observers_of subs.old.items))) }
 {
     if let Some(sub) = subs.get_mut(place) {
         commit_in(sub, plan);
@@ -138,7 +139,8 @@ fn commit_at(subs: &mut Vec<Sub>, place: usize, plan: Plan)
 pub(crate) fn commit(subs: &mut Vec<Sub>, number: u64, plan: Plan)
     requires { IfSome (observer_at number (map as_live subs.old.items) (observers_of subs.old.items)) (λ o. IsPlanOf o plan) }
     ensures same { map as_live subs.new.items ≡ map as_live subs.old.items }
-    ensures observers { observers_of subs.new.items ≡ observers_changed number (λ o. carried o plan) (map as_live subs.old.items) (observers_of subs.old.items) }
+    ensures observers { observers_of subs.new.items
+        ≡ observers_changed number (λ o. carried o plan) (map as_live subs.old.items) (observers_of subs.old.items) }
 {
     if let Some(place) = place_of(subs.as_slice(), number) {
         commit_at(subs, place, plan);

@@ -3,7 +3,8 @@ ghost use Rattle.std.specs.Prelude.{◌≡◌, ◌++◌, map, true, option_map, 
 ghost use Rattle.session_state.specs.Subs.{as_live};
 ghost use Rattle.session_state.specs.Calls.{as_phase, as_method, are_settled};
 ghost use Rattle.session_state.specs.Own.{as_state, as_blocking};
-ghost use Rattle.session_state.specs.Work.{as_work, work_of, as_place, as_source, source_of, unloaded_by, unloaded_in, cursors_by, cursors_in, feeds_by, feeds_in, running_by, running_from};
+ghost use Rattle.session_state.specs.Work.{as_work, work_of, as_place, as_source, source_of, unloaded_by, unloaded_in, cursors_by, cursors_in};
+ghost use Rattle.session_state.specs.Work.{feeds_by, feeds_in, running_by, running_from};
 
 use crate::{Call, Method, Own, Phase, Sub};
 use ejson_value::{Items, Mem, Text, copy};

@@ -118,7 +118,8 @@ fn refused_shown(alloc: Global, reason: &str, text: &Text) -> Result<Taken, Mem>
 
 // What comes of a `connect`.
 fn taken_connect(alloc: Global, connected: bool, text: &Text, version: &Text) -> Result<Taken, Mem>
-    ensures { IfOk result (λ t. as_taken t ≡ (if connected then refused_with (codes "Already connected") (offending_in text.now) else at_once (connected_by version.now))) }
+    ensures { IfOk result (λ t. as_taken t
+        ≡ (if connected then refused_with (codes "Already connected") (offending_in text.now) else at_once (connected_by version.now))) }
 {
     if connected {
         return refused_shown(alloc, "Already connected", text);

@@ -91,7 +91,8 @@ impl<N: StoreName> HeldMultiplexer<N> {
         ensures source { IfOk result (λ answer. IfSome answer (HasItsSource self.new.news.sources)) }
         ensures list { self.new.list ≡ self.old.list }
         ensures grows { steps.old ≤ steps.new }
-        ensures ticks { steps.new ≤ steps.old + looks (length sub.now.cursors) (over N.app self.old.list) (known_in self.old.news.sources sub.now.name sub.now.params from (from + count)) (from + count) }
+        ensures ticks { steps.new ≤ steps.old + looks (length sub.now.cursors) (over N.app self.old.list)
+            (known_in self.old.news.sources sub.now.name sub.now.params from (from + count)) (from + count) }
         ensures known { from + count ≤ known_in self.old.news.sources sub.now.name sub.now.params from (from + count) → steps.new ≡ steps.old }
     {
         self.multiplexer.span(entries, sub, from, count, steps)
@@ -120,7 +121,8 @@ impl<N: StoreName> HeldMultiplexer<N> {
         ensures source { IfOk result (λ answer. IfSome answer (HasItsSource self.new.news.sources)) }
         ensures list { self.new.list ≡ longer self.old.list note }
         ensures grows { steps.old ≤ steps.new }
-        ensures ticks { steps.new ≤ steps.old + looks (length sub.now.cursors) (over N.app note) (known_in self.old.news.sources sub.now.name sub.now.params from (from + count)) (from + count) }
+        ensures ticks { steps.new ≤ steps.old + looks (length sub.now.cursors) (over N.app note)
+            (known_in self.old.news.sources sub.now.name sub.now.params from (from + count)) (from + count) }
         ensures known { from + count ≤ known_in self.old.news.sources sub.now.name sub.now.params from (from + count) → steps.new ≡ steps.old }
     {
         self.meet(log, note);

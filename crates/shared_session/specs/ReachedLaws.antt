@@ -1,5 +1,6 @@
 -- Laws: No place that a subscription may not show less than is behind the moments that the journal was made over.
-use Rattle.std.specs.Prelude.{◌≡◌, ℕ, zero, suc, ◌+◌, ◌<◌, ◌≤◌, ◌==◌, List, [], ◌∷◌, ◌++◌, length, true, false, cond, not, Option, None, Some, option_and_then, refl}
+use Rattle.std.specs.Prelude.{◌≡◌, ℕ, zero, suc, ◌+◌, ◌<◌, ◌≤◌, ◌==◌, List, [], ◌∷◌, ◌++◌, length, true, false, cond, not, Option, None, Some}
+use Rattle.std.specs.Prelude.{option_and_then, refl}
 use Rattle.std.proofs.Common.{arith}
 use Rattle.app_model.specs.App.{App}
 use Rattle.program_steps.specs.declared.outcome.Status.{Status}
@@ -28,7 +29,8 @@ reached_advanced : (n s count : ℕ) (ls : List Live) → AreReached n ls → Ar
 reached_advanced n s count [] r = tt
 reached_advanced n s count (l ∷ ls) r =
     elim (s == l.sub) as
-    (λ b. AreReached n (cond b (record l { cursor = moved count l.cursor } ∷ ls) (l ∷ advanced s count ls))) [ true ↦ r | false ↦ (r.0, reached_advanced n s count ls r.1) ]
+    (λ b. AreReached n (cond b (record l { cursor = moved count l.cursor } ∷ ls) (l ∷ advanced s count ls)))
+    [ true ↦ r | false ↦ (r.0, reached_advanced n s count ls r.1) ]
 
 reached_closed : (n s : ℕ) (ls : List Live) → AreReached n ls → AreReached n (closed s ls)
 reached_closed n s [] r = tt

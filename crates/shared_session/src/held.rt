@@ -12,7 +12,8 @@ ghost use Rattle.session_core.specs.Known.{AreRight, AreLearnt};
 ghost use Rattle.session_core.specs.Limits.{is_limited};
 ghost use Rattle.shared_session.specs.Held.{Stands};
 ghost use Rattle.shared_session.specs.Standing.{WereThere, WereMade, WasSo, HadNoRoom, WereTold};
-ghost use Rattle.shared_session.specs.Events.{Keeps, Meets, TakesHeld, HandlesHeld, SendsHeld, ClosesHeld, LoadsHeld, AdvancesHeld, FeedsHeld, LearnsHeld, RefusesHeld, AdvancesFrom, FeedsFrom};
+ghost use Rattle.shared_session.specs.Events.{Keeps, Meets, TakesHeld, HandlesHeld, SendsHeld, ClosesHeld, LoadsHeld, AdvancesHeld, FeedsHeld};
+ghost use Rattle.shared_session.specs.Events.{LearnsHeld, RefusesHeld, AdvancesFrom, FeedsFrom};
 
 use app_model::App;
 use ejson_value::{Mem, Publishes, Text};

@@ -17,7 +17,8 @@ key_total : (key : SortKey) → IsTotalOrder (key_cmp key)
 key_total key =
     let up : IsTotalOrder (on (sort_value key.path) compare) = on_total (sort_value key.path) compare_total in
     elim key.descending as
-    (λ b. IsTotalOrder (λ (x y : Entries). if b then compare (sort_value key.path y) (sort_value key.path x) else compare (sort_value key.path x) (sort_value key.path y))) [
+    (λ b. IsTotalOrder (λ (x y : Entries). if b then compare (sort_value key.path y) (sort_value key.path x) else compare (sort_value key.path x)
+    (sort_value key.path y))) [
       | true ↦ back_total up
       | false ↦ up
     ]

@@ -1,5 +1,6 @@
 //! Rows in the order of sort keys, and rows by id.
-ghost use Rattle.std.specs.Prelude.{◌≡◌, ◌+◌, ◌<◌, ◌≤◌, ◌∷◌, ℕ, count_by, false, length, option_map, slice_get, vec_len, vec_capacity, Some, None, IfSome, OnOk, IsTrue};
+ghost use Rattle.std.specs.Prelude.{◌≡◌, ◌+◌, ◌<◌, ◌≤◌, ◌∷◌, ℕ, count_by, false, length, option_map, slice_get, vec_len, vec_capacity, Some, None};
+ghost use Rattle.std.specs.Prelude.{IfSome, OnOk, IsTrue};
 ghost use Rattle.map_model.specs.Maps.{at, set, IsSorted};
 ghost use Rattle.value_model.specs.Order.{text_cmp};
 ghost use Rattle.sort_window.specs.Inside.{stands_before, has_id, has_id_below, is_row, AreInOrder, HasOneMore};

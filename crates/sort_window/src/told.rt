@@ -38,7 +38,8 @@ pub(crate) fn tell(
     before: Option<&Doc>,
     after: Option<&Doc>,
 ) -> Result<(), Mem>
-    ensures { OnOk result (IsOneTold told.old.entries id.now (option_map (λ doc. doc.now) before.entry) (option_map (λ doc. doc.now) after.entry) told.new.entries) }
+    ensures { OnOk result
+        (IsOneTold told.old.entries id.now (option_map (λ doc. doc.now) before.entry) (option_map (λ doc. doc.now) after.entry) told.new.entries) }
 {
     if same_shown(before, after) {
         return Ok(());

@@ -1,5 +1,6 @@
 //! Windows and their moves.
-ghost use Rattle.std.specs.Prelude.{◌≡◌, ℕ, List, Option, ◌∷◌, ◌++◌, false, OnOk, ◌+◌, ◌-◌, ◌<◌, ◌≤◌, [], length, map, count_by, nat_lt, option_map, vec_len, vec_capacity, Some, None, IfOk, if◌then◌else◌};
+ghost use Rattle.std.specs.Prelude.{◌≡◌, ℕ, List, Option, ◌∷◌, ◌++◌, false, OnOk, ◌+◌, ◌-◌, ◌<◌, ◌≤◌, [], length, map, count_by, nat_lt, option_map};
+ghost use Rattle.std.specs.Prelude.{vec_len, vec_capacity, Some, None, IfOk, if◌then◌else◌};
 ghost use Rattle.std.specs.List.{list_any};
 ghost use Rattle.value_model.specs.Size.{is_name};
 ghost use Rattle.map_model.specs.Maps.{at};
@@ -268,7 +269,8 @@ impl Window {
         requires drafted { IsDraftOf self.now draft.now.changes.items draft.now.going.items draft.now.coming.items }
         requires all { AreTold (before self.now) (after self.now draft.now.changes.items) told.old.entries draft.now.changes.items }
         ensures more { OnOk result (IsToldMore (before self.now) (after self.now draft.now.changes.items) told.old.entries told.new.entries) }
-        ensures rows { OnOk result ((id : List ℕ) (row : Row) → at text_cmp self.now.rows id ≡ Some row → at text_cmp (changed text_cmp self.now.rows draft.now.changes.items) id ≡ Some row →
+        ensures rows { OnOk result ((id : List ℕ) (row : Row) → at text_cmp self.now.rows id ≡ Some row →
+            at text_cmp (changed text_cmp self.now.rows draft.now.changes.items) id ≡ Some row →
             IsQuiet (before self.now) (after self.now draft.now.changes.items) told.new.entries id) }
     {
         let limit = self.limit as usize;

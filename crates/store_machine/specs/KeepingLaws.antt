@@ -1,5 +1,6 @@
 -- What is kept is what the history leads to, entry by entry.
-use Rattle.std.specs.Prelude.{◌≡◌, ℕ, suc, ◌+◌, ◌-◌, ◌≤◌, List, [], ◌∷◌, ◌++◌, length, Bool, true, false, cond, not, ◌&&◌, Option, None, Some, is_some, option_map, Ok, IfSome, refl}
+use Rattle.std.specs.Prelude.{◌≡◌, ℕ, suc, ◌+◌, ◌-◌, ◌≤◌, List, [], ◌∷◌, ◌++◌, length, Bool, true, false, cond, not, ◌&&◌, Option, None, Some}
+use Rattle.std.specs.Prelude.{is_some, option_map, Ok, IfSome, refl}
 use Rattle.std.proofs.Common.{ap, ap₂, sym, subst, ◌∙◌, arith}
 use Rattle.map_model.specs.Maps.{at, set}
 use Rattle.value_model.specs.Val.{Val}
@@ -21,7 +22,10 @@ use Rattle.program_steps.specs.Runs.{Outcome as RunOutcome}
 use Rattle.history_model.specs.declared.entry.Entry.{Entry}
 use Rattle.history_model.specs.declared.entry.Entry.TheVariants as entry
 use Rattle.history_model.specs.Operations.{operation_in}
-use Rattle.history_model.specs.History.{Programs, RunKey, run_cmp, Begun, Runs, Held, status_of, later, setting_in, room_in, steps_of, call_bytes, no_steps, goes_on, with_begin, with_call, with_step, with_stepped, with_operation, with_answer, step_changes, operation_changes, answer_changes, changes_by, carried, held, status_in, max_kept, max_entries, reserved, entries_with, is_full, is_full_for_operation, is_next, is_made, is_answered, can_follow}
+use Rattle.history_model.specs.History.{Programs, RunKey, run_cmp, Begun, Runs, Held, status_of, later, setting_in, room_in, steps_of, call_bytes}
+use Rattle.history_model.specs.History.{no_steps, goes_on, with_begin, with_call, with_step, with_stepped, with_operation, with_answer, step_changes}
+use Rattle.history_model.specs.History.{operation_changes, answer_changes, changes_by, carried, held, status_in, max_kept, max_entries, reserved}
+use Rattle.history_model.specs.History.{entries_with, is_full, is_full_for_operation, is_next, is_made, is_answered, can_follow}
 use Rattle.history_model.specs.Bounds.{IsBegun, IsWithin}
 use Rattle.history_model.specs.HistoryLaws.{held-append, held_entries}
 use Rattle.history_model.specs.RunsLaws.{held_is}
@@ -32,7 +36,8 @@ use Rattle.store_machine.specs.LogOfLaws.{log_of-append, length-log_of}
 use Rattle.store_machine.specs.Places.{Life, Lives, IsLife, AreLives, status_by, put, noted}
 use Rattle.store_machine.specs.PlaceLaws.{lives_stay, lives_put, begun_told, stepped_told, stepped_life, no_lives}
 use Rattle.store_machine.specs.ReservedLaws.{reserved-set}
-use Rattle.store_machine.specs.Keeping.{Kept, Keeps, no_entries, room_by, setting_with, next_place, first_life, with_begun, next_life, with_step_made, with_operation_made}
+use Rattle.store_machine.specs.Keeping.{Kept, Keeps, no_entries, room_by, setting_with, next_place, first_life, with_begun, next_life, with_step_made}
+use Rattle.store_machine.specs.Keeping.{with_operation_made}
 
 -- nothing is kept at first
 pub keeps_nothing : (app : Programs) → Keeps app [] no_entries
@@ -90,9 +95,12 @@ keeps_begun app history m session k name params seed keeps none known next free 
     let absent = run_of_life app history m (session, k) keeps ∙ ap (option_map (λ (l : Life). l.now)) none in
     let grows = held-append app history e ∙ begin_carried app h session k name params seed absent in
     let b : Begun = record { run = run; at = suc n } in
-    let runs = ap (λ (x : Held). x.runs) grows ∙ ap (λ p. set run_cmp h.runs (session, k) (Some (let b : Begun = record { run = run; at = suc p } in b))) (held_entries app history) in
-    let lives = lives_put app history e m.lives (session, k) (first_life (suc n) run) keeps.lives (first_is n params (view seed) new) runs (λ place fits. begun_told n (first_life (suc n) run) (m.lives (session, k)) place fits refl none) in
-    let can = and_both (is_some (app.method name) && is_next session k h.runs) (not (is_full app h name params (view seed))) (and_both (is_some (app.method name)) (is_next session k h.runs) known next) (ap not free) in
+    let runs = ap (λ (x : Held). x.runs) grows
+    ∙ ap (λ p. set run_cmp h.runs (session, k) (Some (let b : Begun = record { run = run; at = suc p } in b))) (held_entries app history) in
+    let lives = lives_put app history e m.lives (session, k) (first_life (suc n) run) keeps.lives (first_is n params (view seed) new) runs
+    (λ place fits. begun_told n (first_life (suc n) run) (m.lives (session, k)) place fits refl none) in
+    let can = and_both (is_some (app.method name) && is_next session k h.runs) (not (is_full app h name params (view seed)))
+    (and_both (is_some (app.method name)) (is_next session k h.runs) known next) (ap not free) in
     let more = reserved-set h.runs (session, k) b (held_is app history).sorted in
     record {
       rows = keeps.rows ∙ sym (ap (λ (x : Held). x.rows) grows);
@@ -145,7 +153,8 @@ made_stepped app history m session k old keeps was going =
     let there = run_of_life app history m (session, k) keeps ∙ ap (option_map (λ (l : Life). l.now)) was in
     let grows = held-append app history e ∙ step_carried app h session k old.now there going in
     let b : Begun = record { run = s.run; at = suc n } in
-    let runs = ap (λ (x : Held). x.runs) grows ∙ ap (λ p. set run_cmp h.runs (session, k) (Some (let b : Begun = record { run = s.run; at = suc p } in b))) (held_entries app history) in
+    let runs = ap (λ (x : Held). x.runs) grows
+    ∙ ap (λ p. set run_cmp h.runs (session, k) (Some (let b : Begun = record { run = s.run; at = suc p } in b))) (held_entries app history) in
     let is = run_is h.entries (at run_cmp h.runs (session, k)) old.now there ((held_is app history).begun (session, k)) in
     let lived = life_is n (m.lives (session, k)) old was (keeps.lives.are (session, k)) in
     let one = stepped_life n old b lived refl (stepped_follows (setting_in app h) h.rows old.now.run is).unblocked in
@@ -161,7 +170,8 @@ made_stepped app history m session k old keeps was going =
       bytes = ap (λ p. p + new_bytes s.changes) keeps.bytes ∙ sym (ap (λ (x : Held). x.kept) grows);
       steps = omega (arith, keeps.steps, more, ap left_of there, ap reserved runs);
       log = ap (λ ls. ls ++ record { entry = e; changes = s.changes } ∷ []) keeps.log
-          ∙ (ap (λ cs. log_of app history ++ record { entry = e; changes = cs } ∷ []) (sym (step_changed app h session k old.now there going)) ∙ sym (log_of-append app history e));
+          ∙ (ap (λ cs. log_of app history ++ record { entry = e; changes = cs } ∷ []) (sym (step_changed app h session k old.now there going))
+          ∙ sym (log_of-append app history e));
       within = subst IsWithin (sym (held-append app history e)) (carried_within app h e can (held_is app history) keeps.within);
     }
 
@@ -216,6 +226,7 @@ keeps_operated app history m op o a keeps is answer free =
       bytes = ap (λ p. p + new_bytes a.changes) keeps.bytes ∙ sym (ap (λ (x : Held). x.kept) grows);
       steps = keeps.steps ∙ sym (ap (λ (x : Held). reserved x.runs) grows);
       log = ap (λ ls. ls ++ record { entry = e; changes = a.changes } ∷ []) keeps.log
-          ∙ (ap (λ cs. log_of app history ++ record { entry = e; changes = cs } ∷ []) (sym (operation_changed app h op o a is made)) ∙ sym (log_of-append app history e));
+          ∙ (ap (λ cs. log_of app history ++ record { entry = e; changes = cs } ∷ []) (sym (operation_changed app h op o a is made))
+          ∙ sym (log_of-append app history e));
       within = subst IsWithin (sym (held-append app history e)) (carried_within app h e can (held_is app history) keeps.within);
     }

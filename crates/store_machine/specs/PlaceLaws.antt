@@ -1,5 +1,6 @@
 -- Laws of how far runs were at earlier places.
-use Rattle.std.specs.Prelude.{◌≡◌, ℕ, zero, suc, ◌≤◌, ◌<◌, ◌+◌, List, [], ◌∷◌, ◌++◌, length, take, Bool, true, false, cond, nat_le, Option, None, Some, is_some, option_map, option_and_then, IfSome, refl, if◌then◌else◌}
+use Rattle.std.specs.Prelude.{◌≡◌, ℕ, zero, suc, ◌≤◌, ◌<◌, ◌+◌, List, [], ◌∷◌, ◌++◌, length, take, Bool, true, false, cond, nat_le, Option, None}
+use Rattle.std.specs.Prelude.{Some, is_some, option_map, option_and_then, IfSome, refl, if◌then◌else◌}
 use Rattle.std.specs.Ordering.{eq_by_cmp}
 use Rattle.std.proofs.Common.{ap, sym, subst, ◌∙◌, arith, length-append}
 use Rattle.std.proofs.lemmas.Bool.{leb-true, leb-false, le-leb, lt-leb}
@@ -50,7 +51,8 @@ one_longer xs x = omega (arith, length-append xs (x ∷ []))
 grown : (app : Programs) (history : List Entry) (e : Entry) (lives after : Lives) → AreLives app history lives
     → ((key : RunKey) → option_map (λ (l : Life). l.now) (after key) ≡ at run_cmp (held app (history ++ e ∷ [])).runs key) →
     ((key : RunKey) → IfSome (after key) (IsLife (suc (length history))))
-    → ((place : ℕ) → place ≤ length history → (key : RunKey) → option_and_then (status_by place) (after key) ≡ option_and_then (status_by place) (lives key)) → AreLives app (history ++ e ∷ []) after
+    → ((place : ℕ) → place ≤ length history → (key : RunKey) →
+    option_and_then (status_by place) (after key) ≡ option_and_then (status_by place) (lives key)) → AreLives app (history ++ e ∷ []) after
 grown app history e lives after a now are earlier = record { now = now; are = own; places = places }
   where
     own : (key : RunKey) → IfSome (after key) (IsLife (length (history ++ e ∷ [])))
@@ -152,7 +154,8 @@ pub stepped_told : (n : ℕ) (l old : Life) (o : Option Life) (free : Bool) (pla
     → status_by place l ≡ option_and_then (status_by place) o
 stepped_told n l old o free place fits was begun unblocked last goes =
     let late : place < l.now.at = omega (arith, fits, last) in
-    let end : end_by place l.now ≡ end_by place old.now = ap (λ b. cond b (end_of l.now) None) (lt-leb l.now.at place late) ∙ sym (never (nat_le old.now.at place) (end_of old.now) (end_of-none old.now goes)) in
+    let end : end_by place l.now ≡ end_by place old.now = ap (λ b. cond b (end_of l.now) None) (lt-leb l.now.at place late)
+    ∙ sym (never (nat_le old.now.at place) (end_of old.now) (end_of-none old.now goes)) in
     let let_go : is_by place l.unblocked ≡ is_by place old.unblocked = ap (is_by place) unblocked ∙ is_by-noted place n old.unblocked free fits in
     ap (λ b. cond (nat_le b place) (Some (told (is_by place l.unblocked) (end_by place l.now))) None) begun
     ∙ (ap (λ u. cond (nat_le old.begun place) (Some (told u (end_by place l.now))) None) let_go

@@ -33,9 +33,11 @@ reserved-set (r ∷ runs) key b s =
     let rest = reserved-set runs key b (sorted_tail run_cmp r.0 (keys_of runs) s) in
     let put = insert_entry run_cmp runs key b in
     elim (run_cmp key r.0)
-    as (λ o. run_cmp key r.0 ≡ o → sum_by weight (match_ordering o ((key, b) ∷ r ∷ runs) ((r.0, b) ∷ runs) (r ∷ put)) + left_of (cond (is_eq o) (Some r.1) (at run_cmp runs key)) ≡ sum_by weight (r ∷ runs) + length b.run.left) [
+    as (λ o. run_cmp key r.0 ≡ o → sum_by weight (match_ordering o ((key, b) ∷ r ∷ runs) ((r.0, b) ∷ runs) (r ∷ put))
+    + left_of (cond (is_eq o) (Some r.1) (at run_cmp runs key)) ≡ sum_by weight (r ∷ runs) + length b.run.left) [
       | Less ↦ λ e.
-          let none : left_of (at run_cmp runs key) ≡ 0 = ap left_of (none_behind key runs (behind_all key r.0 (keys_of runs) e (sorted_head run_cmp r.0 (keys_of runs) s))) in
+          let none : left_of (at run_cmp runs key) ≡ 0 =
+          ap left_of (none_behind key runs (behind_all key r.0 (keys_of runs) e (sorted_head run_cmp r.0 (keys_of runs) s))) in
           omega (arith, none, sum_by-cons weight (key, b) (r ∷ runs))
       | Equal ↦ λ e. omega (arith, sum_by-cons weight r runs, sum_by-cons weight (r.0, b) runs)
       | Greater ↦ λ e. omega (arith, sum_by-cons weight r runs, sum_by-cons weight r put, rest)

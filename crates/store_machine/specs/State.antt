@@ -13,7 +13,8 @@ use Rattle.history_model.specs.declared.entry.Entry.{Entry}
 use Rattle.history_model.specs.declared.entry.Entry.TheVariants as entry
 use Rattle.history_model.specs.Operations.{operation_in}
 pub use Rattle.history_model.specs.Programs.{programs}
-use Rattle.history_model.specs.History.{Held, run_cmp, steps_of, goes_on, room_in, held, held_at, status_in, entries_with, kept_with, is_full, is_full_for_operation}
+use Rattle.history_model.specs.History.{Held, run_cmp, steps_of, goes_on, room_in, held, held_at, status_in, entries_with, kept_with, is_full}
+use Rattle.history_model.specs.History.{is_full_for_operation}
 use Rattle.store_machine.specs.declared.fault.BeginFault.{BeginFault}
 use Rattle.store_machine.specs.declared.fault.BeginFault.TheVariants as begin
 use Rattle.store_machine.specs.declared.fault.AdminFault.{AdminFault}

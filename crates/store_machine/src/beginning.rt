@@ -1,5 +1,6 @@
 //! Calls that begin.
-ghost use Rattle.std.specs.Prelude.{◌≡◌, ◌+◌, ◌-◌, ◌<◌, ◌≤◌, ℕ, ◌^◌, ◌||◌, nat_lt, ◌++◌, ◌∷◌, [], length, None, Some, true, is_some, option_map, IfOk, OnOk, OnErr};
+ghost use Rattle.std.specs.Prelude.{◌≡◌, ◌+◌, ◌-◌, ◌<◌, ◌≤◌, ℕ, ◌^◌, ◌||◌, nat_lt, ◌++◌, ◌∷◌, [], length, None, Some, true, is_some, option_map};
+ghost use Rattle.std.specs.Prelude.{IfOk, OnOk, OnErr};
 ghost use Rattle.map_model.specs.Maps.{at};
 ghost use Rattle.app_model.specs.App.{App as AnApp, method as method_of};
 ghost use Rattle.ejson_value.specs.View.{view};

@@ -67,7 +67,8 @@ fn end_at(outcome: &Option<Outcome>, at: u64) -> Result<Option<End>, Mem>
 
 // What a step that had this effect made.
 fn made_of(effect: Effect, unblocked: bool, at: u64) -> Made
-    ensures { result ≡ record { changes = effect.changes; status = record { unblocked = unblocked; ended = end_in (option_map outcome_view effect.outcome) at } } }
+    ensures { result
+        ≡ record { changes = effect.changes; status = record { unblocked = unblocked; ended = end_in (option_map outcome_view effect.outcome) at } } }
 {
     let Effect {
         changes,

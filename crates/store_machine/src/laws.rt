@@ -41,7 +41,9 @@ pub fn runs_are_told_of_at_each_place()
 /// An entry that puts a run leaves the lives of runs, with that run's in its place, if this tells of
 /// earlier places what was told of them.
 pub fn earlier_places_keep_what_is_told()
-    ensures { (app : Programs) (history : List AnEntry) (entry : AnEntry) (lives : Lives) (key : RunKey) (life : Life) → AreLives app history lives → IsLife (suc (length history)) life →
-        (held app (history ++ entry ∷ [])).runs ≡ set run_cmp (held app history).runs key (Some life.now) → ((place : ℕ) → place ≤ length history → status_by place life ≡ option_and_then (status_by place) (lives key)) →
+    ensures { (app : Programs) (history : List AnEntry) (entry : AnEntry) (lives : Lives) (key : RunKey) (life : Life) → AreLives app history lives →
+        IsLife (suc (length history)) life →
+        (held app (history ++ entry ∷ [])).runs ≡ set run_cmp (held app history).runs key (Some life.now) →
+        ((place : ℕ) → place ≤ length history → status_by place life ≡ option_and_then (status_by place) (lives key)) →
         AreLives app (history ++ entry ∷ []) (put lives key life) }
 {}

@@ -5,7 +5,8 @@ ghost use Rattle.history_model.specs.History.{status_in, status_at, changes_betw
 ghost use Rattle.history_model.specs.Operations.{operation_in};
 ghost use Rattle.history_log.specs.Entries.{told_operation};
 ghost use Rattle.history_model.specs.Lines.{store_lines, history_lines};
-ghost use Rattle.store_machine.specs.State.{programs, held_by, held_after, begin_answer, is_running, step_state, admin_answer, BeginGives, AdminGives, IsLastBegun};
+ghost use Rattle.store_machine.specs.State.{programs, held_by, held_after, begin_answer, is_running, step_state, admin_answer, BeginGives};
+ghost use Rattle.store_machine.specs.State.{AdminGives, IsLastBegun};
 
 use crate::beginning::{begin, last_begun, may_begin};
 use crate::fault::{AdminFault, BeginFault};
@@ -191,7 +192,8 @@ impl Machine {
     /// The changes of `count` entries behind the first `from`.
     pub fn batch(&self, from: u64, count: u64) -> Result<Batch, Mem>
         requires { from + count ≤ length self.now.history }
-        ensures { IfOk result (λ batch. batch ≡ record { from = from; count = count; changes = changes_between (programs self.now.app) self.now.history from count }) }
+        ensures { IfOk result
+            (λ batch. batch ≡ record { from = from; count = count; changes = changes_between (programs self.now.app) self.now.history from count }) }
     {
         self.parts.log.batch(from, count)
     }

@@ -60,7 +60,8 @@ fn settle(parts: &mut Parts, made: Made, had: u64, left: u64) -> Status
     requires room { parts.old.kept + new_bytes made.changes < 2 ^ 64 }
     requires among { had ≤ parts.old.reserved + left }
     requires few { parts.old.reserved + left < 2 ^ 64 }
-    ensures parts { parts.new ≡ record parts.old { log = settled parts.old.log made.changes; kept = parts.old.kept + new_bytes made.changes; reserved = parts.old.reserved + left - had } }
+    ensures parts { parts.new ≡ record parts.old
+        { log = settled parts.old.log made.changes; kept = parts.old.kept + new_bytes made.changes; reserved = parts.old.reserved + left - had } }
     ensures status { result ≡ made.status }
 {
     let Made { changes, status } = made;
@@ -120,7 +121,8 @@ pub(crate) fn step(
     requires { Stand app.now parts.old }
     ensures stands { Stand app.now parts.new }
     ensures ok { OnOk result (seen app.now parts.new ≡ step_state (seen app.now parts.old) session k) }
-    ensures status { IfOk result (λ status. status ≡ (if is_running (seen app.now parts.old) session k then status_in (held_by (seen app.now parts.new)) session k else None)) }
+    ensures status { IfOk result
+        (λ status. status ≡ (if is_running (seen app.now parts.old) session k then status_in (held_by (seen app.now parts.new)) session k else None)) }
     ensures err { OnErr result (seen app.now parts.new ≡ seen app.now parts.old) }
 {
     let running = is_running(app, &parts.calls, session, k);

@@ -1,5 +1,6 @@
 -- What the steps of a stub left so far, kept beside the view that they work on.
-use Rattle.std.specs.Prelude.{◌≡◌, ℕ, ◌+◌, Bool, true, false, not, ◌&&◌, ◌||◌, nat_lt, List, [], ◌∷◌, ◌++◌, length, map, filter, Option, Some, None, is_some, is_none, option_map, option_and_then}
+use Rattle.std.specs.Prelude.{◌≡◌, ℕ, ◌+◌, Bool, true, false, not, ◌&&◌, ◌||◌, nat_lt, List, [], ◌∷◌, ◌++◌, length, map, filter, Option, Some, None}
+use Rattle.std.specs.Prelude.{is_some, is_none, option_map, option_and_then}
 use Rattle.std.specs.List.{list_any}
 use Rattle.std.specs.Ordering.{eq_by_cmp}
 use Rattle.std.specs.BTreeMap.{insert_entry}
@@ -98,7 +99,8 @@ abbrev pub is_new : Rows → List Change → Bool
 is_new rows [] = false
 is_new rows (c ∷ cs) = is_none (at key_cmp rows c.key)
 
--- A step that made these changes over what it looks at, after which there is this much in all, is taken where all the rows have room for them and for a new document no other one stands. A client's collections have no rules, so a guarded step is refused.
+-- A step that made these changes over what it looks at, after which there is this much in all, is taken where all the rows have room for them and
+-- for a new document no other one stands. A client's collections have no rules, so a guarded step is refused.
 abbrev pub is_taken : Rows → ProgramStep → List Change → ℕ → ℕ → Bool
 is_taken rows (step.Insert collection doc) changes documents bytes = is_new rows changes && not (is_past documents bytes)
 is_taken rows (step.Update collection selector modifier all) changes documents bytes = not (is_past documents bytes)

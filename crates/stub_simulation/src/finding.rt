@@ -36,7 +36,8 @@ fn put_fresh(
     collection: &Text,
     selector: &Selector,
 ) -> Result<(), Mem>
-    ensures { OnOk result (found.new ≡ all_put found.old (filter (λ row. not (is_changed draft.now row.0) && holds selector.now row.0.id row.1) (rows_of collection.now view.now))) }
+    ensures { OnOk result (found.new ≡ all_put found.old
+        (filter (λ row. not (is_changed draft.now row.0) && holds selector.now row.0.id row.1) (rows_of collection.now view.now))) }
 {
     for (key, doc) in view.of_collection(collection)? {
         if is_found(draft, selector, key, doc) {
@@ -92,7 +93,8 @@ fn found_named(
     selector: &Selector,
 ) -> Result<Contents, Mem>
     requires { IsWithin draft.now }
-    ensures { IfOk result (λ found. found ≡ if_held selector.now (key_of collection.now id.now) (at key_cmp (shown_by view.now draft.now) (key_of collection.now id.now))) }
+    ensures { IfOk result (λ found. found
+        ≡ if_held selector.now (key_of collection.now id.now) (at key_cmp (shown_by view.now draft.now) (key_of collection.now id.now))) }
 {
     let key = Key::of(collection, id)?;
     let mut found = Contents::new(alloc);

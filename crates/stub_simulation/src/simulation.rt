@@ -46,7 +46,8 @@ fn stub_of<'a>(app: &'a App, method: &Text) -> Option<&'a ProgramSteps>
 fn drafted(call: &StubCall, run: &mut Run, totals: Totals) -> Result<Draft, Mem>
     requires documents { totals.documents ≡ length call.now.view.now }
     requires bytes { totals.bytes ≡ bytes_of call.now.view.now }
-    ensures { IfOk result (λ draft. (seed : Val) → run_of call.now.steps.now run.old ≡ begun call.now.params.now seed call.now.steps.now → IsLeftBy call.now.view.now (whole_run (client_setting call.now.names.now) call.now.view.now (begun call.now.params.now seed call.now.steps.now)) draft) }
+    ensures { IfOk result (λ draft. (seed : Val) → run_of call.now.steps.now run.old ≡ begun call.now.params.now seed call.now.steps.now → IsLeftBy
+        call.now.view.now (whole_run (client_setting call.now.names.now) call.now.view.now (begun call.now.params.now seed call.now.steps.now)) draft) }
 {
     let mut draft = Draft::new(call.alloc, totals);
     make_steps(call, run, &mut draft)?;
@@ -57,7 +58,8 @@ fn drafted(call: &StubCall, run: &mut Run, totals: Totals) -> Result<Draft, Mem>
 fn run_stub(call: &StubCall, seed: &Value, totals: Totals) -> Result<Draft, Mem>
     requires documents { totals.documents ≡ length call.now.view.now }
     requires bytes { totals.bytes ≡ bytes_of call.now.view.now }
-    ensures { IfOk result (λ draft. IsLeftBy call.now.view.now (whole_run (client_setting call.now.names.now) call.now.view.now (begun call.now.params.now (value_view seed.now) call.now.steps.now)) draft) }
+    ensures { IfOk result (λ draft. IsLeftBy call.now.view.now
+        (whole_run (client_setting call.now.names.now) call.now.view.now (begun call.now.params.now (value_view seed.now) call.now.steps.now)) draft) }
 {
     let mut run = Run::begin(call.alloc, call.steps, call.params, seed)?;
     drafted(call, &mut run, totals)
@@ -113,7 +115,8 @@ fn differences(
 
 fn simulate_steps(call: &StubCall, seed: &Value, bytes: u64) -> Result<Simulated, Mem>
     requires { bytes ≡ bytes_of call.now.view.now }
-    ensures { IfOk result (IsSimulated call.now.view.now (whole_run (client_setting call.now.names.now) call.now.view.now (begun call.now.params.now (value_view seed.now) call.now.steps.now))) }
+    ensures { IfOk result (IsSimulated call.now.view.now
+        (whole_run (client_setting call.now.names.now) call.now.view.now (begun call.now.params.now (value_view seed.now) call.now.steps.now))) }
 {
     call.view.known();
     let totals = Totals {

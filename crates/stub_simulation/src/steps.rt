@@ -45,7 +45,8 @@ fn next_step<'a>(steps: &'a [ProgramStep], run: &Run) -> Option<&'a ProgramStep>
 
 // Makes the next step over these documents alone.
 fn made_over(call: &StubCall, run: &mut Run, window: Contents) -> Result<Effect, Mem>
-    ensures does { IfOk result (λ effect. (left : Rows) × IsStepMade (stepped (client_setting call.now.names.now) window (run_of call.now.steps.now run.old)) call.now.steps.now left run.new effect) }
+    ensures does { IfOk result (λ effect. (left : Rows)
+        × IsStepMade (stepped (client_setting call.now.names.now) window (run_of call.now.steps.now run.old)) call.now.steps.now left run.new effect) }
     ensures told { IfOk result (λ effect. option_map outcome_view effect.outcome ≡ run.new.outcome) }
 {
     let mut store = Store::over(call.alloc, call.names, window)?;
@@ -85,7 +86,8 @@ fn make(call: &StubCall, run: &mut Run, draft: &mut Draft, step: &ProgramStep) -
     requires next { (rest : List AStep) × ((run_of call.now.steps.now run.old).left ≡ step.now ∷ rest) }
     requires within { IsWithin draft.old }
     ensures within { OnOk result (IsWithin draft.new) }
-    ensures left { OnOk result (draft.old.is_over ≡ false → CarriesOn call.now.view.now call.now.params.now call.now.steps.now (further (client_setting call.now.names.now)) run.old draft.old run.new draft.new) }
+    ensures left { OnOk result (draft.old.is_over ≡ false → CarriesOn call.now.view.now call.now.params.now call.now.steps.now
+        (further (client_setting call.now.names.now)) run.old draft.old run.new draft.new) }
 {
     call.view.known();
     draft.left.known();
@@ -98,7 +100,8 @@ fn make(call: &StubCall, run: &mut Run, draft: &mut Draft, step: &ProgramStep) -
 fn make_step(call: &StubCall, run: &mut Run, draft: &mut Draft) -> Result<(), Mem>
     requires { IsWithin draft.old }
     ensures within { OnOk result (IsWithin draft.new) }
-    ensures left { OnOk result (draft.old.is_over ≡ false → CarriesOn call.now.view.now call.now.params.now call.now.steps.now (further (client_setting call.now.names.now)) run.old draft.old run.new draft.new) }
+    ensures left { OnOk result (draft.old.is_over ≡ false → CarriesOn call.now.view.now call.now.params.now call.now.steps.now
+        (further (client_setting call.now.names.now)) run.old draft.old run.new draft.new) }
 {
     match next_step(call.steps, run) {
         None => {
@@ -112,7 +115,8 @@ fn make_step(call: &StubCall, run: &mut Run, draft: &mut Draft) -> Result<(), Me
 /// As many steps as there are, up to the stub's end.
 pub(crate) fn make_steps(call: &StubCall, run: &mut Run, draft: &mut Draft) -> Result<(), Mem>
     requires { IsWithin draft.old }
-    ensures { OnOk result (CarriesOn call.now.view.now call.now.params.now call.now.steps.now (all_stepped (client_setting call.now.names.now) call.now.steps.now) run.old draft.old run.new draft.new) }
+    ensures { OnOk result (CarriesOn call.now.view.now call.now.params.now call.now.steps.now
+        (all_stepped (client_setting call.now.names.now) call.now.steps.now) run.old draft.old run.new draft.new) }
 {
     for _step in call.steps {
         if draft.is_over {

@@ -152,8 +152,10 @@ module _ {L C : Type 0} (steps : L → Call → L → Type 0) (told : C → Opti
   within_then : (a m b : Timed L C) (xs ys : List Call) → Within steps told a xs m → Within steps told m ys b → Within steps told a (xs ++ ys) b
   within_then a m b xs ys p q =
       let may = subst (λ (w : Watch). MayAll w q.acts) p.watch q.may in
-      let watch : b.watch ≡ all_after a.watch (p.acts ++ q.acts) = q.watch ∙ (ap (λ (w : Watch). all_after w q.acts) p.watch ∙ sym (all_after-append a.watch p.acts q.acts)) in
-      let on : is_some m.watch.given_up ≡ true → is_some b.watch.given_up ≡ true = λ is. ap (λ (w : Watch). is_some w.given_up) q.watch ∙ stays_given_up q.acts m.watch is q.may in
+      let watch : b.watch ≡ all_after a.watch (p.acts ++ q.acts) = q.watch
+      ∙ (ap (λ (w : Watch). all_after w q.acts) p.watch ∙ sym (all_after-append a.watch p.acts q.acts)) in
+      let on : is_some m.watch.given_up ≡ true → is_some b.watch.given_up ≡ true = λ is. ap (λ (w : Watch). is_some w.given_up) q.watch
+      ∙ stays_given_up q.acts m.watch is q.may in
       let own = own_closed-append p.acts q.acts in
       let all = closed-append xs ys in
       let due = subst (λ (w : Watch). pings_in q.acts ≡ pings_due w q.acts) p.watch q.due in
@@ -171,10 +173,12 @@ module _ {L C : Type 0} (steps : L → Call → L → Type 0) (told : C → Opti
             ∙ (with_texts-append (own_calls p.acts) (own_calls q.acts) ∙ (ap₂ (λ cs ds. cs ++ ds) p.texts q.texts ∙ sym (with_texts-append xs ys)));
         closed = λ is. by_parts
             (λ (one : has_closed (answers_in xs) ≡ true). by_parts
-            (λ (c : has_closed (answers_in (own_calls p.acts)) ≡ true). inl (own ∙ first_of (has_closed (answers_in (own_calls p.acts))) (has_closed (answers_in (own_calls q.acts))) c))
+            (λ (c : has_closed (answers_in (own_calls p.acts)) ≡ true).
+            inl (own ∙ first_of (has_closed (answers_in (own_calls p.acts))) (has_closed (answers_in (own_calls q.acts))) c))
             (λ (given : is_some m.watch.given_up ≡ true). inr (on given)) (p.closed one))
             (λ (two : has_closed (answers_in ys) ≡ true). by_parts
-            (λ (c : has_closed (answers_in (own_calls q.acts)) ≡ true). inl (own ∙ second_of (has_closed (answers_in (own_calls p.acts))) (has_closed (answers_in (own_calls q.acts))) c))
+            (λ (c : has_closed (answers_in (own_calls q.acts)) ≡ true).
+            inl (own ∙ second_of (has_closed (answers_in (own_calls p.acts))) (has_closed (answers_in (own_calls q.acts))) c))
             (λ (given : is_some b.watch.given_up ≡ true). inr given) (q.closed two))
             (either (has_closed (answers_in xs)) (has_closed (answers_in ys)) (sym all ∙ is));
         told_on = λ is. all ∙ by_parts
@@ -245,7 +249,8 @@ pings_all times [] past w k may = omega arith
 pings_all times (polled t (Message text) ∷ xs) past w k may =
     let going = going_on times past w.given_up may.0 k.ends in
     let heart = ap (λ (p : Pulse). pulse_heard p t) k.heart in
-    let rest = pings_all times xs (ticked t ∷ heard t ∷ past) (after w (polled t (Message text))) (ticked_knows times (heard t ∷ past) t (pulse_heard w.heart t) heart going) may.1 in
+    let rest = pings_all times xs (ticked t ∷ heard t ∷ past) (after w (polled t (Message text)))
+    (ticked_knows times (heard t ∷ past) t (pulse_heard w.heart t) heart going) may.1 in
     let one = one_ping times (heard t ∷ past) t (pulse_heard w.heart t) heart in
     omega (arith, rest, one)
 pings_all times (polled t Quiet ∷ xs) past w k may =

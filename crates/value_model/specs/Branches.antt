@@ -1,5 +1,6 @@
 -- Paths into documents, and the branches that a path has in a value (dot notation, in MongoDB's documentation of query operators).
-use Rattle.std.specs.Prelude.{ℕ, ◌^◌, Bool, true, false, not, List, [], ◌∷◌, ◌++◌, length, Option, None, Some, option_and_then, slice_get, slice_index, nat_lt, nat_le, if◌then◌else◌, ◌&&◌, ◌||◌, ◌==◌}
+use Rattle.std.specs.Prelude.{ℕ, ◌^◌, Bool, true, false, not, List, [], ◌∷◌, ◌++◌, length, Option, None, Some, option_and_then, slice_get}
+use Rattle.std.specs.Prelude.{slice_index, nat_lt, nat_le, if◌then◌else◌, ◌&&◌, ◌||◌, ◌==◌}
 use Rattle.std.specs.List.{slice_split, list_all, flat_map}
 use Rattle.std.specs.Option.{option_map_or}
 use Rattle.std.specs.Str.{all_ascii_digits}
@@ -56,7 +57,9 @@ if_object f (object fs) = f fs
 if_object f _ = []
 
 -- The branches of a path from what was reached so far, which is an element of a list or isn't.
--- At the path's end it is what was reached. From an object the path goes on at the field. From a list it goes on at the element at that position, if there is one, and then in each element that is an object. From any other value, and from nothing, it reaches nothing, which is a branch unless it started from an element of a list.
+-- At the path's end it is what was reached. From an object the path goes on at the field.
+-- From a list it goes on at the element at that position, if there is one, and then in each element that is an object.
+-- From any other value, and from nothing, it reaches nothing, which is a branch unless it started from an element of a list.
 abbrev pub branches : List (List ℕ) → Option Val → Bool → List Branch
 branches [] reached from_list = (reached, from_list && is_list reached) ∷ []
 branches (part ∷ rest) (Some (object fs)) from_list = branches rest (field_of fs part) false

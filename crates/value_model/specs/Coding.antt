@@ -117,7 +117,8 @@ mutual
   pub fields_back : (fs : Fields) → fields_from (fields_to fs) ≡ fs
   fields_back no_fields = refl
   fields_back (field name v fs) =
-      ap (λ n. field n (from (to v)) (fields_from (fields_to fs))) (numbers_back name) ∙ (ap (λ w. field name w (fields_from (fields_to fs))) (back v) ∙ ap (λ rest. field name v rest) (fields_back fs))
+      ap (λ n. field n (from (to v)) (fields_from (fields_to fs))) (numbers_back name)
+      ∙ (ap (λ w. field name w (fields_from (fields_to fs))) (back v) ∙ ap (λ rest. field name v rest) (fields_back fs))
 
 abbrev pub val_code : Coded Val
 val_code = code_by Gv itself to from back

@@ -1,4 +1,5 @@
--- The order of values. Between kinds: null, numbers, texts, objects, lists, bytes, booleans, dates, values of user types, as in MongoDB's comparison of BSON types.
+-- The order of values. Between kinds: null, numbers, texts, objects, lists, bytes, booleans, dates, values of user types, as in MongoDB's comparison
+-- of BSON types.
 use Rattle.std.specs.Prelude.{ℕ, List, length, Bool}
 use Rattle.std.specs.declared.cmp.Ordering.{Ordering}
 use Rattle.std.specs.declared.cmp.Ordering.TheVariants.{Less, Equal, Greater}
@@ -22,7 +23,8 @@ kind (boolean b) = 6
 kind (date z) = 7
 kind (user name v) = 8
 
--- Bytes go by length and then by content, lists element by element, objects pair by pair with the name before the value, a proper prefix first; values of user types by the type's name and then by the value.
+-- Bytes go by length and then by content, lists element by element, objects pair by pair with the name before the value, a proper prefix first;
+-- values of user types by the type's name and then by the value.
 abbrev mutual
   pub compare : Val → Val → Ordering
   compare (int a) (int b) = int_cmp a b

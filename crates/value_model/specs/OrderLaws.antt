@@ -82,7 +82,8 @@ mutual
   fields_reverse no_fields no_fields = refl
   fields_reverse no_fields (field n w ws) = refl
   fields_reverse (field m v vs) no_fields = refl
-  fields_reverse (field m v vs) (field n w ws) = then_reverse _ _ _ _ (nat_list_cmp_total.antisymm m n) (then_reverse _ _ _ _ (compare_reverse v w) (fields_reverse vs ws))
+  fields_reverse (field m v vs) (field n w ws) =
+      then_reverse _ _ _ _ (nat_list_cmp_total.antisymm m n) (then_reverse _ _ _ _ (compare_reverse v w) (fields_reverse vs ws))
 
 -- an order that answers as its own reverse does at one value ties there
 pub own_reverse_ties : (o : Ordering) → o ≡ ordering_reverse o → o ≡ Equal
@@ -138,11 +139,13 @@ mutual
   compare_trans (object a) (object b) (object c) e f = fields_trans a b c e f
   compare_trans (list a) (list b) (list c) e f = vals_trans a b c e f
   compare_trans (bytes a) (bytes b) (bytes c) e f =
-      then_trans _ _ _ _ _ _ (nat_cmp_total.trans (length a) (length b) (length c)) (λ tie. nat_cmp_total.congr (length a) (length b) (length c) tie) (λ tie. sym (alike_right nat_cmp_total (length b) (length c) (length a) tie)) (nat_list_cmp_total.trans a b c) e f
+      then_trans _ _ _ _ _ _ (nat_cmp_total.trans (length a) (length b) (length c)) (λ tie. nat_cmp_total.congr (length a) (length b) (length c) tie)
+      (λ tie. sym (alike_right nat_cmp_total (length b) (length c) (length a) tie)) (nat_list_cmp_total.trans a b c) e f
   compare_trans (boolean a) (boolean b) (boolean c) e f = bool_cmp_total.trans a b c e f
   compare_trans (date a) (date b) (date c) e f = int_cmp_total.trans a b c e f
   compare_trans (user m v) (user n w) (user k x) e f =
-      then_trans (text_cmp m n) (text_cmp n k) (text_cmp m k) _ _ _ (nat_list_cmp_total.trans m n k) (λ tie. ap (λ u. text_cmp u k) (exact_bytes m n tie)) (λ tie. ap (λ u. text_cmp m u) (sym (exact_bytes n k tie))) (compare_trans v w x) e f
+      then_trans (text_cmp m n) (text_cmp n k) (text_cmp m k) _ _ _ (nat_list_cmp_total.trans m n k)
+      (λ tie. ap (λ u. text_cmp u k) (exact_bytes m n tie)) (λ tie. ap (λ u. text_cmp m u) (sym (exact_bytes n k tie))) (compare_trans v w x) e f
   compare_trans null null c e f = cc
   compare_trans a b c e f = kind_less a c (omega (arith, kind_le a b e, kind_le b c f))
 
@@ -153,7 +156,8 @@ mutual
   vals_trans (val v vs) no_vals c e f = cc
   vals_trans (val v vs) (val w ws) no_vals e f = cc
   vals_trans (val v vs) (val w ws) (val x xs) e f =
-      then_trans (compare v w) (compare w x) (compare v x) _ _ _ (compare_trans v w x) (λ tie. ap (λ u. compare u x) (compare_ties v w tie)) (λ tie. ap (λ u. compare v u) (sym (compare_ties w x tie))) (vals_trans vs ws xs) e f
+      then_trans (compare v w) (compare w x) (compare v x) _ _ _ (compare_trans v w x) (λ tie. ap (λ u. compare u x) (compare_ties v w tie))
+      (λ tie. ap (λ u. compare v u) (sym (compare_ties w x tie))) (vals_trans vs ws xs) e f
 
   pub fields_trans : (a b c : Fields) → fields_cmp a b ≡ Less → fields_cmp b c ≡ Less → fields_cmp a c ≡ Less
   fields_trans no_fields no_fields c e f = f
@@ -162,9 +166,11 @@ mutual
   fields_trans (field m v vs) no_fields c e f = cc
   fields_trans (field m v vs) (field n w ws) no_fields e f = cc
   fields_trans (field m v vs) (field n w ws) (field k x xs) e f =
-      let values = then_trans (compare v w) (compare w x) (compare v x) (fields_cmp vs ws) (fields_cmp ws xs) (fields_cmp vs xs) (compare_trans v w x) (λ tie. ap (λ u. compare u x) (compare_ties v w tie))
+      let values = then_trans (compare v w) (compare w x) (compare v x) (fields_cmp vs ws) (fields_cmp ws xs) (fields_cmp vs xs)
+      (compare_trans v w x) (λ tie. ap (λ u. compare u x) (compare_ties v w tie))
       (λ tie. ap (λ u. compare v u) (sym (compare_ties w x tie))) (fields_trans vs ws xs) in
-      then_trans (text_cmp m n) (text_cmp n k) (text_cmp m k) _ _ _ (nat_list_cmp_total.trans m n k) (λ tie. ap (λ u. text_cmp u k) (exact_bytes m n tie)) (λ tie. ap (λ u. text_cmp m u) (sym (exact_bytes n k tie))) values e f
+      then_trans (text_cmp m n) (text_cmp n k) (text_cmp m k) _ _ _ (nat_list_cmp_total.trans m n k)
+      (λ tie. ap (λ u. text_cmp u k) (exact_bytes m n tie)) (λ tie. ap (λ u. text_cmp m u) (sym (exact_bytes n k tie))) values e f
 
 pub compare_total : IsTotalOrder compare
 compare_total = record {

@@ -3,7 +3,8 @@ use Rattle.std.specs.Prelude.{ℕ, ◌+◌, ◌*◌, ◌/◌, max, Bool, true, f
 use Rattle.std.specs.Fmt.{signed_decimal}
 use Rattle.value_model.specs.Val.{Val, null, boolean, int, text, date, bytes, list, object, user, Vals, no_vals, val, Fields, no_fields, field}
 
--- The bytes that stand for one byte of a text in JSON: `\"`, `\\` and the control characters with a letter of their own take two, each other control character six, as `\u001f`.
+-- The bytes that stand for one byte of a text in JSON: `\"`, `\\` and the control characters with a letter of their own take two, each other control
+-- character six, as `\u001f`.
 abbrev pub has_short_escape : ℕ → Bool
 has_short_escape b = (b == 34) || (b == 92) || (b == 8) || (b == 9) || (b == 10) || (b == 12) || (b == 13)
 

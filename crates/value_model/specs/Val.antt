@@ -1,5 +1,7 @@
--- The values of EJSON: those of JSON, with whole numbers alone, and dates, binary data and values of user types beside them (the EJSON appendix of Meteor's DDP specification).
--- A text is the list of its UTF-8 bytes, a date is its milliseconds since 1970, and a value of a user type is the type's name with the value that stands for it.
+-- The values of EJSON: those of JSON, with whole numbers alone, and dates, binary data and values of user types beside them (the EJSON appendix of
+-- Meteor's DDP specification).
+-- A text is the list of its UTF-8 bytes, a date is its milliseconds since 1970, and a value of a user type is the type's name with the value that
+-- stands for it.
 use Rattle.std.specs.Prelude.{ℕ, ℤ, Bool, List, [], ◌∷◌}
 
 mutual

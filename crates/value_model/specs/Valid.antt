@@ -1,8 +1,10 @@
--- What every value of the program keeps: numbers and dates of 53 bits and a sign, bytes below 256, the fields of an object by strictly rising name, names of user types of 1 to 128 bytes.
+-- What every value of the program keeps: numbers and dates of 53 bits and a sign, bytes below 256, the fields of an object by strictly rising name,
+-- names of user types of 1 to 128 bytes.
 use Rattle.std.specs.Prelude.{ℕ, List, ◌<◌, ◌≤◌, length, ℤ, pos, neg_ℤ, ◌≤ℤ◌, All}
 use Rattle.std.specs.List.Sorted.{IsStrictlySortedBy}
 use Rattle.std.specs.Map.{keys_of}
-use Rattle.value_model.specs.Val.{Val, null, boolean, int, text, date, bytes, list, object, user, Vals, no_vals, val, Fields, no_fields, field, Entries, entries_of, fields_of}
+use Rattle.value_model.specs.Val.{Val, null, boolean, int, text, date, bytes, list, object, user, Vals, no_vals, val, Fields, no_fields, field}
+use Rattle.value_model.specs.Val.{Entries, entries_of, fields_of}
 use Rattle.value_model.specs.Order.{text_cmp}
 
 -- the greatest whole number that a double holds together with each lesser one

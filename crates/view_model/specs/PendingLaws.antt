@@ -1,5 +1,6 @@
 -- Laws of the keys that simulations hold.
-use Rattle.std.specs.Prelude.{◌≡◌, ◌≢◌, ℕ, Bool, true, false, cond, not, ◌&&◌, ◌||◌, List, [], ◌∷◌, filter, Option, Some, None, is_some, IfSome, option_and_then, unwrap_or, refl}
+use Rattle.std.specs.Prelude.{◌≡◌, ◌≢◌, ℕ, Bool, true, false, cond, not, ◌&&◌, ◌||◌, List, [], ◌∷◌, filter, Option, Some, None, is_some, IfSome}
+use Rattle.std.specs.Prelude.{option_and_then, unwrap_or, refl}
 use Rattle.std.specs.List.{list_any, list_all, AllByRecursion}
 use Rattle.std.specs.List.Sorted.{IsStrictlySortedBy}
 use Rattle.std.specs.Set.{remove_key}
@@ -28,7 +29,8 @@ with_number-again [] n = ap (λ o. match_ordering o (n ∷ n ∷ []) (n ∷ []) 
 with_number-again (h ∷ hs) n =
     let rest = with_number-again hs n in
     elim (nat_cmp n h) as
-    (λ o. nat_cmp n h ≡ o → with_number (match_ordering o (n ∷ h ∷ hs) (h ∷ hs) (h ∷ with_number hs n)) n ≡ match_ordering o (n ∷ h ∷ hs) (h ∷ hs) (h ∷ with_number hs n)) [
+    (λ o. nat_cmp n h ≡ o → with_number (match_ordering o (n ∷ h ∷ hs) (h ∷ hs) (h ∷ with_number hs n)) n
+    ≡ match_ordering o (n ∷ h ∷ hs) (h ∷ hs) (h ∷ with_number hs n)) [
       | Less ↦ λ e. ap (λ o. match_ordering o (n ∷ n ∷ h ∷ hs) (n ∷ h ∷ hs) (n ∷ with_number (h ∷ hs) n)) (tied_itself nat_cmp_total n)
       | Equal ↦ λ e. ap (λ o. match_ordering o (n ∷ h ∷ hs) (h ∷ hs) (h ∷ with_number hs n)) e
       | Greater ↦ λ e. ap (λ o. match_ordering o (n ∷ h ∷ with_number hs n) (h ∷ with_number hs n) (h ∷ with_number (with_number hs n) n)) e
@@ -51,7 +53,8 @@ without_one n [] s = refl
 without_one n (h ∷ hs) s =
     let rest = without_one n hs (sorted_tail nat_cmp h hs s) in
     elim (is_at (nat_cmp n) h) as
-    (λ b. is_at (nat_cmp n) h ≡ b → cond b hs (h ∷ remove_key (is_at (nat_cmp n)) hs) ≡ cond (not b) (h ∷ without_numbers (n ∷ []) hs) (without_numbers (n ∷ []) hs)) [
+    (λ b. is_at (nat_cmp n) h ≡ b →
+    cond b hs (h ∷ remove_key (is_at (nat_cmp n)) hs) ≡ cond (not b) (h ∷ without_numbers (n ∷ []) hs) (without_numbers (n ∷ []) hs)) [
       | true ↦ λ e. sym
           (above_stays n hs (subst (λ m. AllByRecursion (λ q. nat_cmp m q ≡ Less) hs) (sym (key_is number_order n h e)) (sorted_head nat_cmp h hs s)))
       | false ↦ λ e. ap (λ r. h ∷ r) rest
@@ -74,10 +77,12 @@ without_more ns n [] = refl
 without_more ns n (h ∷ hs) =
     let rest = without_more ns n hs in
     elim (is_among ns h) as
-    (λ a. without_numbers (n ∷ []) (cond (not a) (h ∷ without_numbers ns hs) (without_numbers ns hs)) ≡ cond (not (eq_by_cmp nat_cmp h n || a)) (h ∷ without_numbers (n ∷ ns) hs) (without_numbers (n ∷ ns) hs)) [
+    (λ a. without_numbers (n ∷ []) (cond (not a) (h ∷ without_numbers ns hs) (without_numbers ns hs))
+    ≡ cond (not (eq_by_cmp nat_cmp h n || a)) (h ∷ without_numbers (n ∷ ns) hs) (without_numbers (n ∷ ns) hs)) [
       | true ↦ rest
           ∙ elim (eq_by_cmp nat_cmp h n) as
-          (λ b. without_numbers (n ∷ ns) hs ≡ cond (not (b || true)) (h ∷ without_numbers (n ∷ ns) hs) (without_numbers (n ∷ ns) hs)) [ true ↦ refl | false ↦ refl ]
+          (λ b. without_numbers (n ∷ ns) hs ≡ cond (not (b || true)) (h ∷ without_numbers (n ∷ ns) hs) (without_numbers (n ∷ ns) hs))
+          [ true ↦ refl | false ↦ refl ]
       | false ↦ ap (λ r. cond (not (eq_by_cmp nat_cmp h n || false)) (h ∷ r) r) rest
     ]
 
@@ -87,7 +92,8 @@ none_left ns [] = refl
 none_left ns (h ∷ hs) =
     let rest = none_left ns hs in
     elim (is_among ns h) as
-    (λ a. is_some (unless_none (cond (not a) (h ∷ without_numbers ns hs) (without_numbers ns hs))) ≡ not (a && are_all_among ns hs)) [ true ↦ rest | false ↦ refl ]
+    (λ a. is_some (unless_none (cond (not a) (h ∷ without_numbers ns hs) (without_numbers ns hs))) ≡ not (a && are_all_among ns hs))
+    [ true ↦ rest | false ↦ refl ]
 
 -- ---- held keys
 
@@ -109,7 +115,8 @@ module _ {K : Type 0} {R : K → K → Ordering} (o : IsKeyOrder R) where
       ≡ cond (b || list_any (eq_by_cmp R q) ks) (Some (with_number (holders R pending q) n)) (at R pending q)) [
         | true ↦ λ t.
             elim (list_any (eq_by_cmp R q) ks) as
-            (λ c. cond c (Some (with_number (with_number (holders R pending k) n) n)) (Some (with_number (holders R pending k) n)) ≡ Some (with_number (holders R pending k) n)) [
+            (λ c. cond c (Some (with_number (with_number (holders R pending k) n) n)) (Some (with_number (holders R pending k) n))
+            ≡ Some (with_number (holders R pending k) n)) [
               | true ↦ ap Some (with_number-again (holders R pending k) n)
               | false ↦ refl
             ]

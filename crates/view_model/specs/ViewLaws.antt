@@ -1,5 +1,6 @@
 -- The view is the server's copy at each key that no open simulation holds.
-use Rattle.std.specs.Prelude.{◌≡◌, ◌≢◌, ◌⊎◌, ℕ, Bool, true, false, cond, not, ◌&&◌, ◌||◌, List, [], ◌∷◌, Option, Some, None, is_some, option_and_then, unwrap_or, refl}
+use Rattle.std.specs.Prelude.{◌≡◌, ◌≢◌, ◌⊎◌, ℕ, Bool, true, false, cond, not, ◌&&◌, ◌||◌, List, [], ◌∷◌, Option, Some, None, is_some, option_and_then}
+use Rattle.std.specs.Prelude.{unwrap_or, refl}
 use Rattle.std.specs.List.{list_any}
 use Rattle.std.specs.declared.cmp.Ordering.{Ordering}
 use Rattle.std.specs.declared.cmp.Ordering.TheVariants.{Less, Equal, Greater}
@@ -40,7 +41,8 @@ module _ {K D : Type 0} {R : K → K → Ordering} (o : IsKeyOrder R) where
       at R (shown_at R server pending v k) q ≡ cond (eq_by_cmp R q k && not (is_held R pending q)) (at R server q) (at R v q)
   at-shown_at server pending v k q s =
       elim (is_held R pending k) as
-      (λ b. is_held R pending k ≡ b → at R (cond b v (set R v k (at R server k))) q ≡ cond (eq_by_cmp R q k && not (is_held R pending q)) (at R server q) (at R v q)) [
+      (λ b. is_held R pending k ≡ b →
+      at R (cond b v (set R v k (at R server k))) q ≡ cond (eq_by_cmp R q k && not (is_held R pending q)) (at R server q) (at R v q)) [
         | true ↦ λ h. elim (eq_by_cmp R q k) as (λ b. eq_by_cmp R q k ≡ b → at R v q ≡ cond (b && not (is_held R pending q)) (at R server q) (at R v q)) [
           | true ↦ λ t. ap (λ b. cond (not b) (at R server q) (at R v q)) (sym (ap (is_held R pending) (key_is o q k t) ∙ h))
           | false ↦ λ t. refl
@@ -104,7 +106,8 @@ module _ {K D : Type 0} {R : K → K → Ordering} (o : IsKeyOrder R) where
       | false ↦ λ e. w.holders q e
     ] (sym (at-held_by o n keys s.pending q) ∙ none);
     agrees = λ q free. elim (list_any (eq_by_cmp R q) keys) as
-        (λ b. list_any (eq_by_cmp R q) keys ≡ b → is_some (cond b (Some (with_number (holders R s.pending q) n)) (at R s.pending q)) ≡ false → at R view q ≡ at R s.server q) [
+        (λ b. list_any (eq_by_cmp R q) keys ≡ b → is_some (cond b (Some (with_number (holders R s.pending q) n)) (at R s.pending q)) ≡ false →
+        at R view q ≡ at R s.server q) [
           | true ↦ λ t e. cc e
           | false ↦ λ t e. alone q t ∙ w.agrees q e
         ] refl (ap is_some (sym (at-held_by o n keys s.pending q)) ∙ free);
@@ -120,7 +123,8 @@ module _ {K D : Type 0} {R : K → K → Ordering} (o : IsKeyOrder R) where
       (λ b. cond (is_held R s.pending q && not b) (at R s.server q) (at R s.view q) ≡ cond b (at R s.view q) (at R s.server q)) [
         | true ↦ elim (is_held R s.pending q) as (λ c. cond (c && false) (at R s.server q) (at R s.view q) ≡ at R s.view q) [ true ↦ refl | false ↦ refl ]
         | false ↦ elim (is_held R s.pending q) as
-            (λ c. is_held R s.pending q ≡ c → cond (c && true) (at R s.server q) (at R s.view q) ≡ at R s.server q) [ true ↦ λ t. refl | false ↦ λ t. w.agrees q t ] refl
+            (λ c. is_held R s.pending q ≡ c → cond (c && true) (at R s.server q) (at R s.view q) ≡ at R s.server q)
+            [ true ↦ λ t. refl | false ↦ λ t. w.agrees q t ] refl
       ]
 
   pub released_view : (ns : List ℕ) (s : View K D) → IsView R s → IsView R (released R ns s)

@@ -5,7 +5,9 @@ ghost use Rattle.ejson_value.specs.View.{view, views};
 ghost use Rattle.line_parts.specs.Parts.{text_alone};
 ghost use Rattle.world_model.specs.declared.events.Event.TheVariants as event;
 ghost use Rattle.world_model.specs.Events.{IsEvent};
-ghost use Rattle.world_events.specs.Events.{number_first, admin_in, sub_with, sub_in, call_with, call_in, unsub_in, raw_in, number_in, placed_in, load_at, advance_by, called_in, run_step_in, learn_in, act_of, step_in, asked_in, placed_row, row_in, event_in};
+ghost use Rattle.world_events.specs.Events.{number_first, admin_in, sub_with, sub_in, call_with, call_in, unsub_in, raw_in, number_in, placed_in};
+ghost use Rattle.world_events.specs.Events.{load_at, advance_by, called_in, run_step_in, learn_in, act_of, step_in, asked_in, placed_row, row_in};
+ghost use Rattle.world_events.specs.Events.{event_in};
 
 use ejson_value::{Mem, Text, Value, Whole};
 use line_parts::{is_nil, params_in, text_alone, text_first, texts_alone};

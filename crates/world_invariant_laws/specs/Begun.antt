@@ -1,5 +1,6 @@
 -- The calls that stand in a session's journal are those that the history begins, in order; but for the one that blocks, where it was not begun yet.
-use Rattle.std.specs.Prelude.{◌≡◌, ℕ, ◌<◌, ◌≤◌, ◌==◌, List, [], ◌∷◌, ◌++◌, length, Bool, true, false, cond, ◌||◌, Option, None, Some, is_some, if◌then◌else◌, refl}
+use Rattle.std.specs.Prelude.{◌≡◌, ℕ, ◌<◌, ◌≤◌, ◌==◌, List, [], ◌∷◌, ◌++◌, length, Bool, true, false, cond, ◌||◌, Option, None, Some, is_some}
+use Rattle.std.specs.Prelude.{if◌then◌else◌, refl}
 use Rattle.std.specs.List.{list_any}
 use Rattle.std.specs.Ordering.{eq_by_cmp}
 use Rattle.std.proofs.Common.{ap, ap₂, sym, subst, ◌∙◌, arith, append-nil}
@@ -65,7 +66,8 @@ none_begun n m k (entry.Step s j ∷ h) le p = none_begun n m k h le p
 none_begun n m k (entry.Admin op ∷ h) le p = none_begun n m k h le p
 none_begun n m k (entry.Begin s j method params seed ∷ h) le p =
     elim (n == s) as
-    (λ b. n == s ≡ b → AreBelow m ((if b then record { k = j; method = method; params = params; seed = view seed } ∷ [] else []) ++ begun_in n h) → (eq_by_cmp run_cmp (n, k) (s, j) || list_any (begins (n, k)) h) ≡ false) [
+    (λ b. n == s ≡ b → AreBelow m ((if b then record { k = j; method = method; params = params; seed = view seed } ∷ [] else []) ++ begun_in n h) →
+    (eq_by_cmp run_cmp (n, k) (s, j) || list_any (begins (n, k)) h) ≡ false) [
       | true ↦ λ is q. ap₂ (λ a b. a || b) (apart (eq_by_cmp run_cmp (n, k) (s, j)) refl q.0) (none_begun n m k h le q.1)
       | false ↦ λ is q. ap₂ (λ a b. a || b) (foreign_begins n k (entry.Begin s j method params seed) is) (none_begun n m k h le q)
     ] refl p
@@ -198,11 +200,13 @@ module _ (app : App) (number : ℕ) where
       by (Some b) e t =
           let same : k ≡ b.k = eqb-true k b.k t in
           let free : freed k (state_of items).blocking ≡ None = ap (freed k) e ∙ ap (λ c. cond c None (Some b)) t in
-          let own : unrun (runs_of app number history) (state_of items).blocking ≡ b ∷ [] = ap (unrun (runs_of app number history)) e ∙ ap (λ c. cond c [] (b ∷ [])) (ap (λ n. is_some (runs_of app number history n)) (sym same) ∙ none) in
+          let own : unrun (runs_of app number history) (state_of items).blocking ≡ b ∷ [] = ap (unrun (runs_of app number history)) e
+          ∙ ap (λ c. cond c [] (b ∷ [])) (ap (λ n. is_some (runs_of app number history n)) (sym same) ∙ none) in
           let last = refused_standing items place b (p.knows.last b e) in
           ap (λ o. begun_in number history ++ unrun (runs_of app number history) o) free
           ∙ (append-nil (begun_in number history)
-          ∙ (cancel (begun_in number history) (standing (items ++ item.refused b.k place ∷ [])) b (ap (λ bs. begun_in number history ++ bs) (sym own) ∙ (p.begun ∙ last))
+          ∙ (cancel (begun_in number history) (standing (items ++ item.refused b.k place ∷ [])) b
+          (ap (λ bs. begun_in number history ++ bs) (sym own) ∙ (p.begun ∙ last))
           ∙ ap (λ n. standing (items ++ item.refused n place ∷ [])) (sym same)))
 
   call_begun : (C : List Moment) (history : List Entry) (items : List Item) (k : ℕ) (message : ClientMessage) (seed : Val) →

@@ -1,4 +1,5 @@
--- A client in a world: what it shows, and the server's copy that it has by the texts that it took. These and those on the link to it are the texts that were sent.
+-- A client in a world: what it shows, and the server's copy that it has by the texts that it took.
+-- These and those on the link to it are the texts that were sent.
 use Rattle.std.specs.Prelude.{◌≡◌, ℕ, List, [], ◌++◌, None}
 use Rattle.map_model.specs.Differences.{taken, all_taken}
 use Rattle.value_model.specs.Order.{text_cmp}

@@ -1,4 +1,5 @@
--- Laws: A client in a world: what it shows, and the server's copy that it has by the texts that it took. These and those on the link to it are the texts that were sent.
+-- Laws: A client in a world: what it shows, and the server's copy that it has by the texts that it took.
+-- These and those on the link to it are the texts that were sent.
 use Rattle.std.specs.Prelude.{◌≡◌, ℕ, List, [], ◌∷◌, ◌++◌, length, true, false, cond, nat_lt, Option, Some, None, Result, Ok, Err, is_none, refl}
 use Rattle.std.proofs.Common.{ap, sym, subst, ◌∙◌, append-nil}
 use Rattle.std.proofs.lemmas.List.{append_assoc, map-append}
@@ -46,7 +47,8 @@ answer_is c (Err Memory) e = cc e
 pub told_is : (c : Client) (t : List ℕ) → (told_text c t).broken ≡ None → told_text c t ≡ told_message c (message_in t)
 told_is c t e =
     elim (nat_lt max_server_text (length t)) as
-    (λ b. (cond b (breaks 1 c) (told_answer c (server_answer t))).broken ≡ None → cond b (breaks 1 c) (told_answer c (server_answer t)) ≡ told_message c (message_in t)) [
+    (λ b. (cond b (breaks 1 c) (told_answer c (server_answer t))).broken ≡ None →
+    cond b (breaks 1 c) (told_answer c (server_answer t)) ≡ told_message c (message_in t)) [
       | true ↦ λ e. cc e
       | false ↦ λ e. answer_is c (server_answer t) e
     ] e
@@ -94,7 +96,8 @@ pub send_heard : (c : Conn) (ts : List (List ℕ)) → HasHeard c → HasHeard (
 send_heard c [] p = p
 send_heard c (t ∷ ts) p = record {
   shown = p.shown;
-  heard = λ e. let h = p.heard e in record { taken = h.taken; is = sym (append_assoc h.taken c.downward (t ∷ [])) ∙ ap (λ xs. xs ++ t ∷ []) h.is; server = h.server };
+  heard = λ e. let h = p.heard e in
+      record { taken = h.taken; is = sym (append_assoc h.taken c.downward (t ∷ [])) ∙ ap (λ xs. xs ++ t ∷ []) h.is; server = h.server };
 }
 
 pub take_heard : (c : Conn) (ts : List (List ℕ)) → c.downward ≡ ts → can_take c.client ≡ true → HasHeard c → HasHeard (takes c ts)

@@ -1,5 +1,6 @@
 -- Laws: The history of a world is legal: each entry that an act or an operation adds can be made there.
-use Rattle.std.specs.Prelude.{◌≡◌, ◌⊎◌, ℕ, ◌<◌, ◌≤◌, ◌==◌, nat_lt, List, [], ◌∷◌, ◌++◌, length, filter, Bool, true, false, cond, not, ◌&&◌, ◌||◌, Option, Some, None, Ok, Err, is_some, option_map, refl}
+use Rattle.std.specs.Prelude.{◌≡◌, ◌⊎◌, ℕ, ◌<◌, ◌≤◌, ◌==◌, nat_lt, List, [], ◌∷◌, ◌++◌, length, filter, Bool, true, false, cond, not, ◌&&◌, ◌||◌}
+use Rattle.std.specs.Prelude.{Option, Some, None, Ok, Err, is_some, option_map, refl}
 use Rattle.std.specs.List.{list_any}
 use Rattle.std.specs.Ordering.{eq_by_cmp}
 use Rattle.std.specs.Map.{keys_of}
@@ -19,7 +20,8 @@ use Rattle.app_model.specs.App.{App, method}
 use Rattle.world_model.specs.history_model.declared.entry.Entry.{Entry}
 use Rattle.world_model.specs.history_model.declared.entry.Entry.TheVariants as entry
 use Rattle.world_model.specs.history_model.Operations.{operation_in}
-use Rattle.world_model.specs.history_model.History.{RunKey, run_cmp, Begun, Runs, status_of, status_in, room_in, is_full, is_full_for_operation, is_next, is_answered, is_made, can_follow, IsLegal}
+use Rattle.world_model.specs.history_model.History.{RunKey, run_cmp, Begun, Runs, status_of, status_in, room_in, is_full, is_full_for_operation}
+use Rattle.world_model.specs.history_model.History.{is_next, is_answered, is_made, can_follow, IsLegal}
 use Rattle.world_model.specs.history_model.HistoryLaws.{run_order, IsLegal-append}
 use Rattle.world_model.specs.history_model.BegunLaws.{run_where_begun}
 use Rattle.world_model.specs.session_model.declared.fault.SubFault.TheVariants as fault
@@ -68,17 +70,20 @@ call_known : (app : App) (number : ℕ) (st : State) (m : ClientMessage) (k : �
 call_known app number st (client.method id name params s) k message seed e =
     let m = client.method id name params s in
     elim (is_some (method app name)) as
-    (λ b. is_some (method app name) ≡ b → cond b (item.call (length st.methods) m (seed_or number (length st.methods) s)) (item.unknown m) ≡ item.call k message seed → is_some (method app (name_of message)) ≡ true) [
+    (λ b. is_some (method app name) ≡ b → cond b (item.call (length st.methods) m (seed_or number (length st.methods) s)) (item.unknown m)
+    ≡ item.call k message seed → is_some (method app (name_of message)) ≡ true) [
       | true ↦ λ t is. let same : m ≡ message = cc is in ap (λ x. is_some (method app (name_of x))) (sym same) ∙ t
       | false ↦ λ t is. absurd (cc is)
     ] refl e
 call_known app number st (client.sub id name params) k message seed e =
     let m = client.sub id name params in
     elim (is_some (sub_named id st.subs)) as
-    (λ b. cond b (item.same m) (cond (is_crowded st.subs) (item.nosub m (Some fault.TooMany)) (opened_by st.opened m (making app name params))) ≡ item.call k message seed → is_some (method app (name_of message)) ≡ true) [
+    (λ b. cond b (item.same m) (cond (is_crowded st.subs) (item.nosub m (Some fault.TooMany)) (opened_by st.opened m (making app name params)))
+    ≡ item.call k message seed → is_some (method app (name_of message)) ≡ true) [
       | true ↦ λ is. absurd (cc is)
       | false ↦ elim (is_crowded st.subs) as
-          (λ b. cond b (item.nosub m (Some fault.TooMany)) (opened_by st.opened m (making app name params)) ≡ item.call k message seed → is_some (method app (name_of message)) ≡ true) [
+          (λ b. cond b (item.nosub m (Some fault.TooMany)) (opened_by st.opened m (making app name params)) ≡ item.call k message seed →
+          is_some (method app (name_of message)) ≡ true) [
             | true ↦ λ is. absurd (cc is)
             | false ↦ λ is. absurd (opened_none m (making app name params) st.opened k message seed is)
           ]
@@ -127,11 +132,13 @@ next_is app n k h below = next_by_keys n k (held_in app h).runs (λ q e. before 
     less j t (inl e) = absurd (never j t (omega (arith, e)))
       where
         never : (j : ℕ) → is_some (at run_cmp (held_in app h).runs (n, j)) ≡ true → k ≤ j → ⊥
-        never j t le = let differ : true ≡ false = sym (some_status (at run_cmp (held_in app h).runs (n, j)) t) ∙ (run_where_begun (programs app) h n j ∙ none_begun n k j h le below) in cc differ
+        never j t le = let differ : true ≡ false = sym (some_status (at run_cmp (held_in app h).runs (n, j)) t)
+            ∙ (run_where_begun (programs app) h n j ∙ none_begun n k j h le below) in cc differ
     less j t (inr (inr l)) = absurd (never j t (omega (arith, l)))
       where
         never : (j : ℕ) → is_some (at run_cmp (held_in app h).runs (n, j)) ≡ true → k ≤ j → ⊥
-        never j t le = let differ : true ≡ false = sym (some_status (at run_cmp (held_in app h).runs (n, j)) t) ∙ (run_where_begun (programs app) h n j ∙ none_begun n k j h le below) in cc differ
+        never j t le = let differ : true ≡ false = sym (some_status (at run_cmp (held_in app h).runs (n, j)) t)
+            ∙ (run_where_begun (programs app) h n j ∙ none_begun n k j h le below) in cc differ
 
     before : (m j : ℕ) → is_some (at run_cmp (held_in app h).runs (m, j)) ≡ true → (not (m == n) || nat_lt j k) ≡ true
     before m j t =
@@ -169,7 +176,8 @@ begin_can : (app : App) (h : List Entry) (c : Conn) (b : Blocking) → (state_in
     can_follow (programs app) (held_in app h) (begin_entry c.number b) ≡ true
 begin_can app h c b e none room p =
     let both = begin_next app h c b e none p in
-    let free : is_full (programs app) (held_in app h) b.method b.params (view (value_of b.seed)) ≡ false = ap (λ v. is_full (programs app) (held_in app h) b.method b.params v) (view-value_of b.seed) ∙ room in
+    let free : is_full (programs app) (held_in app h) b.method b.params (view (value_of b.seed)) ≡ false =
+    ap (λ v. is_full (programs app) (held_in app h) b.method b.params v) (view-value_of b.seed) ∙ room in
     ap₂ (λ x y. x && y) (ap₂ (λ x y. x && y) both.0 both.1) (ap not free)
 
 or_parts : (a b : Bool) → (a || b) ≡ false → (a ≡ false) × (b ≡ false)
@@ -218,7 +226,8 @@ pub operation_legal : (w : World) (op : List Val) → refusal_of w op ≡ None �
     IsLegal (programs w.app) (w.history ++ entry.Admin op ∷ [])
 operation_legal w op e l =
     elim (is_full_for_operation (held_in w.app w.history)) as
-    (λ b. is_full_for_operation (held_in w.app w.history) ≡ b → cond b (Some 503) (by_operation w (operation_in op)) ≡ None → IsLegal (programs w.app) (w.history ++ entry.Admin op ∷ [])) [
+    (λ b. is_full_for_operation (held_in w.app w.history) ≡ b → cond b (Some 503) (by_operation w (operation_in op)) ≡ None →
+    IsLegal (programs w.app) (w.history ++ entry.Admin op ∷ [])) [
       | true ↦ λ full f. absurd (cc f)
       | false ↦ λ room f. IsLegal-append (programs w.app) w.history (entry.Admin op) l
           (ap₂ (λ a b. a && b) (ap not room) (operation_made w (operation_in op) f))

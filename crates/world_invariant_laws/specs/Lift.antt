@@ -25,7 +25,8 @@ use Rattle.world_model.specs.declared.events.Act.TheVariants as act
 use Rattle.world_model.specs.declared.events.Event.{Event}
 use Rattle.world_model.specs.declared.events.Event.TheVariants as event
 use Rattle.world_model.specs.Conn.{Waiting, Conn, new_conn, state_in}
-use Rattle.world_model.specs.Acts.{goes_up, received_as, receives, handles, is_kept, unbegun, is_refused, begin_entry, begun, learnt, learns_item, sends, takes, can, does, entries}
+use Rattle.world_model.specs.Acts.{goes_up, received_as, receives, handles, is_kept, unbegun, is_refused, begin_entry, begun, learnt, learns_item}
+use Rattle.world_model.specs.Acts.{sends, takes, can, does, entries}
 use Rattle.world_model.specs.Asks.{Ask, can_ask, asked}
 use Rattle.world_model.specs.Asks as ask
 use Rattle.world_model.specs.World.{World, start, conn_of, with_conn, can_open, opened_with, opens, acted, done_by, done, asked_by, asked_in}
@@ -69,7 +70,8 @@ IsAsk a = Unit {0}
 abbrev pub All : (App → List Entry → Conn → Type 0) → World → Type 0
 All P w = (name : List ℕ) (c : Conn) → Is w name c → P w.app w.history c
 
--- What holds of a history, and of each client with its session over it, is kept: by a client that begins, whose number no entry has; by each act of a client; by an entry that isn't of its session;
+-- What holds of a history, and of each client with its session over it, is kept: by a client that begins, whose number no entry has; by each act of
+-- a client; by an entry that isn't of its session;
 -- by what is asked of it; and by an operation that isn't refused.
 pub record IsKept (Q : App → List Entry → Type 0) (P : App → List Entry → Conn → Type 0) : Type 0 where
   pub new : (app : App) (n : ℕ) (h : List Entry) → AreUpTo n h → P app h (new_conn (suc n))
@@ -179,7 +181,8 @@ numbered_put w name c d h is same upto p = record {
       (λ i s. subst (λ (y : Conn). y.number ≤ w.opened) s (subst (λ n. n ≤ w.opened) (sym same) (p.below name c is))) (λ i e2. p.below q x e2);
   apart = λ q r x y ex ey s. put_is w.conns name d q x ex
       (λ iq sx. put_is w.conns name d r y ey (λ ir sy. iq ∙ sym ir) (λ ir e2. iq ∙ p.apart name r c y is e2 (sym same ∙ (ap (λ (z : Conn). z.number) sx ∙ s))))
-      (λ iq e1. put_is w.conns name d r y ey (λ ir sy. p.apart q name x c e1 is (s ∙ (sym (ap (λ (z : Conn). z.number) sy) ∙ same)) ∙ sym ir) (λ ir e2. p.apart q r x y e1 e2 s));
+      (λ iq e1. put_is w.conns name d r y ey (λ ir sy. p.apart q name x c e1 is (s ∙ (sym (ap (λ (z : Conn). z.number) sy) ∙ same)) ∙ sym ir)
+      (λ ir e2. p.apart q r x y e1 e2 s));
   entries = upto;
   order = sorted-put name_order w.conns name d p.order;
 }
@@ -208,7 +211,8 @@ module _ (Q : App → List Entry → Type 0) (P : App → List Entry → Conn �
         history = k.entered w.app h c a may p.history (p.all name c is);
         all = λ q x e. put_is w.conns name d q x e
             (λ i s. subst (P w.app (h ++ es)) s (k.acts w.app h c a may (p.all name c is)))
-            (λ i e2. longer_by w.app c.number es h x (own_entries w.app h c a) (ne_eqb x.number c.number (λ s. differs q name i (p.numbered.apart q name x c e2 is s))) (p.all q x e2));
+            (λ i e2. longer_by w.app c.number es h x (own_entries w.app h c a)
+            (ne_eqb x.number c.number (λ s. differs q name i (p.numbered.apart q name x c e2 is s))) (p.all q x e2));
       }
 
   done_by_holds : (w : World) (name : List ℕ) (a : Act) (o : Option Conn) → conn_of w name ≡ o → Holds w → Holds (done_by w name a o)
@@ -237,7 +241,8 @@ module _ (Q : App → List Entry → Type 0) (P : App → List Entry → Conn �
   asked_by_holds w name a None good is p = p
   asked_by_holds w name a (Some c) good is p =
       elim (can_ask c a) as
-      (λ b. can_ask c a ≡ b → Holds (cond b (with_conn w name (asked w.app c a)) w)) [ true ↦ λ may. asked_holds w name a c is good may p | false ↦ λ may. p ] refl
+      (λ b. can_ask c a ≡ b → Holds (cond b (with_conn w name (asked w.app c a)) w))
+      [ true ↦ λ may. asked_holds w name a c is good may p | false ↦ λ may. p ] refl
 
   asked_in_holds : (name : List ℕ) (a : Ask) (w : World) → IsAsk a → Holds w → Holds (asked_in name a w)
   asked_in_holds name a w good p = asked_by_holds w name a (conn_of w name) good refl p
@@ -250,8 +255,10 @@ module _ (Q : App → List Entry → Type 0) (P : App → List Entry → Conn �
           below = λ q x e. put_is w.conns name d q x e (λ i s. subst (λ (y : Conn). y.number ≤ suc w.opened) s (omega arith))
               (λ i e2. omega (arith, p.numbered.below q x e2));
           apart = λ q r x y ex ey s. put_is w.conns name d q x ex
-              (λ iq sx. put_is w.conns name d r y ey (λ ir sy. iq ∙ sym ir) (λ ir e2. absurd (omega (arith, ap (λ (z : Conn). z.number) sx, s, p.numbered.below r y e2))))
-              (λ iq e1. put_is w.conns name d r y ey (λ ir sy. absurd (omega (arith, ap (λ (z : Conn). z.number) sy, s, p.numbered.below q x e1))) (λ ir e2. p.numbered.apart q r x y e1 e2 s));
+              (λ iq sx. put_is w.conns name d r y ey (λ ir sy. iq ∙ sym ir)
+              (λ ir e2. absurd (omega (arith, ap (λ (z : Conn). z.number) sx, s, p.numbered.below r y e2))))
+              (λ iq e1. put_is w.conns name d r y ey (λ ir sy. absurd (omega (arith, ap (λ (z : Conn). z.number) sy, s, p.numbered.below q x e1)))
+              (λ ir e2. p.numbered.apart q r x y e1 e2 s));
           entries = upto_suc w.opened w.history p.numbered.entries;
           order = sorted-put name_order w.conns name d p.numbered.order;
         };
@@ -297,7 +304,12 @@ module _ (Q : App → List Entry → Type 0) (P : App → List Entry → Conn �
   entered_holds : (w : World) (op : List Val) (o : Option ℕ) → AreValues (vals_of op) → refusal_of w op ≡ o → Holds w → Holds (entered_by w op o)
   entered_holds w op (Some code) good is p = p
   entered_holds w op None good is p = record {
-    numbered = record { below = p.numbered.below; apart = p.numbered.apart; entries = upto_operation w.opened w.history op p.numbered.entries; order = p.numbered.order };
+    numbered = record {
+      below = p.numbered.below;
+      apart = p.numbered.apart;
+      entries = upto_operation w.opened w.history op p.numbered.entries;
+      order = p.numbered.order;
+    };
     history = k.operations w op good is p.history;
     all = λ q c e. k.longer w.app w.history c (entry.Admin op) refl (p.all q c e);
   }
@@ -322,7 +334,11 @@ module _ (Q : App → List Entry → Type 0) (P : App → List Entry → Conn �
   step_holds w event.History good p = p
 
   pub start_holds : (app : App) → Q app [] → Holds (start app)
-  start_holds app q = record { numbered = record { below = λ q c e. cc e; apart = λ a b c d e f s. cc e; entries = tt; order = sorted-nil text_cmp }; history = q; all = λ q c e. cc e }
+  start_holds app q = record {
+    numbered = record { below = λ q c e. cc e; apart = λ a b c d e f s. cc e; entries = tt; order = sorted-nil text_cmp };
+    history = q;
+    all = λ q c e. cc e;
+  }
 
   pub run_holds : (w : World) (events : List Event) → AreEvents events → Holds w → Holds (run w events)
   run_holds w [] good p = p

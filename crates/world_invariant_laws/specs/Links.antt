@@ -19,7 +19,8 @@ pub record IsLinked (app : App) (h : List Entry) (c : Conn) : Type 0 where
 
 abbrev pub done_if : Conn → Act → Bool → Bool
 done_if c a b = is_done
-    (if not b then answer.Idle else (if is_of_session a && is_full c then answer.JournalFull else (if is_queue_full c a then answer.QueueFull else answer.Done)))
+    (if not b then answer.Idle else
+    (if is_of_session a && is_full c then answer.JournalFull else (if is_queue_full c a then answer.QueueFull else answer.Done)))
 
 -- ---- every world
 

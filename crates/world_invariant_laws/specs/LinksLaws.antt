@@ -24,7 +24,8 @@ use Rattle.world_model.specs.Headline.{begun_in}
 use Rattle.world_invariant_laws.specs.Lift.{AreUpTo, IsKept, Holds, every_world}
 use Rattle.world_invariant_laws.specs.Session.{IsServed}
 use Rattle.world_invariant_laws.specs.SessionLaws.{longer_served, step_served}
-use Rattle.world_invariant_laws.specs.Served.{recv_served, handle_served, load_served, advance_served, learn_served, begin_served, up_served, send_served, take_served}
+use Rattle.world_invariant_laws.specs.Served.{recv_served, handle_served, load_served, advance_served, learn_served, begin_served, up_served}
+use Rattle.world_invariant_laws.specs.Served.{send_served, take_served}
 use Rattle.world_invariant_laws.specs.Heard.{HasHeard}
 use Rattle.world_invariant_laws.specs.HeardLaws.{new_has, up_heard, send_heard, take_heard, asked_heard}
 use Rattle.world_invariant_laws.specs.LegalLaws.{entries_legal, operation_legal}
@@ -84,7 +85,10 @@ act_linked app h c act.Up e p = same_end app h (does app h c act.Up)
     (record { served = up_served app h c c.client.waiting p.served; heard = up_heard c c.client.waiting p.heard })
 act_linked app h c act.Recv e p =
     same_end app h (does app h c act.Recv)
-    (record { served = recv_served app h c c.upward refl (and_parts (is_at_work c) (has_some c.upward) e).0 p.served; heard = recv_heard app h c c.upward p.heard })
+    (record {
+      served = recv_served app h c c.upward refl (and_parts (is_at_work c) (has_some c.upward) e).0 p.served;
+      heard = recv_heard app h c c.upward p.heard;
+    })
 act_linked app h c act.Handle e p =
     same_end app h (does app h c act.Handle) (record {
       served = handle_served app h c c.queue refl (and_parts (is_at_work c && has_some c.queue) (is_none (state_in c).blocking) e).1 p.served;

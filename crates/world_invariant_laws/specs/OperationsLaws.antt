@@ -1,5 +1,6 @@
 -- Laws: An operation that is refused has a code: no definition of what it makes answers want of memory.
-use Rattle.std.specs.Prelude.{◌≡◌, ℕ, ℤ, ◌+ℤ◌, List, [], ◌∷◌, Bool, true, false, cond, nat_le, Option, None, Some, Ok, Err, is_some, codes, slice_get, if◌then◌else◌, refl}
+use Rattle.std.specs.Prelude.{◌≡◌, ℕ, ℤ, ◌+ℤ◌, List, [], ◌∷◌, Bool, true, false, cond, nat_le, Option, None, Some, Ok, Err, is_some, codes, slice_get}
+use Rattle.std.specs.Prelude.{if◌then◌else◌, refl}
 use Rattle.std.specs.List.{list_any}
 use Rattle.map_model.specs.Maps.{at}
 use Rattle.value_model.specs.Val.{Val, int, text, list, object, Entries, vals_of, list_of, fields_of, entries_of}
@@ -10,16 +11,20 @@ use Rattle.ejson_value.specs.Key.{key_cmp, key_of}
 use Rattle.ejson_value.specs.Results.{made, with_both, and_then}
 use Rattle.ejson_value.specs.Rows.{Rows}
 use Rattle.modifier_apply.specs.declared.fault.ApplyFault.TheVariants as modifier
-use Rattle.modifier_apply.specs.Change.{Edit, put_value, take_out, add, keep_least, keep_greatest, append_all, add_missing, drop_equal, drop_passing, drop_last, drop_first, Modification, replaced_by, changed_by}
+use Rattle.modifier_apply.specs.Change.{Edit, put_value, take_out, add, keep_least, keep_greatest, append_all, add_missing, drop_equal, drop_passing}
+use Rattle.modifier_apply.specs.Change.{drop_last, drop_first, Modification, replaced_by, changed_by}
 use Rattle.modifier_apply.specs.Change as edit
-use Rattle.modifier_apply.specs.Modified.{refusal_number, same, is_whole, to_number, elements, list_edited, edited, edited_if_there, makes, blocked, with_field, field_changed, max_place, with_element, element_changed, changed_at, document_changed, conflicts, paths_of, changes_id, all_made, replacement, modified}
+use Rattle.modifier_apply.specs.Modified.{refusal_number, same, is_whole, to_number, elements, list_edited, edited, edited_if_there, makes, blocked}
+use Rattle.modifier_apply.specs.Modified.{with_field, field_changed, max_place, with_element, element_changed, changed_at, document_changed}
+use Rattle.modifier_apply.specs.Modified.{conflicts, paths_of, changes_id, all_made, replacement, modified}
 use Rattle.modifier_apply.specs.Modified as apply
 use Rattle.collection_store.specs.Outcome.{Outcome, code_of}
 use Rattle.collection_store.specs.declared.fault.OpFault.TheVariants as fault
 use Rattle.collection_store.specs.declared.operation.Op.{Op}
 use Rattle.collection_store.specs.declared.operation.Op.TheVariants as operation
 use Rattle.collection_store.specs.Limits.{is_too_large, is_full}
-use Rattle.collection_store.specs.Applied.{Row, Plan, is_listed, if_listed, matching, chosen, after, done, if_room, insertion, insert_plan, by_number, or_refused, change_if_differs, with_change, all_updated, plan_for, update_plan, remove_plan, applied}
+use Rattle.collection_store.specs.Applied.{Row, Plan, is_listed, if_listed, matching, chosen, after, done, if_room, insertion, insert_plan, by_number}
+use Rattle.collection_store.specs.Applied.{or_refused, change_if_differs, with_change, all_updated, plan_for, update_plan, remove_plan, applied}
 use Rattle.collection_store.specs.Applied as store
 use Rattle.world_invariant_laws.specs.Operations.{HasNumber, IsCoded}
 
@@ -76,7 +81,8 @@ changed_number : (e : Edit) (path : List (List ℕ)) (o : Option Val) → HasNum
 changed_number e [] o = there_number e o
 changed_number e (part ∷ rest) None =
     number_if (makes e) (made (λ fields. Some (object (fields_of fields))) (field_changed (λ there. changed_at e rest there) [] part)) (Ok None)
-    (made_number (λ fields. Some (object (fields_of fields))) (field_changed (λ there. changed_at e rest there) [] part) (field_number (λ there. changed_at e rest there) [] part (λ o. changed_number e rest o))) tt
+    (made_number (λ fields. Some (object (fields_of fields))) (field_changed (λ there. changed_at e rest there) [] part)
+    (field_number (λ there. changed_at e rest there) [] part (λ o. changed_number e rest o))) tt
 changed_number e (part ∷ rest) (Some (object fs)) =
     made_number (λ fields. Some (object (fields_of fields))) (field_changed (λ there. changed_at e rest there) (entries_of fs) part)
     (field_number (λ there. changed_at e rest there) (entries_of fs) part (λ o. changed_number e rest o))
@@ -156,10 +162,12 @@ listed_coded names collection o h = coded_if (is_listed names collection) o (Err
 pub applied_coded : (names : List (List ℕ)) (rows : Rows) (op : Op) (room : ℕ) → IsCoded (applied names rows op room)
 applied_coded names rows (operation.Insert collection id doc) room =
     listed_coded names collection (and_then (insert_plan rows (key_of collection id) doc) (λ plan. if_room rows room plan))
-    (then_coded (insert_plan rows (key_of collection id) doc) (λ plan. if_room rows room plan) (insert_coded rows (key_of collection id) doc) (λ plan. room_coded rows room plan))
+    (then_coded (insert_plan rows (key_of collection id) doc) (λ plan. if_room rows room plan) (insert_coded rows (key_of collection id) doc)
+    (λ plan. room_coded rows room plan))
 applied_coded names rows (operation.Update collection selector m all) room =
     let found = chosen all (matching collection selector rows) in
     listed_coded names collection (and_then (update_plan m found) (λ plan. if_room rows room plan))
-    (then_coded (update_plan m found) (λ plan. if_room rows room plan) (made_coded (λ changes. plan_for found changes) (all_updated m found) (all_coded m found)) (λ plan. room_coded rows room plan))
+    (then_coded (update_plan m found) (λ plan. if_room rows room plan)
+    (made_coded (λ changes. plan_for found changes) (all_updated m found) (all_coded m found)) (λ plan. room_coded rows room plan))
 applied_coded names rows (operation.Remove collection selector) room =
     listed_coded names collection (Ok (done rows (remove_plan (matching collection selector rows)))) tt

@@ -15,7 +15,8 @@ use Rattle.world_model.specs.program_model.Steps.{stepped}
 use Rattle.world_model.specs.history_model.declared.entry.Entry.{Entry}
 use Rattle.world_model.specs.history_model.declared.entry.Entry.TheVariants as entry
 use Rattle.world_model.specs.history_model.Operations.{operation_in}
-use Rattle.world_model.specs.history_model.History.{Programs, RunKey, run_cmp, Begun, Runs, Held, later, setting_in, steps_of, with_begin, with_stepped, no_steps, with_step, carried, held, held_at, status_of, status_in, status_at}
+use Rattle.world_model.specs.history_model.History.{Programs, RunKey, run_cmp, Begun, Runs, Held, later, setting_in, steps_of, with_begin}
+use Rattle.world_model.specs.history_model.History.{with_stepped, no_steps, with_step, carried, held, held_at, status_of, status_in, status_at}
 use Rattle.world_model.specs.history_model.HistoryLaws.{run_order, held-append, held_at-longer, held_entries}
 use Rattle.world_model.specs.history_model.RunsLaws.{operation_runs, held_is}
 use Rattle.world_invariant_laws.specs.Places.{IsNoted, Stood}
@@ -26,7 +27,8 @@ set_noted : (runs : Runs) (key : RunKey) (b : Begun) (q : RunKey) → IsSorted r
     IsNoted b.at (at run_cmp runs q) (at run_cmp (set run_cmp runs key (Some b)) q)
 set_noted runs key b q sorted =
     subst (λ (o : Option Begun). IsNoted b.at (at run_cmp runs q) o) (sym (at-set run_order runs key (Some b) q sorted))
-    (elim (eq_by_cmp run_cmp q key) as (λ c. IsNoted b.at (at run_cmp runs q) (cond c (Some b) (at run_cmp runs q))) [ true ↦ inr (b, refl, refl) | false ↦ inl refl ])
+    (elim (eq_by_cmp run_cmp q key)
+    as (λ c. IsNoted b.at (at run_cmp runs q) (cond c (Some b) (at run_cmp runs q))) [ true ↦ inr (b, refl, refl) | false ↦ inl refl ])
 
 begin_noted : (app : Programs) (h : Held) (key : RunKey) (method : List ℕ) (params : List Val) (seed : Val) (q : RunKey) (o : Option Begun) →
     IsSorted run_cmp h.runs →
@@ -117,7 +119,8 @@ ended_there app history place session k status end is ended = by (at run_cmp (he
         let own : status_of b ≡ status = cc h in
         let there = stood app (take place history) (session, k) b e in
         let where_ : end.at ≡ b.at = end_place b status end own ended in
-        let short : length (take place history) ≤ length history = omega (arith, ap length (take-append-drop place history), length-append (take place history) (drop place history)) in (
+        let short : length (take place history) ≤ length history =
+        omega (arith, ap length (take-append-drop place history), length-append (take place history) (drop place history)) in (
           omega (arith, where_, there.0, short),
           ap (λ n. status_at app history n session k) where_
               ∙ (ap (λ xs. status_in (held app xs) session k) (sym (take_less b.at place history there.0)) ∙ (ap (option_map status_of) there.1 ∙ h)),

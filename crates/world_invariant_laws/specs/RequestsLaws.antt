@@ -1,5 +1,6 @@
 -- Laws: The messages that wait in a session are requests of one that is connected, and the item of a request may follow.
-use Rattle.std.specs.Prelude.{◌≡◌, ℕ, List, [], ◌∷◌, ◌++◌, length, Bool, true, false, cond, not, ◌&&◌, nat_lt, Option, Some, None, Ok, Err, codes, is_some, refl}
+use Rattle.std.specs.Prelude.{◌≡◌, ℕ, List, [], ◌∷◌, ◌++◌, length, Bool, true, false, cond, not, ◌&&◌, nat_lt, Option, Some, None, Ok, Err, codes}
+use Rattle.std.specs.Prelude.{is_some, refl}
 use Rattle.std.proofs.Common.{ap, sym, subst, ◌∙◌}
 use Rattle.serde_json.specs.Data.{Data}
 use Rattle.serde_json.specs.Read as json
@@ -18,7 +19,8 @@ use Rattle.world_model.specs.session_model.Items as item
 use Rattle.world_model.specs.session_model.Subscriptions.{sub_named, is_crowded}
 use Rattle.world_model.specs.session_model.State.{State}
 use Rattle.world_model.specs.session_model.Moments.{Moment}
-use Rattle.world_model.specs.session_model.Taking.{max_text, Taken, at_once, to_queue, refused_for, taken_as, taken_named, taken_tree, taken_text, connects, message_of, is_connected_by, queued_from}
+use Rattle.world_model.specs.session_model.Taking.{max_text, Taken, at_once, to_queue, refused_for, taken_as, taken_named, taken_tree, taken_text}
+use Rattle.world_model.specs.session_model.Taking.{connects, message_of, is_connected_by, queued_from}
 use Rattle.world_model.specs.session_model.Answering.{is_at_once, Answers}
 use Rattle.world_model.specs.session_model.Fits.{seed_or, opened_by, closed_by, item_for, IsHandled}
 use Rattle.session_journal_laws.specs.Takes.{IsRight, taken_right}
@@ -175,9 +177,18 @@ module _ (app : App) (number : ℕ) (C : List Moment) (st : State) (connected : 
       let crowded = item.nosub m (Some fault.TooMany) in
       elim (is_some (sub_named id st.subs)) as
       (λ b. is_some (sub_named id st.subs) ≡ b → IsTurn app number C st m (cond b (item.same m) (cond (is_crowded st.subs) crowded opened))) [
-        | true ↦ λ e. record { can = is_handled m (item.same m) short (ap (λ b. cond b (item.same m) (cond (is_crowded st.subs) crowded opened)) e); answers = refl; later = refl }
+        | true ↦ λ e. record {
+          can = is_handled m (item.same m) short (ap (λ b. cond b (item.same m) (cond (is_crowded st.subs) crowded opened)) e);
+          answers = refl;
+          later = refl;
+        }
         | false ↦ λ e. elim (is_crowded st.subs) as (λ b. is_crowded st.subs ≡ b → IsTurn app number C st m (cond b crowded opened)) [
-          | true ↦ λ f. record { can = is_handled m crowded short (ap (λ b. cond b (item.same m) (cond (is_crowded st.subs) crowded opened)) e ∙ ap (λ b. cond b crowded opened) f); answers = refl; later = refl }
+          | true ↦ λ f. record {
+            can = is_handled m crowded short (ap (λ b. cond b (item.same m) (cond (is_crowded st.subs) crowded opened)) e
+                ∙ ap (λ b. cond b crowded opened) f);
+            answers = refl;
+            later = refl;
+          }
           | false ↦ λ f. opened_turn id name params (making app name params) short
               (ap (λ b. cond b (item.same m) (cond (is_crowded st.subs) crowded opened)) e ∙ ap (λ b. cond b crowded opened) f)
         ] refl

@@ -1,5 +1,6 @@
 -- Each act keeps what is so of a session.
-use Rattle.std.specs.Prelude.{◌≡◌, ℕ, suc, ◌+◌, ◌≤◌, nat_lt, nat_le, List, [], ◌∷◌, ◌++◌, length, map, take, drop, Bool, true, false, cond, not, ◌&&◌, ◌||◌, Option, Some, None, is_some, is_none, option_map, if◌then◌else◌, refl}
+use Rattle.std.specs.Prelude.{◌≡◌, ℕ, suc, ◌+◌, ◌≤◌, nat_lt, nat_le, List, [], ◌∷◌, ◌++◌, length, map, take, drop, Bool, true, false, cond, not, ◌&&◌}
+use Rattle.std.specs.Prelude.{◌||◌, Option, Some, None, is_some, is_none, option_map, if◌then◌else◌, refl}
 use Rattle.std.specs.List.{list_any}
 use Rattle.std.proofs.Common.{ap, sym, subst, ◌∙◌, arith, append-nil}
 use Rattle.std.proofs.lemmas.List.{map-append, take-append-drop}
@@ -25,7 +26,8 @@ use Rattle.session_journal_laws.specs.Appending.{state-append}
 use Rattle.session_journal_laws.specs.Takes.{IsRight, taken_right, answers_at_once, answers_later, answers_in_turn}
 use Rattle.world_model.specs.Store.{programs, held_in, moment_of, moments}
 use Rattle.world_model.specs.Conn.{Waiting, Refusal, Conn, state_in, is_at_work, outbox_limit}
-use Rattle.world_model.specs.Acts.{goes_up, received_as, receives, handles, with_item, is_kept, without_run, unbegun, is_refused, begin_entry, begun, refusal_kept, is_running, news_of, news_by, learns_item, learns, may_advance, sends, takes}
+use Rattle.world_model.specs.Acts.{goes_up, received_as, receives, handles, with_item, is_kept, without_run, unbegun, is_refused, begin_entry, begun}
+use Rattle.world_model.specs.Acts.{refusal_kept, is_running, news_of, news_by, learns_item, learns, may_advance, sends, takes}
 use Rattle.world_invariant_laws.specs.PlacesLaws.{ended_there}
 use Rattle.world_invariant_laws.specs.Moments.{moments_length, moment_now, run_there, end_there}
 use Rattle.world_invariant_laws.specs.Begun.{Runs, runs_of, IsOfRuns, begin_kept, item_kept}
@@ -79,7 +81,8 @@ not_true false e = refl
 
 works : (c : Conn) → is_at_work c ≡ true → (state_in c).failed ≡ false
 works c e = not_true (state_in c).failed
-    (and_parts (not c.is_dropped) (not (state_in c).failed) (and_parts (not c.is_dropped && not (state_in c).failed) (nat_lt (length c.outbox) outbox_limit) e).0).1
+    (and_parts (not c.is_dropped) (not (state_in c).failed)
+    (and_parts (not c.is_dropped && not (state_in c).failed) (nat_lt (length c.outbox) outbox_limit) e).0).1
 
 received_served : (app : App) (h : List Entry) (c : Conn) (t : List ℕ) (ts : List (List ℕ)) (x : Taken) → taken_text (state_in c).connected t ≡ x →
     (state_in c).failed ≡ false →
@@ -136,14 +139,16 @@ handle_served app h c [] e free p = p
 handle_served app h c (w ∷ ws) e free p =
     let C = moments app c.number h in
     let st = state_in c in
-    let answers : Answers c.received c.items (w.message ∷ messages ws) = subst (λ (q : List Waiting). Answers c.received c.items (messages q)) e p.session.answers in
+    let answers : Answers c.received c.items (w.message ∷ messages ws) =
+    subst (λ (q : List Waiting). Answers c.received c.items (messages q)) e p.session.answers in
     let next = next_request app c.number C c.received c.items w.message (messages ws) answers in
     let blocking : st.blocking ≡ None = is_none_is st.blocking free in
     let turn = request_turn app c.number C st (sym answers.connected ∙ next.1) blocking w.message next.0.0 next.0.1 in
     let i = item_for app c.number st w.message in
     item_served app h c c.upward c.received ws c.kept i p turn.can (turn_runs app c.number C st (runs_of app c.number h) w.message i turn.answers)
     (answers_in_turn c.received c.items (messages ws) i (subst (λ ms. Answers c.received c.items (ms ++ messages ws)) (sym turn.answers) answers) turn.later)
-    (subst (λ (k : Option Refusal). IsRefusal C (runs_of app c.number h) k (after st i).blocking) (sym (none_kept C (runs_of app c.number h) c.kept st.blocking blocking p.refusal)) tt)
+    (subst (λ (k : Option Refusal). IsRefusal C (runs_of app c.number h) k (after st i).blocking)
+    (sym (none_kept C (runs_of app c.number h) c.kept st.blocking blocking p.refusal)) tt)
 
 -- ---- load and advance
 
@@ -169,7 +174,8 @@ pub advance_served : (app : App) (h : List Entry) (c : Conn) (s count : ℕ) →
     IsServed app h c → IsServed app h (with_item app h c (item.advance s count))
 advance_served app h c s count may p =
     item_served app h c c.upward c.received c.queue c.kept (item.advance s count) p
-    (subst (λ n. MayAdvance n count (cursor_of s (state_in c).subs)) (sym (moments_length app c.number h)) (advance_may (length h) count (cursor_of s (state_in c).subs) may)) tt
+    (subst (λ n. MayAdvance n count (cursor_of s (state_in c).subs)) (sym (moments_length app c.number h))
+    (advance_may (length h) count (cursor_of s (state_in c).subs) may)) tt
     (plain_answers c (item.advance s count) refl refl p.session.answers) p.refusal
 
 -- ---- learn
@@ -184,7 +190,8 @@ refusal_served app h c k None e t p = cc t
 refusal_served app h c k (Some r) e t p =
     let C = moments app c.number h in
     let same : k ≡ r.k = kept_is k r t in
-    let known : IsRefusal C (runs_of app c.number h) (Some r) (state_in c).blocking = subst (λ x. IsRefusal C (runs_of app c.number h) x (state_in c).blocking) e p.refusal in
+    let known : IsRefusal C (runs_of app c.number h) (Some r) (state_in c).blocking =
+    subst (λ x. IsRefusal C (runs_of app c.number h) x (state_in c).blocking) e p.refusal in
     item_served app h c c.upward c.received c.queue None (item.refused k r.at) p
     (subst (λ n. IsRefusedAt (moment_at C r.at) n (state_in c).blocking) (sym same) known.0)
     (ap (λ n. is_some (runs_of app c.number h n)) same ∙ known.1)
@@ -256,7 +263,8 @@ news_served : (app : App) (h : List Entry) (c : Conn) (k place : ℕ) (o : Optio
 news_served app h c k place None e le other p = p
 news_served app h c k place (Some status) e le other p =
     elim (is_running (phase_at k (state_in c).methods)) as
-    (λ b. is_running (phase_at k (state_in c).methods) ≡ b → IsServed app h (learns_item app h c (cond b (news_of (state_in c) k status.unblocked status.ended) None))) [
+    (λ b. is_running (phase_at k (state_in c).methods) ≡ b →
+    IsServed app h (learns_item app h c (cond b (news_of (state_in c) k status.unblocked status.ended) None))) [
       | true ↦ λ t. ends_served app h c k place status e le (running_is (phase_at k (state_in c).methods) t) other p status.ended refl
       | false ↦ λ t. p
     ] refl
@@ -265,7 +273,8 @@ told_served : (app : App) (h : List Entry) (c : Conn) (k place : ℕ) → is_kep
     IsServed app h (learns_item app h c (if nat_le place (length h) then news_by (state_in c) k (status_at (programs app) h place c.number k) else None))
 told_served app h c k place other p =
     elim (nat_le place (length h)) as
-    (λ b. nat_le place (length h) ≡ b → IsServed app h (learns_item app h c (cond b (news_by (state_in c) k (status_at (programs app) h place c.number k)) None))) [
+    (λ b. nat_le place (length h) ≡ b →
+    IsServed app h (learns_item app h c (cond b (news_by (state_in c) k (status_at (programs app) h place c.number k)) None))) [
       | true ↦ λ t. news_served app h c k place (status_at (programs app) h place c.number k) refl (leb-true place (length h) t) other p
       | false ↦ λ t. p
     ] refl
@@ -273,7 +282,8 @@ told_served app h c k place other p =
 pub learn_served : (app : App) (h : List Entry) (c : Conn) (k place : ℕ) → IsServed app h c → IsServed app h (learns app h c k place)
 learn_served app h c k place p =
     elim (is_kept k c.kept) as (λ b. is_kept k c.kept ≡ b → IsServed app h (learns_item app h (record c { kept = cond b None c.kept })
-    (cond b (option_map (λ (r : Refusal). item.refused k r.at) c.kept) (if nat_le place (length h) then news_by (state_in c) k (status_at (programs app) h place c.number k) else None)))) [
+    (cond b (option_map (λ (r : Refusal). item.refused k r.at) c.kept)
+    (if nat_le place (length h) then news_by (state_in c) k (status_at (programs app) h place c.number k) else None)))) [
       | true ↦ λ t. refusal_served app h c k c.kept refl t p
       | false ↦ λ t. told_served app h c k place t p
     ] refl
@@ -285,7 +295,8 @@ refused_now : (app : App) (h : List Entry) (c : Conn) (b : Blocking) → (state_
     IsRefusal (moments app c.number h) (runs_of app c.number h) (Some (record { k = b.k; at = length h })) (state_in c).blocking
 refused_now app h c b blocks none full = (
   subst (λ (o : Option Moment). IsRefusedAt o b.k (state_in c).blocking) (sym (moment_now app c.number h))
-      (subst (λ (o : Option Blocking). IsRefusedAt (Some (moment_of app c.number (held (programs app) h))) b.k o) (sym blocks) (record { number = refl; begun = without (runs_of app c.number h b.k) none; full = full })),
+      (subst (λ (o : Option Blocking). IsRefusedAt (Some (moment_of app c.number (held (programs app) h))) b.k o) (sym blocks)
+      (record { number = refl; begun = without (runs_of app c.number h b.k) none; full = full })),
   none,
 )
   where
@@ -308,7 +319,8 @@ begin_served app h c p = by (state_in c).blocking refl
         IsRefusal C (runs_of app c.number h) kept (state_in c).blocking → kept ≡ None
     free b None e f k = refl
     free b (Some r) e f k =
-        let same : b.k ≡ r.k = refused_here (moment_at C r.at) r.k b.k (Some b) (subst (λ o. IsRefusedAt (moment_at C r.at) r.k o) e k.0) (eq-eqb b.k b.k refl) in
+        let same : b.k ≡ r.k =
+        refused_here (moment_at C r.at) r.k b.k (Some b) (subst (λ o. IsRefusedAt (moment_at C r.at) r.k o) e k.0) (eq-eqb b.k b.k refl) in
         let differ : true ≡ false = sym (eq-eqb b.k r.k same) ∙ f in absurd (cc differ)
 
     or_parts : (a b : Bool) → (a || b) ≡ false → (a ≡ false) × (b ≡ false)
@@ -321,14 +333,16 @@ begin_served app h c p = by (state_in c).blocking refl
     here b e false t =
         let parts = or_parts (is_some (status_in (held_in app h) c.number b.k)) (is_kept b.k c.kept) t in
         elim (is_refused app h b) as
-        (λ y. is_refused app h b ≡ y → IsServed app (h ++ cond y [] (begin_entry c.number b ∷ [])) (record c { kept = cond y (Some (record { k = b.k; at = length h })) c.kept })) [
+        (λ y. is_refused app h b ≡ y → IsServed app (h ++ cond y [] (begin_entry c.number b ∷ []))
+        (record c { kept = cond y (Some (record { k = b.k; at = length h })) c.kept })) [
           | true ↦ λ full. subst (λ (x : List Entry). IsServed app x (record c { kept = Some (record { k = b.k; at = length h }) })) (sym (append-nil h))
               (record { session = p.session; begun = p.begun; refusal = refused_now app h c b e parts.0 full })
           | false ↦ λ full. record {
             session = entry_session app h c (begin_entry c.number b) p;
             begun = begin_kept app c.number h c.items b e parts.0 p.begun;
             refusal = subst
-                (λ (k : Option Refusal). IsRefusal (moments app c.number (h ++ begin_entry c.number b ∷ [])) (runs_of app c.number (h ++ begin_entry c.number b ∷ [])) k (state_in c).blocking) (sym (free b c.kept e parts.1 p.refusal)) tt;
+                (λ (k : Option Refusal). IsRefusal (moments app c.number (h ++ begin_entry c.number b ∷ []))
+                (runs_of app c.number (h ++ begin_entry c.number b ∷ [])) k (state_in c).blocking) (sym (free b c.kept e parts.1 p.refusal)) tt;
           }
         ] refl
 

@@ -1,4 +1,5 @@
--- A session in a world: its journal fits what its history was at each place and answers the texts that it took, and what it sent and is to send are the texts of that journal.
+-- A session in a world: its journal fits what its history was at each place and answers the texts that it took, and what it sent and is to send are
+-- the texts of that journal.
 use Rattle.std.specs.Prelude.{◌≡◌, ℕ, List, ◌++◌, map, false, Option, is_some, IfSome}
 use Rattle.ddp_messages.specs.ClientMessage.{ClientMessage}
 use Rattle.app_model.specs.App.{App}

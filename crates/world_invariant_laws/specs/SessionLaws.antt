@@ -1,4 +1,5 @@
--- Laws: A session in a world: its journal fits what its history was at each place and answers the texts that it took, and what it sent and is to send are the texts of that journal.
+-- Laws: A session in a world: its journal fits what its history was at each place and answers the texts that it took, and what it sent and is to
+-- send are the texts of that journal.
 use Rattle.std.specs.Prelude.{◌≡◌, ℕ, List, [], ◌∷◌, ◌++◌, map, Bool, true, false, ◌||◌, Option, Some, None, is_some, refl}
 use Rattle.std.proofs.Common.{ap, ap₂, sym, subst, ◌∙◌}
 use Rattle.std.proofs.lemmas.List.{append_assoc}
@@ -77,7 +78,8 @@ runs-append : (app : App) (number : ℕ) (h : List Entry) (e : Entry) (k : ℕ) 
     is_some (runs_of app number (h ++ e ∷ []) k) ≡ (is_some (runs_of app number h k) || begins (number, k) e)
 runs-append app number h e k =
     run_where_begun (programs app) (h ++ e ∷ []) number k
-    ∙ (list_any-append (begins (number, k)) h (e ∷ []) ∙ ap₂ (λ a b. a || b) (sym (run_where_begun (programs app) h number k)) (or_false (begins (number, k) e)))
+    ∙ (list_any-append (begins (number, k)) h (e ∷ [])
+    ∙ ap₂ (λ a b. a || b) (sym (run_where_begun (programs app) h number k)) (or_false (begins (number, k) e)))
 
 entry_refusal : (app : App) (h : List Entry) (number : ℕ) (e : Entry) (blocking : Option Blocking) (kept : Option Refusal) →
     ((k : ℕ) → begins (number, k) e ≡ false) → (st : State) → st.blocking ≡ blocking →
@@ -88,7 +90,8 @@ entry_refusal app h number e blocking (Some r) apart st b p =
     let more = moment_of app number (held (programs app) (h ++ e ∷ [])) ∷ [] in (
       subst (λ (D : List Moment). IsRefusedAt (moment_at D r.at) r.k blocking) (sym (moments-append app number h e))
           (subst (λ o. IsRefusedAt (moment_at (moments app number h ++ more) r.at) r.k o) b
-          (can_follow-longer app number (moments app number h) more st (item.refused r.k r.at) (subst (λ o. IsRefusedAt (moment_at (moments app number h) r.at) r.k o) (sym b) p.0))),
+          (can_follow-longer app number (moments app number h) more st (item.refused r.k r.at)
+          (subst (λ o. IsRefusedAt (moment_at (moments app number h) r.at) r.k o) (sym b) p.0))),
       runs-append app number h e r.k ∙ (ap (λ x. is_some (runs_of app number h r.k) || x) (apart r.k) ∙ (or_false (is_some (runs_of app number h r.k)) ∙ p.1)),
     )
 

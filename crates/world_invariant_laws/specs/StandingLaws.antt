@@ -1,5 +1,6 @@
 -- Laws: The calls of a journal that were not refused: each is new at its item, and the one that blocks is the last.
-use Rattle.std.specs.Prelude.{◌≡◌, ℕ, zero, suc, ◌<◌, ◌≤◌, ◌==◌, List, [], ◌∷◌, ◌++◌, length, filter, Bool, true, false, cond, not, ◌||◌, Option, None, Some, refl}
+use Rattle.std.specs.Prelude.{◌≡◌, ℕ, zero, suc, ◌<◌, ◌≤◌, ◌==◌, List, [], ◌∷◌, ◌++◌, length, filter, Bool, true, false, cond, not, ◌||◌, Option}
+use Rattle.std.specs.Prelude.{None, Some, refl}
 use Rattle.std.proofs.Common.{ap, ap₂, sym, subst, ◌∙◌, arith, append-nil}
 use Rattle.std.proofs.lemmas.List.{append_assoc, length-append}
 use Rattle.std.proofs.lemmas.List.Elements.{filter-append}
@@ -165,16 +166,24 @@ call_known : (st : State) (items : List Item) (k : ℕ) (message : ClientMessage
     KnowsCalls (after st (item.call k message seed)) (items ++ item.call k message seed ∷ [])
 call_known st items k message seed number w =
     let i = item.call k message seed in
-    let n : length (after st i).methods ≡ suc (length st.methods) = omega (arith, after_length st i, length-append st.methods (record { id = id_of message; phase = running } ∷ [])) in
+    let n : length (after st i).methods ≡ suc (length st.methods) =
+    omega (arith, after_length st i, length-append st.methods (record { id = id_of message; phase = running } ∷ [])) in
     let calls = calls_in-append items i in
-    let same : (j : ℕ) → is_refused_in (items ++ i ∷ []) j ≡ is_refused_in items j = λ j. refused-append items i j ∙ or_false (is_refused_in items j) in record {
+    let same : (j : ℕ) → is_refused_in (items ++ i ∷ []) j ≡ is_refused_in items j = λ j. refused-append items i j
+    ∙ or_false (is_refused_in items j) in record {
       below = subst (AreBelow (length (after st i).methods)) (sym calls)
-          (below_more (length (after st i).methods) (calls_in items) (calling k message seed ∷ []) (below_later (length st.methods) (length (after st i).methods) (calls_in items) (omega (arith, n)) w.below) (omega (arith, n, number), tt));
+          (below_more (length (after st i).methods) (calls_in items) (calling k message seed ∷ []) (below_later (length st.methods)
+          (length (after st i).methods) (calls_in items) (omega (arith, n)) w.below) (omega (arith, n, number), tt));
       fresh = λ j le. same j ∙ w.fresh j (omega (arith, le, n));
       last = λ b is.
           let one : calling k message seed ≡ b = cc is in
           subst (IsLastCall (items ++ i ∷ [])) one
-          (record { older = calls_in items; is = calls; stands = same k ∙ w.fresh k (omega (arith, number)); below = subst (λ m. AreBelow m (calls_in items)) (sym number) w.below });
+          (record {
+            older = calls_in items;
+            is = calls;
+            stands = same k ∙ w.fresh k (omega (arith, number));
+            below = subst (λ m. AreBelow m (calls_in items)) (sym number) w.below;
+          });
     }
 
 refused_known : (C : List Moment) (st : State) (items : List Item) (k place : ℕ) → IsRefusedAt (moment_at C place) k st.blocking → KnowsCalls st items →

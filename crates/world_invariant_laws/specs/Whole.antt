@@ -1,5 +1,6 @@
 -- A quiescent session is whole.
-use Rattle.std.specs.Prelude.{◌≡◌, ℕ, zero, suc, ◌+◌, ◌<◌, ◌≤◌, ◌==◌, List, [], ◌∷◌, ◌++◌, length, Bool, true, false, cond, not, ◌&&◌, ◌||◌, Option, Some, None, is_some, option_map, option_and_then, refl}
+use Rattle.std.specs.Prelude.{◌≡◌, ℕ, zero, suc, ◌+◌, ◌<◌, ◌≤◌, ◌==◌, List, [], ◌∷◌, ◌++◌, length, Bool, true, false, cond, not, ◌&&◌, ◌||◌, Option}
+use Rattle.std.specs.Prelude.{Some, None, is_some, option_map, option_and_then, refl}
 use Rattle.std.proofs.Common.{ap, ap₂, sym, subst, ◌∙◌, arith, append-nil}
 use Rattle.std.proofs.lemmas.Bool.{and_parts, eq-eqb, lt-ltb, le-leb}
 use Rattle.map_model.specs.Differences.{all_taken}
@@ -168,9 +169,11 @@ module _ (app : App) (h : List Entry) (c : Conn) (p : IsLinked app h c) (q : IsQ
       elim (is_closed s c.items) as (λ b. is_closed s c.items ≡ b → (is_some (loaded_at s c.items) || b) ≡ true) [
         | true ↦ λ e. or_true (is_some (loaded_at s c.items))
         | false ↦ λ e.
-            let live : is_live s (state_in c).subs ≡ true = t.live s ∙ ap₂ (λ x y. x && not y) (lt-ltb s (state_in c).opened (subst (λ n. s < n) (sym t.opened) less)) e in
+            let live : is_live s (state_in c).subs ≡ true = t.live s
+            ∙ ap₂ (λ x y. x && not y) (lt-ltb s (state_in c).opened (subst (λ n. s < n) (sym t.opened) less)) e in
             or_left (is_some (loaded_at s c.items))
-            (loaded (loaded_at s c.items) (ap (λ b. cond b None (option_map (λ place. place + advances s c.items) (loaded_at s c.items))) (sym e) ∙ (sym (t.cursors s) ∙ at_end_cursor (length h) (state_in c).subs s q.at_end live)))
+            (loaded (loaded_at s c.items) (ap (λ b. cond b None (option_map (λ place. place + advances s c.items) (loaded_at s c.items))) (sym e)
+            ∙ (sym (t.cursors s) ∙ at_end_cursor (length h) (state_in c).subs s q.at_end live)))
       ] refl
     where
       or_true : (b : Bool) → (b || true) ≡ true
@@ -213,7 +216,8 @@ module _ (app : App) (h : List Entry) (c : Conn) (p : IsLinked app h c) (q : IsQ
       let heard = p.heard.heard q.unbroken in
       let all : heard.taken ≡ out_texts C c.number c.items =
       sym (append-nil heard.taken)
-      ∙ (ap (λ ts. heard.taken ++ ts) (sym q.downward) ∙ (heard.is ∙ (sym (append-nil c.sent) ∙ (ap (λ ts. c.sent ++ ts) (sym q.outbox) ∙ p.served.session.texts)))) in
+      ∙ (ap (λ ts. heard.taken ++ ts) (sym q.downward)
+      ∙ (heard.is ∙ (sym (append-nil c.sent) ∙ (ap (λ ts. c.sent ++ ts) (sym q.outbox) ∙ p.served.session.texts)))) in
       heard.server
       ∙ (ap (λ ts. all_taken text_cmp key_cmp [] (data_of (messages_in ts))) all
       ∙ (ap (λ ms. all_taken text_cmp key_cmp [] (data_of ms)) (out_reads app c.number C c.items kept fits).1 ∙ out-taken C c.number c.items))

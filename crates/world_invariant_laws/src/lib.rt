@@ -47,6 +47,7 @@ pub fn quiescent_sessions_are_whole()
 
 /// A run that has ended at some place of a history had done so, and so, at the place that its end names.
 pub fn runs_end_where_they_say()
-    ensures { (app : Programs) (history : List Entry) (place session k : ℕ) (status : Status) (end : End) → status_at app history place session k ≡ Some status →
+    ensures { (app : Programs) (history : List Entry) (place session k : ℕ) (status : Status) (end : End) →
+        status_at app history place session k ≡ Some status →
         status.ended ≡ Some end → (end.at ≤ length history) × (status_at app history end.at session k ≡ Some status) }
 {}

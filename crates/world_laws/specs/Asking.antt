@@ -1,5 +1,6 @@
 -- What is asked of a client, a client that begins, and an administrator's operation.
-use Rattle.std.specs.Prelude.{◌≡◌, ℕ, suc, nat_lt, List, [], ◌∷◌, length, Bool, true, false, cond, not, ◌&&◌, Option, Some, None, is_some, is_none, option_map, IfSome, refl}
+use Rattle.std.specs.Prelude.{◌≡◌, ℕ, suc, nat_lt, List, [], ◌∷◌, length, Bool, true, false, cond, not, ◌&&◌, Option, Some, None, is_some, is_none}
+use Rattle.std.specs.Prelude.{option_map, IfSome, refl}
 use Rattle.std.specs.Ordering.{eq_by_cmp}
 use Rattle.std.specs.BTreeMap.{insert_entry}
 use Rattle.std.proofs.Common.{ap, ap₂, sym, subst, ◌∙◌, arith, append-nil}
@@ -46,7 +47,10 @@ module _ (x : AWorld) (p : IsWorld x) (name : List ℕ) (new : AConnection) (ope
       let nil = append-nil x.history in
       subst (λ (h : List Entry). IsWorld (next_of h)) nil
       (change_stays x p name new [] opened present (with_name x.busy name) (subst (λ (h : List Entry). Reachable (as_world (next_of h))) (sym nil) reach)
-      (record { connection = subst (λ (h : List Entry). IsConnection x.app name h new) (sym nil) conn; rests = λ free why. cc (sym (is_busy x.busy name) ∙ free) })
+      (record {
+        connection = subst (λ (h : List Entry). IsConnection x.app name h new) (sym nil) conn;
+        rests = λ free why. cc (sym (is_busy x.busy name) ∙ free);
+      })
       (λ q c isc differ. tt) there (sorted-put name_order x.busy name tt p.busy) (busier x.busy name))
 
 -- ---- what is asked
@@ -98,7 +102,9 @@ module _ (x : AWorld) (p : IsWorld x) (name : List ℕ) (old : AConnection) (is 
 
   module _ (new : AConnection) (d : IsAsked x.app name x.history a old new) (good : IsAsk a) where
     asked_does : as_world (after_ask x name new) ≡ asked_in name a (as_world x)
-    asked_does = (λ j. record (as_world x) { conns = (put_seen x.conns name new p.order ∙ ap (insert_entry text_cmp (as_world x).conns name) d.does) j }) ∙ sym (asked_as true d.can)
+    asked_does =
+        (λ j. record (as_world x) { conns = (put_seen x.conns name new p.order ∙ ap (insert_entry text_cmp (as_world x).conns name) d.does) j })
+        ∙ sym (asked_as true d.can)
 
     reach : Reachable (as_world (after_ask x name new))
     reach = subst (λ (w : World). Reachable w) (sym asked_does) (asked_reaches (as_world x) name a p.reachable good)
@@ -150,7 +156,8 @@ module _ (x : AWorld) (p : IsWorld x) where
   pub present_many : length (present_in (as_conns x.conns)) ≡ length x.present
   present_many =
       sym (length-keys_of (present_in (as_conns x.conns)))
-      ∙ (ap length (same_keys (present_in (as_conns x.conns)) x.present (sorted-filter name_order (λ (e : List ℕ × Conn). not e.1.is_dropped) (as_conns x.conns) (sorted_mapped as_conn x.conns p.order)) p.present.0 there_is)
+      ∙ (ap length (same_keys (present_in (as_conns x.conns)) x.present (sorted-filter name_order (λ (e : List ℕ × Conn). not e.1.is_dropped)
+      (as_conns x.conns) (sorted_mapped as_conn x.conns p.order)) p.present.0 there_is)
       ∙ length-keys_of x.present)
 
   none_seen : (o : Option AConnection) → is_none (option_map as_conn o) ≡ is_none o

@@ -40,7 +40,8 @@ put_seen conns name c sorted =
     (λ q.
     at_mapped as_conn (insert_entry text_cmp conns name c) q
     ∙ (ap (option_map as_conn) (at-put name_order conns name c q)
-    ∙ (elim (eq_by_cmp text_cmp q name) as (λ b. option_map as_conn (cond b (Some c) (at text_cmp conns q)) ≡ cond b (Some (as_conn c)) (option_map as_conn (at text_cmp conns q))) [ true ↦ refl | false ↦ refl ]
+    ∙ (elim (eq_by_cmp text_cmp q name) as (λ b. option_map as_conn (cond b (Some c) (at text_cmp conns q))
+    ≡ cond b (Some (as_conn c)) (option_map as_conn (at text_cmp conns q))) [ true ↦ refl | false ↦ refl ]
     ∙ (ap (cond (eq_by_cmp text_cmp q name) (Some (as_conn c))) (sym (at_mapped as_conn conns q))
     ∙ sym (at-put name_order (as_conns conns) name (as_conn c) q)))))
 

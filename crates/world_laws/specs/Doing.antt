@@ -78,7 +78,12 @@ pub record IsAskedIn (x : AWorld) (name : List ℕ) (a : Ask) (y : AWorld) : Typ
 -- it is there, and busy
 abbrev pub after_open : AWorld → List ℕ → AWorld
 after_open x name =
-    record x { opened = suc x.opened; conns = insert_entry text_cmp x.conns name (new_connection x.app name (suc x.opened)); present = with_name x.present name; busy = with_name x.busy name }
+    record x {
+      opened = suc x.opened;
+      conns = insert_entry text_cmp x.conns name (new_connection x.app name (suc x.opened));
+      present = with_name x.present name;
+      busy = with_name x.busy name;
+    }
 
 pub record IsOpened (x : AWorld) (name : List ℕ) (y : AWorld) : Type 0 where
   pub stays : IsWorld y

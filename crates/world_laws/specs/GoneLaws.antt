@@ -1,5 +1,6 @@
 -- Laws: A client that is gone has nothing to do where its runs have ended, and then no entry of another session gives it anything.
-use Rattle.std.specs.Prelude.{◌≡◌, ℕ, zero, suc, ◌-◌, ◌==◌, nat_lt, nat_le, is_none, if◌then◌else◌, List, [], ◌∷◌, ◌++◌, length, map, replicate, Bool, true, false, cond, not, ◌&&◌, Option, Some, None, is_some, refl}
+use Rattle.std.specs.Prelude.{◌≡◌, ℕ, zero, suc, ◌-◌, ◌==◌, nat_lt, nat_le, is_none, if◌then◌else◌, List, [], ◌∷◌, ◌++◌, length, map, replicate, Bool}
+use Rattle.std.specs.Prelude.{true, false, cond, not, ◌&&◌, Option, Some, None, is_some, refl}
 use Rattle.std.specs.List.{list_all}
 use Rattle.std.specs.Ordering.{eq_by_cmp, is_eq}
 use Rattle.std.proofs.Common.{ap, sym, ◌∙◌}
@@ -12,7 +13,8 @@ use Rattle.program_steps.specs.declared.step.ProgramStep.{ProgramStep}
 use Rattle.app_model.specs.App.{App}
 use Rattle.headline.specs.history_model.declared.entry.Entry.{Entry}
 use Rattle.headline.specs.history_model.declared.entry.Entry.TheVariants as entry
-use Rattle.headline.specs.history_model.History.{Programs, Held, RunKey, Runs, Begun, run_cmp, goes_on, no_steps, with_begin, with_step, later, with_stepped, setting_in, carried, nothing, held_from, steps_of as steps_in}
+use Rattle.headline.specs.history_model.History.{Programs, Held, RunKey, Runs, Begun, run_cmp, goes_on, no_steps, with_begin, with_step, later}
+use Rattle.headline.specs.history_model.History.{with_stepped, setting_in, carried, nothing, held_from, steps_of as steps_in}
 use Rattle.headline.specs.history_model.HistoryLaws.{run_order, held_from-append}
 use Rattle.headline.specs.history_model.Operations.{operation_in}
 use Rattle.headline.specs.history_model.RunsLaws as runs
@@ -27,7 +29,8 @@ use Rattle.headline.specs.session_model.Subscriptions.{Live, cursor_of, may_load
 use Rattle.headline.specs.world_model.Conn.{Conn, state_in, link_limit, outbox_limit, is_full, is_at_work, has_some}
 use Rattle.headline.specs.world_model.declared.events.Answer.TheVariants as answer
 use Rattle.headline.specs.world_model.Acts.{enabled, unbegun, learnt, may_advance, is_done, is_of_session, is_queue_full, can}
-use Rattle.headline.specs.world_model.Settle.{Phase, ups, recvs, handles, begins, steps, learns, loadings, advancings, sendings, takings, steps_of, running_from, loads, advance_to, advances}
+use Rattle.headline.specs.world_model.Settle.{Phase, ups, recvs, handles, begins, steps, learns, loadings, advancings, sendings, takings, steps_of}
+use Rattle.headline.specs.world_model.Settle.{running_from, loads, advance_to, advances}
 use Rattle.headline.specs.world_invariant_laws.Lift.{is_by}
 use Rattle.connection_laws.specs.Links.{is_step}
 use Rattle.rounds_model.specs.Rounds.{none_of}
@@ -108,7 +111,8 @@ step_listed f n k (r ∷ rs) b is going e =
           let same : (n, k) ≡ r.0 = key_is run_order (n, k) r.0 o in
           let mine : r.1 ≡ b = cc there in
           let own : n == r.0.0 ≡ true = eq-eqb n r.0.0 (ap (λ (q : RunKey). q.0) same) in
-          let its : list_all f (replicate (length r.1.run.left) (act.Step r.0.1) ++ steps_of n rs) ≡ true = sym (ap (λ b. list_all f (cond b (replicate (length r.1.run.left) (act.Step r.0.1) ++ steps_of n rs) (steps_of n rs))) own) ∙ e in
+          let its : list_all f (replicate (length r.1.run.left) (act.Step r.0.1) ++ steps_of n rs) ≡ true =
+          sym (ap (λ b. list_all f (cond b (replicate (length r.1.run.left) (act.Step r.0.1) ++ steps_of n rs) (steps_of n rs))) own) ∙ e in
           ap (λ (q : RunKey). f (act.Step q.1)) same ∙ first_of f r.0.1 r.1.run.left (steps_of n rs) (ap (λ (x : Begun). no_steps x.run.left) mine ∙ going) its
     ] refl is
   where
@@ -150,7 +154,8 @@ idle_ended app history c idle k = by (at run_cmp (held_in app history).runs (c.n
         left : (x : Bool) → no_steps b.run.left ≡ x → not (no_steps b.run.left) ≡ false
         left true l = ap not l
         left false l =
-            let off = step_listed (λ a. not (can app history c a)) c.number k (held_in app history).runs b e l (steps_idle app (record { history = history; conn = c }) idle) in
+            let off = step_listed (λ a. not (can app history c a)) c.number k (held_in app history).runs b e l
+            (steps_idle app (record { history = history; conn = c }) idle) in
             cc (sym (ap not (step_can app history c k ∙ (ap goes_on e ∙ ap not l))) ∙ off)
 
 -- what no act but a step does
@@ -181,7 +186,8 @@ module _ (f : Act → Bool) (off_is : (a : Act) → is_step a ≡ false → f a 
 
 off_can : (app : App) (history : List Entry) (c : Conn) (a : Act) → enabled app history c a ≡ false → can app history c a ≡ false
 off_can app history c a e =
-    ap (λ b. is_done (if not b then answer.Idle else (if is_of_session a && is_full c then answer.JournalFull else (if is_queue_full c a then answer.QueueFull else answer.Done)))) e
+    ap (λ b. is_done (if not b then answer.Idle else
+    (if is_of_session a && is_full c then answer.JournalFull else (if is_queue_full c a then answer.QueueFull else answer.Done)))) e
 
 module _ (app : App) (history : List Entry) (c : Conn) (gone : c.is_dropped ≡ true) where
   no_work : is_at_work c ≡ false

@@ -1,5 +1,6 @@
 -- An act of a client is the act of the world's definitions, and what is kept of the world stays right.
-use Rattle.std.specs.Prelude.{◌≡◌, ℕ, ◌==◌, List, [], ◌∷◌, ◌++◌, length, Bool, true, false, cond, not, Option, Some, None, is_some, IfSome, option_map, option_and_then, if◌then◌else◌, refl}
+use Rattle.std.specs.Prelude.{◌≡◌, ℕ, ◌==◌, List, [], ◌∷◌, ◌++◌, length, Bool, true, false, cond, not, Option, Some, None, is_some, IfSome}
+use Rattle.std.specs.Prelude.{option_map, option_and_then, if◌then◌else◌, refl}
 use Rattle.std.specs.Ordering.{eq_by_cmp}
 use Rattle.std.specs.BTreeMap.{insert_entry}
 use Rattle.std.proofs.Common.{ap, sym, subst, ◌∙◌}
@@ -17,7 +18,8 @@ use Rattle.headline.specs.world_model.declared.events.Act.TheVariants as act
 use Rattle.headline.specs.world_model.declared.events.Answer.TheVariants as answer
 use Rattle.headline.specs.world_model.declared.events.Event.{Event}
 use Rattle.headline.specs.world_model.Conn.{Waiting, Conn, state_in}
-use Rattle.headline.specs.world_model.Acts.{goes_up, received_as, receives, handles, is_kept, unbegun, is_refused, begin_entry, begun, learnt, learns_item, sends, takes, outcome, is_done, can, does, entries}
+use Rattle.headline.specs.world_model.Acts.{goes_up, received_as, receives, handles, is_kept, unbegun, is_refused, begin_entry, begun, learnt}
+use Rattle.headline.specs.world_model.Acts.{learns_item, sends, takes, outcome, is_done, can, does, entries}
 use Rattle.headline.specs.world_model.World.{World, conn_of, acted, done_by, done, outcome_by}
 use Rattle.headline.specs.world_model.Events.{act_in, act_by, done_if, acts, step, Reachable}
 use Rattle.connection_laws.specs.Connection.{AConnection, as_conn}
@@ -130,7 +132,8 @@ module _ (x : AWorld) (p : IsWorld x) (name : List ℕ) (old : AConnection) (is 
       let more = entries x.app x.history (as_conn old) a in
       let y = after_act x name new more in
       let does_it : as_world y ≡ done (name, a) (as_world x) =
-      (λ j. record (as_world x) { history = x.history ++ more; conns = (put_seen x.conns name new p.order ∙ ap (insert_entry text_cmp (as_world x).conns name) d.does) j })
+      (λ j. record (as_world x)
+      { history = x.history ++ more; conns = (put_seen x.conns name new p.order ∙ ap (insert_entry text_cmp (as_world x).conns name) d.does) j })
       ∙ sym (done_is (ap is_done d.can)) in
       record {
         stays = change_stays x p name new more x.opened x.present (with_name x.busy name)

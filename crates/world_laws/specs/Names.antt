@@ -1,5 +1,6 @@
 -- Names in order, from one on: as a round goes through them that looks for the next one.
-use Rattle.std.specs.Prelude.{◌≡◌, ◌⊎◌, ℕ, zero, suc, List, map, option_map, [], ◌∷◌, ◌++◌, filter, Bool, true, false, cond, ◌||◌, Option, Some, None, is_some, refl}
+use Rattle.std.specs.Prelude.{◌≡◌, ◌⊎◌, ℕ, zero, suc, List, map, option_map, [], ◌∷◌, ◌++◌, filter, Bool, true, false, cond, ◌||◌, Option, Some, None}
+use Rattle.std.specs.Prelude.{is_some, refl}
 use Rattle.std.specs.Map.{keys_of}
 use Rattle.std.specs.declared.cmp.Ordering.{Ordering}
 use Rattle.std.specs.declared.cmp.Ordering.TheVariants.{Less, Equal, Greater}
@@ -36,7 +37,8 @@ behind_it [] (x ∷ q) = zero_first x q
 behind_it (n ∷ name) [] = refl
 behind_it (n ∷ name) (x ∷ q) =
     elim (nat_cmp n x) as
-    (λ (o : Ordering). is_le (ordering_then o (text_cmp (behind name) q)) ≡ is_lt (ordering_then o (text_cmp name q))) [ Less ↦ refl | Equal ↦ behind_it name q | Greater ↦ refl ]
+    (λ (o : Ordering). is_le (ordering_then o (text_cmp (behind name) q)) ≡ is_lt (ordering_then o (text_cmp name q)))
+    [ Less ↦ refl | Equal ↦ behind_it name q | Greater ↦ refl ]
 
 -- ---- maps with the same keys
 
@@ -45,7 +47,8 @@ pub at_mapped : {X Y : Type 0} (f : X → Y) (es : List (List ℕ × X)) (q : Li
 at_mapped f [] q = refl
 at_mapped f (e ∷ es) q =
     elim (is_eq (text_cmp q e.0)) as
-    (λ b. cond b (Some (f e.1)) (at text_cmp (map (λ e. (e.0, f e.1)) es) q) ≡ option_map f (cond b (Some e.1) (at text_cmp es q))) [ true ↦ refl | false ↦ at_mapped f es q ]
+    (λ b. cond b (Some (f e.1)) (at text_cmp (map (λ e. (e.0, f e.1)) es) q) ≡ option_map f (cond b (Some e.1) (at text_cmp es q)))
+    [ true ↦ refl | false ↦ at_mapped f es q ]
 
 pub sorted_mapped : {X Y : Type 0} (f : X → Y) (es : List (List ℕ × X)) → IsSorted text_cmp es → IsSorted text_cmp (map (λ (e : List ℕ × X). (e.0, f e.1)) es)
 sorted_mapped f es s = subst (IsStrictlySortedBy text_cmp) (sym (keys_of-map_values f es)) s
@@ -65,7 +68,8 @@ same_keys a b s t same =
     let as_ = map (λ e. (e.0, unit_of e.1)) a in
     let bs = map (λ e. (e.0, unit_of e.1)) b in
     sym (keys_of-map_values unit_of a)
-    ∙ (ap keys_of (same_maps name_order as_ bs (sorted_mapped unit_of a s) (sorted_mapped unit_of b t) (λ q. at_mapped unit_of a q ∙ (unit_same (at text_cmp a q) (at text_cmp b q) (same q) ∙ sym (at_mapped unit_of b q))))
+    ∙ (ap keys_of (same_maps name_order as_ bs (sorted_mapped unit_of a s) (sorted_mapped unit_of b t)
+    (λ q. at_mapped unit_of a q ∙ (unit_same (at text_cmp a q) (at text_cmp b q) (same q) ∙ sym (at_mapped unit_of b q))))
     ∙ keys_of-map_values unit_of b)
 
 -- ---- which stand behind one

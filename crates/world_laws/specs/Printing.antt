@@ -12,7 +12,8 @@ use Rattle.headline.specs.world_model.declared.events.Event.TheVariants as event
 use Rattle.headline.specs.world_model.Acts.{outcome}
 use Rattle.headline.specs.world_model.Asks.{Ask, can_ask}
 use Rattle.headline.specs.world_model.Conn.{Conn}
-use Rattle.headline.specs.world_model.Lines.{line_text, idle, idle_unless, answer_values, broken_values, broken_in, told_values, act_values, ask_values, shown_values, journal_of, texts_of, lines_of}
+use Rattle.headline.specs.world_model.Lines.{line_text, idle, idle_unless, answer_values, broken_values, broken_in, told_values, act_values}
+use Rattle.headline.specs.world_model.Lines.{ask_values, shown_values, journal_of, texts_of, lines_of}
 use Rattle.headline.specs.world_model.World.{World, conn_of, outcome_by, can_ask_by}
 use Rattle.headline.specs.world_model.Events.{act_in, act_by}
 use Rattle.connection_laws.specs.Connection.{AConnection, as_conn}

@@ -68,7 +68,8 @@ module _ (w : World) (name : List ℕ) (sorted : IsSorted text_cmp w.conns) wher
       (λ q.
       at-put name_order once name d q
       ∙ (ap (cond (eq_by_cmp text_cmp q name) (Some d)) (at-put name_order w.conns name c q)
-      ∙ (elim (eq_by_cmp text_cmp q name) as (λ b. cond b (Some d) (cond b (Some c) (at text_cmp w.conns q)) ≡ cond b (Some d) (at text_cmp w.conns q)) [ true ↦ refl | false ↦ refl ]
+      ∙ (elim (eq_by_cmp text_cmp q name)
+      as (λ b. cond b (Some d) (cond b (Some c) (at text_cmp w.conns q)) ≡ cond b (Some d) (at text_cmp w.conns q)) [ true ↦ refl | false ↦ refl ]
       ∙ sym (at-put name_order w.conns name d q))))
 
   conn_put : (x : Side) → conn_of (with_side w name x) name ≡ Some x.conn
@@ -84,7 +85,8 @@ module _ (w : World) (name : List ℕ) (sorted : IsSorted text_cmp w.conns) wher
   done_put a x =
       ap (done_by (with_side w name x) name a) (conn_put x)
       ∙ elim (can_on w.app x a) as
-      (λ b. cond b (acted (with_side w name x) name a x.conn) (with_side w name x) ≡ with_side w name (cond b (made_on a x) x)) [ true ↦ acted_put a x | false ↦ refl ]
+      (λ b. cond b (acted (with_side w name x) name a x.conn) (with_side w name x) ≡ with_side w name (cond b (made_on a x) x))
+      [ true ↦ acted_put a x | false ↦ refl ]
 
   -- the client's acts, in the world
   pub made_put : (acts : List Act) (x : Side) → made done (map (λ a. (name, a)) acts) (with_side w name x) ≡ with_side w name (made (act_on w.app) acts x)

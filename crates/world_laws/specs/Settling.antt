@@ -1,5 +1,6 @@
 -- A world settles as the code does it: by name, those that may have something to do, in rounds until nothing is made.
-use Rattle.std.specs.Prelude.{◌≡◌, ◌⊎◌, ℕ, zero, suc, List, [], ◌∷◌, ◌++◌, length, map, Bool, true, false, cond, not, ◌&&◌, Option, Some, None, is_some, option_map, IfSome, refl}
+use Rattle.std.specs.Prelude.{◌≡◌, ◌⊎◌, ℕ, zero, suc, List, [], ◌∷◌, ◌++◌, length, map, Bool, true, false, cond, not, ◌&&◌, Option, Some, None}
+use Rattle.std.specs.Prelude.{is_some, option_map, IfSome, refl}
 use Rattle.std.specs.List.{list_all, list_any}
 use Rattle.std.specs.Map.{keys_of}
 use Rattle.std.specs.declared.cmp.Ordering.{Ordering}
@@ -163,7 +164,8 @@ module _ (x : AWorld) (p : IsWorld x) (name : List ℕ) (old : AConnection) (is 
       IsConnection x.app name history new → IsWorker x name →
       IsVisited x name (after_visit x name new history)
   visit_made history grown same conn worker =
-      let reach : Reachable (with_side (as_world x) name (client_visited x.app alone)) = subst (λ (w : World). Reachable w) seen (visit_reaches (as_world x) name (seen_sorted x p) p.reachable) in
+      let reach : Reachable (with_side (as_world x) name (client_visited x.app alone)) =
+      subst (λ (w : World). Reachable w) seen (visit_reaches (as_world x) name (seen_sorted x p) p.reachable) in
       let r = goes_so (client_visited x.app alone) (visit_grows x.app alone) same history grown reach conn worker in
       record { stays = r.0; does = r.1 ∙ sym seen }
 
@@ -177,8 +179,13 @@ module _ (x : AWorld) (p : IsWorld x) (name : List ℕ) (old : AConnection) (is 
   part_made acts history grown same conn worker =
       let t = made (act_on x.app) acts alone in
       let reach = made_reaches (as_world x) name (seen_sorted x p) acts alone (subst (λ (w : World). Reachable w) (sym itself) p.reachable) in
-      let r = goes_so t (made_grows x.app acts alone) same history grown reach conn worker in
-      (r.0, (map (λ a. (name, a)) acts, ap (made done (map (λ a. (name, a)) acts)) (sym itself) ∙ (made_put (as_world x) name (seen_sorted x p) acts alone ∙ sym r.1)))
+      let r = goes_so t (made_grows x.app acts alone) same history grown reach conn worker in (
+        r.0,
+        (
+          map (λ a. (name, a)) acts,
+          ap (made done (map (λ a. (name, a)) acts)) (sym itself) ∙ (made_put (as_world x) name (seen_sorted x p) acts alone ∙ sym r.1),
+        ),
+      )
 
 -- ---- a world in which nobody has anything to do
 
@@ -200,7 +207,8 @@ module _ (w : World) where
       let x : Side = record { history = w.history; conn = c } in
       let parts = and_parts (none_of (can_on w.app) (phase_on w.app q x) x) (none_in (can_on w.app) (map (phase_on w.app) ps) x) idle in
       ap (λ (o : Option Conn). none_of can_in (map (λ a. (name, a)) (acts_by w q o)) w && none_in can_in (map (phase name) ps ++ more) w) is
-      ∙ (ap (λ b. b && none_in can_in (map (phase name) ps ++ more) w) (acts_stuck name c is (phase_on w.app q x) parts.0) ∙ phases_stuck name c is more rest ps parts.1)
+      ∙ (ap (λ b. b && none_in can_in (map (phase name) ps ++ more) w) (acts_stuck name c is (phase_on w.app q x) parts.0)
+      ∙ phases_stuck name c is more rest ps parts.1)
 
   nobody_stuck : (name : List ℕ) → conn_of w name ≡ None → (more : List (World → List (List ℕ × Act))) → none_in can_in more w ≡ true →
       (ps : List Phase) → none_in can_in (map (phase name) ps ++ more) w ≡ true
@@ -294,7 +302,11 @@ rest_stays x p stuck = record {
   where
     by : (q : List ℕ) (o : Option AConnection) → at text_cmp x.conns q ≡ o → IfSome o (IsClient (at_rest x) q)
     by q None is = tt
-    by q (Some c) is = record { connection = (client_is x p q c is).connection; rests = λ free why. idle_from x.app (record { history = x.history; conn = as_conn c }) (none_of_phase (as_world x) q (as_conn c) stuck (conn_there x q c is)) }
+    by q (Some c) is = record {
+      connection = (client_is x p q c is).connection;
+      rests = λ free why.
+          idle_from x.app (record { history = x.history; conn = as_conn c }) (none_of_phase (as_world x) q (as_conn c) stuck (conn_there x q c is));
+    }
 
 -- rounds that lead there make the event
 pub settling_made : (x y : AWorld) → IsWorld y → settled (as_world y) ≡ settled (as_world x) → is_stuck (as_world y) ≡ true → IsStep x event.Settle (at_rest y)
@@ -320,5 +332,8 @@ visit_is_acts w name sorted = by (conn_of w name) refl
     by None e = ([], refl)
     by (Some c) e =
         let x : Side = record { history = w.history; conn = c } in
-        let acts = through_acts (act_on w.app) (map (phase_on w.app) order) x in
-        (map (λ a. (name, a)) acts.0, ap (made done (map (λ a. (name, a)) acts.0)) (sym (put_itself w name sorted c e)) ∙ (made_put w name sorted acts.0 x ∙ ap (with_side w name) acts.1))
+        let acts = through_acts (act_on w.app) (map (phase_on w.app) order) x in (
+          map (λ a. (name, a)) acts.0,
+          ap (made done (map (λ a. (name, a)) acts.0)) (sym (put_itself w name sorted c e))
+              ∙ (made_put w name sorted acts.0 x ∙ ap (with_side w name) acts.1),
+        )

@@ -60,7 +60,8 @@ abbrev pub is_there : Option AConnection → Bool
 is_there None = false
 is_there (Some c) = not c.is_dropped
 
--- What holds of each client: its connection is what its name, the application and the history say. One that isn't busy has nothing to do as long as the history has as many entries as when the world
+-- What holds of each client: its connection is what its name, the application and the history say.
+-- One that isn't busy has nothing to do as long as the history has as many entries as when the world
 -- was settled last, and one that is gone has nothing to do then at all.
 pub record IsClient (x : AWorld) (name : List ℕ) (c : AConnection) : Type 0 where
   pub connection : IsConnection x.app name x.history c

@@ -19,9 +19,11 @@ ghost use Rattle.world_laws.specs.Doing.{visits_from, IsPassed, IsIdleBefore, Is
 /// where it led before, until nobody is left.
 pub fn rounds_ask_those_that_may_act()
     ensures begins { (x : AWorld) → IsWorld x → visits_from [] (as_world x) ≡ round (as_world x) }
-    ensures goes_on { (x : AWorld) → IsWorld x → (from name : List ℕ) → is_le (text_cmp from name) ≡ true → ((q : List ℕ) → is_le (text_cmp from q) ≡ true → is_lt (text_cmp q name) ≡ true → IsPassed x q) →
+    ensures goes_on { (x : AWorld) → IsWorld x → (from name : List ℕ) → is_le (text_cmp from name) ≡ true →
+        ((q : List ℕ) → is_le (text_cmp from q) ≡ true → is_lt (text_cmp q name) ≡ true → IsPassed x q) →
         visits_from (behind name) (visits name (as_world x)) ≡ visits_from from (as_world x) }
-    ensures is_over { (x : AWorld) → IsWorld x → (from : List ℕ) → ((q : List ℕ) → is_le (text_cmp from q) ≡ true → IsPassed x q) → visits_from from (as_world x) ≡ as_world x }
+    ensures is_over { (x : AWorld) → IsWorld x → (from : List ℕ) → ((q : List ℕ) → is_le (text_cmp from q) ≡ true → IsPassed x q) →
+        visits_from from (as_world x) ≡ as_world x }
     ensures idle { (x : AWorld) → IsWorld x → (q : List ℕ) → IsPassed x q → IfSome (conn_of (as_world x) q) (IsIdle x.app x.history) }
     ensures behind { (name q : List ℕ) → is_le (text_cmp (behind name) q) ≡ is_lt (text_cmp name q) }
 {}
@@ -30,15 +32,19 @@ pub fn rounds_ask_those_that_may_act()
 /// that it passed over.
 pub fn rounds_may_make_nothing()
     ensures begins { (x : AWorld) → IsWorld x → IsIdleBefore x [] }
-    ensures goes_on { (x : AWorld) → IsWorld x → (from name : List ℕ) → IsIdleBefore x from → ((q : List ℕ) → is_le (text_cmp from q) ≡ true → is_lt (text_cmp q name) ≡ true → IsPassed x q) →
+    ensures goes_on { (x : AWorld) → IsWorld x → (from name : List ℕ) → IsIdleBefore x from →
+        ((q : List ℕ) → is_le (text_cmp from q) ≡ true → is_lt (text_cmp q name) ≡ true → IsPassed x q) →
         IfSome (conn_of (as_world x) name) (IsIdle x.app x.history) → IsIdleBefore x (behind name) }
-    ensures ends { (x : AWorld) → IsWorld x → (from : List ℕ) → IsIdleBefore x from → ((q : List ℕ) → is_le (text_cmp from q) ≡ true → IsPassed x q) → is_stuck (as_world x) ≡ true }
+    ensures ends { (x : AWorld) → IsWorld x → (from : List ℕ) → IsIdleBefore x from →
+        ((q : List ℕ) → is_le (text_cmp from q) ≡ true → IsPassed x q) → is_stuck (as_world x) ≡ true }
 {}
 
 /// A client that goes through its phases over the history makes its part of the round.
 pub fn visits_are_made()
-    ensures made { (x : AWorld) → IsWorld x → (name : List ℕ) (old : AConnection) → connection_of x name ≡ Some old → (new : AConnection) (history : List Entry) →
-        history ≡ (visited x.app (record { history = x.history; conn = as_conn old })).history → as_conn new ≡ (visited x.app (record { history = x.history; conn = as_conn old })).conn →
+    ensures made { (x : AWorld) → IsWorld x → (name : List ℕ) (old : AConnection) → connection_of x name ≡ Some old →
+        (new : AConnection) (history : List Entry) →
+        history ≡ (visited x.app (record { history = x.history; conn = as_conn old })).history →
+        as_conn new ≡ (visited x.app (record { history = x.history; conn = as_conn old })).conn →
         IsConnection x.app name history new → IsWorker x name → IsVisited x name (after_visit x name new history) }
     ensures nobody { (x : AWorld) → IsWorld x → (name : List ℕ) → connection_of x name ≡ None → visits name (as_world x) ≡ as_world x }
 {}
@@ -46,9 +52,12 @@ pub fn visits_are_made()
 /// A client that makes some acts, and no more where memory runs out, makes these acts of the world. So is a visit, and acts
 /// may go on behind others.
 pub fn parts_of_rounds_are_acts()
-    ensures part { (x : AWorld) → IsWorld x → (name : List ℕ) (old : AConnection) → connection_of x name ≡ Some old → (new : AConnection) (acts : List AnAct) (history : List Entry) →
-        history ≡ (made (act_on x.app) acts (record { history = x.history; conn = as_conn old })).history → as_conn new ≡ (made (act_on x.app) acts (record { history = x.history; conn = as_conn old })).conn →
-        IsConnection x.app name history new → IsWorker x name → IsWorld (after_visit x name new history) × ActsLead (as_world x) (as_world (after_visit x name new history)) }
+    ensures part { (x : AWorld) → IsWorld x → (name : List ℕ) (old : AConnection) → connection_of x name ≡ Some old →
+        (new : AConnection) (acts : List AnAct) (history : List Entry) →
+        history ≡ (made (act_on x.app) acts (record { history = x.history; conn = as_conn old })).history →
+        as_conn new ≡ (made (act_on x.app) acts (record { history = x.history; conn = as_conn old })).conn →
+        IsConnection x.app name history new → IsWorker x name →
+        IsWorld (after_visit x name new history) × ActsLead (as_world x) (as_world (after_visit x name new history)) }
     ensures visit { (x : AWorld) → IsWorld x → (name : List ℕ) → ActsLead (as_world x) (visits name (as_world x)) }
     ensures none { (w : TheWorld) → ActsLead w w }
     ensures more { (u v w : TheWorld) → ActsLead u v → ActsLead v w → ActsLead u w }

@@ -1,6 +1,8 @@
--- The acts of a client, of its session and of the store: when each is enabled, what it does to the client and its session, and the entry that it adds to the history (Meteor's DDP.md, "Managing data",
+-- The acts of a client, of its session and of the store: when each is enabled, what it does to the client and its session, and the entry that it
+-- adds to the history (Meteor's DDP.md, "Managing data",
 -- "Remote procedure calls"; the limits and the order of their tests are ours).
-use Rattle.std.specs.Prelude.{ℕ, ◌+◌, ◌==◌, List, [], ◌∷◌, ◌++◌, length, map, Bool, true, false, not, ◌&&◌, ◌||◌, nat_lt, nat_le, Option, Some, None, is_some, is_none, option_map, if◌then◌else◌}
+use Rattle.std.specs.Prelude.{ℕ, ◌+◌, ◌==◌, List, [], ◌∷◌, ◌++◌, length, map, Bool, true, false, not, ◌&&◌, ◌||◌, nat_lt, nat_le, Option, Some, None}
+use Rattle.std.specs.Prelude.{is_some, is_none, option_map, if◌then◌else◌}
 use Rattle.map_model.specs.Maps.{at}
 use Rattle.program_steps.specs.declared.outcome.Status.{Status}
 use Rattle.program_steps.specs.Runs.{End}
@@ -80,7 +82,8 @@ abbrev pub without_run : Held → Conn → Option Blocking → Option Blocking
 without_run h c None = None
 without_run h c (Some b) = if is_some (status_in h c.number b.k) || is_kept b.k c.kept then None else Some b
 
--- the call that blocks, where its run wasn't begun and no refusal of it is kept. Every earlier call of the session was begun or refused, since it blocks no more
+-- the call that blocks, where its run wasn't begun and no refusal of it is kept.
+-- Every earlier call of the session was begun or refused, since it blocks no more
 abbrev pub unbegun : App → List Entry → Conn → Option Blocking
 unbegun app history c = without_run (held_in app history) c (state_in c).blocking
 
@@ -148,7 +151,8 @@ takes c (t ∷ ts) = record c { downward = ts; client = told_text c.client t }
 
 -- ---- all of them
 
--- A subscription is loaded no earlier than at its floor, and once. A session that refused a version only sends, and one that is gone, like its client, does nothing more, while its runs go on
+-- A subscription is loaded no earlier than at its floor, and once. A session that refused a version only sends, and one that is gone, like its
+-- client, does nothing more, while its runs go on
 abbrev pub enabled : App → List Entry → Conn → Act → Bool
 enabled app history c act.Up = not c.is_dropped && has_some c.client.waiting && nat_lt (length c.upward) link_limit
 enabled app history c act.Recv = is_at_work c && has_some c.upward

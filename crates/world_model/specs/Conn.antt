@@ -22,7 +22,8 @@ pub record Conn : Type 0 where
   -- the texts on the link to the server, in order; and those on the link to the client
   pub upward : List (List ℕ)
   pub downward : List (List ℕ)
-  -- the session: its number, the texts that it took, those whose messages are still to be handled, what it did, and the texts that it says: those that were sent, and those that are still to be
+  -- the session: its number, the texts that it took, those whose messages are still to be handled, what it did, and the texts that it says: those
+  -- that were sent, and those that are still to be
   pub number : ℕ
   pub received : List (List ℕ)
   pub queue : List Waiting

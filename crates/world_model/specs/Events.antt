@@ -1,5 +1,6 @@
 -- What an event does to a world, and what a list of events leads to.
-use Rattle.std.specs.Prelude.{ℕ, ℤ, pos, negsuc, suc, ◌-◌, ◌≡◌, List, [], ◌∷◌, ◌++◌, length, Option, Some, None, Ok, Err, option_map, option_and_then, if◌then◌else◌}
+use Rattle.std.specs.Prelude.{ℕ, ℤ, pos, negsuc, suc, ◌-◌, ◌≡◌, List, [], ◌∷◌, ◌++◌, length, Option, Some, None, Ok, Err, option_map, option_and_then}
+use Rattle.std.specs.Prelude.{if◌then◌else◌}
 use Rattle.value_model.specs.Val.{Val, vals_of}
 use Rattle.value_model.specs.Valid.{AreValues}
 use Rattle.ddp_messages.specs.Limits.{AreShallow}

@@ -1,5 +1,6 @@
 -- What holds of a world: the headline, and what holds of a settled world.
-use Rattle.std.specs.Prelude.{◌≡◌, ◌⊎◌, ℕ, ◌+◌, ◌-◌, ◌*◌, ◌<◌, ◌≤◌, ◌==◌, List, [], ◌∷◌, ◌++◌, length, filter, take, Bool, true, false, not, ◌||◌, nat_lt, Some, None, IsSome, IfSome, is_some, if◌then◌else◌}
+use Rattle.std.specs.Prelude.{◌≡◌, ◌⊎◌, ℕ, ◌+◌, ◌-◌, ◌*◌, ◌<◌, ◌≤◌, ◌==◌, List, [], ◌∷◌, ◌++◌, length, filter, take, Bool, true, false, not, ◌||◌}
+use Rattle.std.specs.Prelude.{nat_lt, Some, None, IsSome, IfSome, is_some, if◌then◌else◌}
 use Rattle.std.specs.List.{list_any, list_all}
 use Rattle.merge_model.specs.Merge.{IsMerge}
 use Rattle.merge_model.specs.Publishing.{shown_since}
@@ -47,7 +48,8 @@ have_ended ms = list_all (λ (m : Method). not (is_running m.phase)) ms
 abbrev pub are_updated : List Call → Bool
 are_updated calls = list_all (λ (call : Call). call.is_updated) calls
 
--- The session is quiescent: its client is there, took the session's name and refused nothing; no text and no message waits anywhere; each call has come to its end, for the session and for the
+-- The session is quiescent: its client is there, took the session's name and refused nothing; no text and no message waits anywhere; each call has
+-- come to its end, for the session and for the
 -- client; and each live subscription is at the end of the history.
 pub record IsQuiescent (history : List Entry) (c : Conn) : Type 0 where
   pub present : c.is_dropped ≡ false
@@ -140,8 +142,10 @@ pub record IsTrueSession (app : App) (history : List Entry) (c : Conn) : Type 0 
   pub answering : IsAnswering c.number (moments app c.number history) c.items
   pub short : length c.items ≤ most_items history c
 
--- What holds of a quiescent session: nothing of a simulation is left in what its client shows; that is, key by key and field by field, the merge of what its live subscriptions publish of the store,
--- queried anew, where the one that has published a field longest goes before the others; each `sub` and each `method` has its answers; and each call that was handled and not refused was begun once.
+-- What holds of a quiescent session: nothing of a simulation is left in what its client shows; that is, key by key and field by field, the merge of
+-- what its live subscriptions publish of the store,
+-- queried anew, where the one that has published a field longest goes before the others; each `sub` and each `method` has its answers; and each call
+-- that was handled and not refused was begun once.
 pub record IsWhole (app : App) (history : List Entry) (c : Conn) : Type 0 where
   pub real : c.client.documents.view ≡ c.client.documents.server
   pub merged : IsMerge key_cmp text_cmp (whole_shown (held_in app history).rows (state_in c).subs) (since_in app history c) c.client.documents.view

@@ -47,5 +47,6 @@ pub fn what_no_client_does_leaves_the_world()
 
 /// The texts in the lines of a journal are those of the session, in order, sent or not.
 pub fn journals_show_the_texts()
-    ensures { (app : App) (history : List Entry) (c : Conn) → texts_among (journal_lines app history c) ≡ out_texts (moments app c.number history) c.number c.items }
+    ensures { (app : App) (history : List Entry) (c : Conn) →
+        texts_among (journal_lines app history c) ≡ out_texts (moments app c.number history) c.number c.items }
 {}

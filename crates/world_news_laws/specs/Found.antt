@@ -1,5 +1,6 @@
 -- A session's live subscriptions are sources of its application's news.
-use Rattle.std.specs.Prelude.{◌≡◌, ℕ, ◌+◌, ◌≤◌, ◌==◌, List, [], ◌∷◌, map, Bool, true, false, cond, ◌||◌, Option, None, Some, IfSome, is_some, unwrap_or, length, take, refl}
+use Rattle.std.specs.Prelude.{◌≡◌, ℕ, ◌+◌, ◌≤◌, ◌==◌, List, [], ◌∷◌, map, Bool, true, false, cond, ◌||◌, Option, None, Some, IfSome, is_some}
+use Rattle.std.specs.Prelude.{unwrap_or, length, take, refl}
 use Rattle.std.specs.List.{All}
 use Rattle.std.proofs.Common.{ap, sym, subst, ◌∙◌}
 use Rattle.std.proofs.lemmas.List.Elements.{All-from_recursion}
@@ -89,7 +90,8 @@ module _ (app : App) (C : List Moment) (number : ℕ) (sub : Sub) where
   found (l ∷ ls) [] made watched is observes = absurd watched
   found (l ∷ ls) (o ∷ os) made watched is observes =
       elim (number == l.sub) as
-      (λ b. Some (as_live sub) ≡ cond b (Some l) (live_of number ls) → sub.observer ≡ cond b o (observer_at number ls os) → IsMadeBy app (as_live sub) × IsWatched C (as_live sub) sub.cursor sub.observer) [
+      (λ b. Some (as_live sub) ≡ cond b (Some l) (live_of number ls) → sub.observer ≡ cond b o (observer_at number ls os) →
+      IsMadeBy app (as_live sub) × IsWatched C (as_live sub) sub.cursor sub.observer) [
         | true ↦ λ e q. this l o made.0 watched.0 e q
         | false ↦ λ e q. found ls os made.1 watched.1 e q
       ] is observes
@@ -143,7 +145,8 @@ module _ (app : App) (taken : List (List ℕ)) (C : List Moment) (sent : List (L
   session_sources subs these =
       All-from_recursion (IsSourceOf app) subs
       (sources app C subs (subst (AreMadeBy app) (sym these.live) session_made)
-      (subst (λ (ls : List Live). AreWatched C ls (observers_of subs)) (sym these.live) (subst (AreWatched C s.carried.own.subs) (sym these.observers) m.watched)))
+      (subst (λ (ls : List Live). AreWatched C ls (observers_of subs)) (sym these.live)
+      (subst (AreWatched C s.carried.own.subs) (sym these.observers) m.watched)))
 
   pub session_source : (number : ℕ) (sub : Sub) → IsSub number sub s → IsSourceOf app sub
   session_source number sub is =
@@ -190,7 +193,8 @@ pub lead_feeds : (app : App) (name : List ℕ) (history : List Entry) (x : AConn
     IsFeed (moments app x.session.carried.number history) number count news x.session
 lead_feeds app name history x p number start count is news le none d =
     leading_feeds app name history x p number start is count news le none
-    (renewed_leads (cursors_at number x.session) (held_at (programs app) history start).rows (held_at (programs app) history (start + count)).rows (news_of news)
+    (renewed_leads (cursors_at number x.session)
+    (held_at (programs app) history start).rows (held_at (programs app) history (start + count)).rows (news_of news)
     (sorted_held (programs app) (take start history)) (sorted_held (programs app) (take (start + count) history)) d)
 
 -- What is told of a span of the history behind its place feeds it.

@@ -68,13 +68,15 @@ module _ (app : App) where
   made_loaded s place [] m = tt
   made_loaded s place (l ∷ ls) m =
       elim (s == l.sub) as
-      (λ b. AreMadeBy app (cond b (record l { cursor = Some place } ∷ ls) (l ∷ loaded s place ls))) [ true ↦ (m.0, m.1) | false ↦ (m.0, made_loaded s place ls m.1) ]
+      (λ b. AreMadeBy app (cond b (record l { cursor = Some place } ∷ ls) (l ∷ loaded s place ls)))
+      [ true ↦ (m.0, m.1) | false ↦ (m.0, made_loaded s place ls m.1) ]
 
   made_advanced : (s count : ℕ) (ls : List Live) → AreMadeBy app ls → AreMadeBy app (advanced s count ls)
   made_advanced s count [] m = tt
   made_advanced s count (l ∷ ls) m =
       elim (s == l.sub) as
-      (λ b. AreMadeBy app (cond b (record l { cursor = moved count l.cursor } ∷ ls) (l ∷ advanced s count ls))) [ true ↦ (m.0, m.1) | false ↦ (m.0, made_advanced s count ls m.1) ]
+      (λ b. AreMadeBy app (cond b (record l { cursor = moved count l.cursor } ∷ ls) (l ∷ advanced s count ls)))
+      [ true ↦ (m.0, m.1) | false ↦ (m.0, made_advanced s count ls m.1) ]
 
   made_closed : (s : ℕ) (ls : List Live) → AreMadeBy app ls → AreMadeBy app (closed s ls)
   made_closed s [] m = tt

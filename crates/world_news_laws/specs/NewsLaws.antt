@@ -14,7 +14,8 @@ use Rattle.connection_laws.specs.history_model.History.{status_in, room_in, is_f
 use Rattle.connection_laws.specs.store_machine.declared.fault.BeginFault.{BeginFault}
 use Rattle.connection_laws.specs.store_machine.declared.fault.AdminFault.{AdminFault}
 use Rattle.connection_laws.specs.store_machine.declared.fault.AdminFault.TheVariants as admin
-use Rattle.connection_laws.specs.store_machine.State.{MachineState, programs, held_by, with_entry, full_with, begin_answer, is_running, step_state, by_answer, by_operation, admin_answer, BeginGives, AdminGives}
+use Rattle.connection_laws.specs.store_machine.State.{MachineState, programs, held_by, with_entry, full_with, begin_answer, is_running, step_state}
+use Rattle.connection_laws.specs.store_machine.State.{by_answer, by_operation, admin_answer, BeginGives, AdminGives}
 use Rattle.multiplexer.specs.Telling.{ANews, nothing_told}
 use Rattle.multiplexer.specs.LongerLaws.{told_longer, nothing_told_yet}
 use Rattle.world_news_laws.specs.Sources.{cursors_at_of}
@@ -35,7 +36,11 @@ pub stays_on : (m : MachineState) → GoesOn m m
 stays_on m = record { app = refl; more = []; history = sym (append-nil m.history) }
 
 pub then_on : (a b c : MachineState) → GoesOn a b → GoesOn b c → GoesOn a c
-then_on a b c p q = record { app = q.app ∙ p.app; more = p.more ++ q.more; history = q.history ∙ (ap (λ (h : List Entry). h ++ q.more) p.history ∙ append_assoc a.history p.more q.more) }
+then_on a b c p q = record {
+  app = q.app ∙ p.app;
+  more = p.more ++ q.more;
+  history = q.history ∙ (ap (λ (h : List Entry). h ++ q.more) p.history ∙ append_assoc a.history p.more q.more);
+}
 
 pub longer_on : (m : MachineState) (es : List Entry) → GoesOn m (record m { history = m.history ++ es })
 longer_on m es = record { app = refl; more = es; history = refl }

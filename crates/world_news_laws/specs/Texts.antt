@@ -1,4 +1,5 @@
--- The texts that are known of publishes are those that a session's client is told, where one subscription alone publishes the document; and what is learnt of one client is known for all.
+-- The texts that are known of publishes are those that a session's client is told, where one subscription alone publishes the document; and what is
+-- learnt of one client is known for all.
 use Rattle.std.specs.Prelude.{◌≡◌, ℕ, List, [], ◌∷◌, Option, None, Some, option_map, refl}
 use Rattle.std.proofs.Common.{ap, sym, subst, ◌∙◌}
 use Rattle.map_model.specs.Maps.{at}

@@ -28,5 +28,6 @@ pub fn machines_answer()
     ensures begins { (m next : MachineState) (session k : ℕ) (name : List ℕ) (params : List Val) (seed : AValue) (result : Result Status BeginFault) →
         BeginGives (λ status. next) result (begin_answer m session k name params seed) → OnErr result (next ≡ m) → GoesOn m next }
     ensures steps { (m : MachineState) (session k : ℕ) → GoesOn m (step_state m session k) }
-    ensures operates { (m next : MachineState) (op : List Val) (result : Result (Unit {0}) AdminFault) → AdminGives (λ u. next) result (admin_answer m op) → OnErr result (next ≡ m) → GoesOn m next }
+    ensures operates { (m next : MachineState) (op : List Val) (result : Result (Unit {0}) AdminFault) →
+        AdminGives (λ u. next) result (admin_answer m op) → OnErr result (next ≡ m) → GoesOn m next }
 {}

@@ -29,10 +29,14 @@ pub fn live_subscriptions_have_their_cursors()
 /// Those of a session, and so the observer of each that is loaded: one whose cursors have no limit is a source of news. It has
 /// the cursors and the place that its session says.
 pub fn subscriptions_are_sources()
-    ensures each { (app : App) (name : List ℕ) (history : List Entry) (x : AConnection) → IsConnection app name history x → (subs : List ASub) → AreSubs subs x.session → All (IsSourceOf app) subs }
-    ensures source { (app : App) (name : List ℕ) (history : List Entry) (x : AConnection) → IsConnection app name history x → (number : ℕ) (sub : ASub) → IsSub number sub x.session → IsSourceOf app sub }
-    ensures cursors { (app : App) (name : List ℕ) (history : List Entry) (x : AConnection) → IsConnection app name history x → (number : ℕ) (sub : ASub) → IsSub number sub x.session → cursors_at number x.session ≡ sub.cursors }
-    ensures place { (app : App) (name : List ℕ) (history : List Entry) (x : AConnection) → IsConnection app name history x → (number : ℕ) (sub : ASub) → IsSub number sub x.session → cursor_of number x.session.carried.own.subs ≡ sub.cursor }
+    ensures each { (app : App) (name : List ℕ) (history : List Entry) (x : AConnection) → IsConnection app name history x → (subs : List ASub) →
+        AreSubs subs x.session → All (IsSourceOf app) subs }
+    ensures source { (app : App) (name : List ℕ) (history : List Entry) (x : AConnection) → IsConnection app name history x →
+        (number : ℕ) (sub : ASub) → IsSub number sub x.session → IsSourceOf app sub }
+    ensures cursors { (app : App) (name : List ℕ) (history : List Entry) (x : AConnection) → IsConnection app name history x →
+        (number : ℕ) (sub : ASub) → IsSub number sub x.session → cursors_at number x.session ≡ sub.cursors }
+    ensures place { (app : App) (name : List ℕ) (history : List Entry) (x : AConnection) → IsConnection app name history x →
+        (number : ℕ) (sub : ASub) → IsSub number sub x.session → cursor_of number x.session.carried.own.subs ≡ sub.cursor }
 {}
 
 /// A test of the cursors says whether one has a limit: such a subscription isn't asked for.
@@ -43,7 +47,9 @@ pub fn limits_are_tested()
 
 /// What is told of a span of the history behind the place of such a subscription feeds it.
 pub fn told_news_feed()
-    ensures { (m : MachineState) (name : List ℕ) (x : AConnection) (number start count : ℕ) (sub : ASub) (told : List Publish) → IsConnection m.app name m.history x → IsSub number sub x.session → sub.cursor ≡ Some start →
-        start + count ≤ length m.history → has_limit sub.cursors ≡ false → IsLead (published sub.cursors (held_after m start).rows) (published sub.cursors (held_after m (start + count)).rows) (news_of told) →
+    ensures { (m : MachineState) (name : List ℕ) (x : AConnection) (number start count : ℕ) (sub : ASub) (told : List Publish) →
+        IsConnection m.app name m.history x → IsSub number sub x.session → sub.cursor ≡ Some start →
+        start + count ≤ length m.history → has_limit sub.cursors ≡ false →
+        IsLead (published sub.cursors (held_after m start).rows) (published sub.cursors (held_after m (start + count)).rows) (news_of told) →
         IsFeed (moments m.app x.session.carried.number m.history) number count told x.session }
 {}

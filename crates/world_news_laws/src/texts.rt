@@ -23,7 +23,8 @@ ghost use Rattle.world_news_laws.specs.Sources.{IsSub};
 /// Where no other subscription publishes a document, a client sees of it what the subscription shows, and there is one way of
 /// seeing it so.
 pub fn documents_of_one_are_seen_as_shown()
-    ensures alone { (show : ℕ → Rows) (time : ℕ → AKey → List ℕ → ℕ) (box : KeptDocs) → Stands key_cmp text_cmp show time box → (sub : ℕ) (key : AKey) → IsAlone sub (publishers_at key_cmp box key) →
+    ensures alone { (show : ℕ → Rows) (time : ℕ → AKey → List ℕ → ℕ) (box : KeptDocs) → Stands key_cmp text_cmp show time box →
+        (sub : ℕ) (key : AKey) → IsAlone sub (publishers_at key_cmp box key) →
         IsSeenAs (merged_doc (kept_at key_cmp box key)) (at key_cmp (show sub) key) }
     ensures once { (one other shown : Option Entries) → IsSeenAs one shown → IsSeenAs other shown → one ≡ other }
 {}
@@ -31,8 +32,11 @@ pub fn documents_of_one_are_seen_as_shown()
 /// A text that is known of a publish is what the client of every session is told whose subscription shows the place from which
 /// the publish leads, where no other of its subscriptions publishes the document; and what is learnt of one client is known for all.
 pub fn known_texts_are_told()
-    ensures right { (m : MachineState) (name : List ℕ) (x : AConnection) → IsConnection m.app name m.history x → (number start : ℕ) (sub : ASub) → IsSub number sub x.session → sub.cursor ≡ Some start → (news : List Publish) (texts : Texts) →
+    ensures right { (m : MachineState) (name : List ℕ) (x : AConnection) → IsConnection m.app name m.history x → (number start : ℕ) (sub : ASub) →
+        IsSub number sub x.session → sub.cursor ≡ Some start → (news : List Publish) (texts : Texts) →
         AreKnown (published sub.cursors (held_after m start).rows) (news_of news) texts → AreRight number x.session.carried.box (news_of news) texts }
-    ensures learnt { (m : MachineState) (name : List ℕ) (x : AConnection) → IsConnection m.app name m.history x → (number start : ℕ) (sub : ASub) → IsSub number sub x.session → sub.cursor ≡ Some start → (news : List Publish) (old new : Texts) →
-        AreKnown (published sub.cursors (held_after m start).rows) (news_of news) old → AreLearnt number x.session.carried.box (news_of news) old new → AreKnown (published sub.cursors (held_after m start).rows) (news_of news) new }
+    ensures learnt { (m : MachineState) (name : List ℕ) (x : AConnection) → IsConnection m.app name m.history x → (number start : ℕ) (sub : ASub) →
+        IsSub number sub x.session → sub.cursor ≡ Some start → (news : List Publish) (old new : Texts) →
+        AreKnown (published sub.cursors (held_after m start).rows) (news_of news) old → AreLearnt number x.session.carried.box (news_of news) old new →
+        AreKnown (published sub.cursors (held_after m start).rows) (news_of news) new }
 {}

@@ -1,5 +1,6 @@
 -- Laws: Each run of a session that goes on is of a call that runs.
-use Rattle.std.specs.Prelude.{◌≡◌, ℕ, zero, suc, ◌+◌, ◌<◌, ◌≤◌, ◌==◌, nat_le, List, [], ◌∷◌, ◌++◌, length, take, drop, filter, Bool, true, false, cond, not, ◌||◌, Option, Some, None, is_some, option_map, option_and_then, IfSome, refl}
+use Rattle.std.specs.Prelude.{◌≡◌, ℕ, zero, suc, ◌+◌, ◌<◌, ◌≤◌, ◌==◌, nat_le, List, [], ◌∷◌, ◌++◌, length, take, drop, filter, Bool, true, false}
+use Rattle.std.specs.Prelude.{cond, not, ◌||◌, Option, Some, None, is_some, option_map, option_and_then, IfSome, refl}
 use Rattle.std.specs.List.{list_any}
 use Rattle.std.proofs.Common.{ap, sym, subst, ◌∙◌, arith}
 use Rattle.std.proofs.lemmas.List.{take-append-drop}
@@ -72,7 +73,8 @@ runs_among j zero (m ∷ ms) e =
     ∙ (let own : j + 0 ≡ j = omega arith in ap (λ (b : Bool). b || list_any (λ i. (j + 0) == i) (running_from (suc j) ms)) (eq-eqb (j + 0) j own))
 runs_among j (suc k) (m ∷ ms) e =
     let number : suc j + k ≡ j + suc k = omega arith in
-    let rest : list_any (λ i. (j + suc k) == i) (running_from (suc j) ms) ≡ true = subst (λ n. list_any (λ i. n == i) (running_from (suc j) ms) ≡ true) number (runs_among (suc j) k ms e) in
+    let rest : list_any (λ i. (j + suc k) == i) (running_from (suc j) ms) ≡ true =
+    subst (λ n. list_any (λ i. n == i) (running_from (suc j) ms) ≡ true) number (runs_among (suc j) k ms e) in
     elim (is_running m.phase) as (λ b. list_any (λ i. (j + suc k) == i) (cond b (j ∷ running_from (suc j) ms) (running_from (suc j) ms)) ≡ true) [
       | true ↦ or_right ((j + suc k) == j) (list_any (λ i. (j + suc k) == i) (running_from (suc j) ms)) rest
       | false ↦ rest
@@ -135,7 +137,8 @@ refused_unrun app n k h items p r = by (list_any (begins (n, k)) h) refl
     by : (c : Bool) → list_any (begins (n, k)) h ≡ c → is_some (runs_of app n h k) ≡ false
     by false e = run_where_begun (programs app) h n k ∙ e
     by true e =
-        let stands : is_among k (standing items) ≡ true = ap (is_among k) (sym p.begun) ∙ among_first k (begun_in n h) (unrun (runs_of app n h) (state_of items).blocking) (begun_among n k h e) in
+        let stands : is_among k (standing items) ≡ true = ap (is_among k) (sym p.begun)
+        ∙ among_first k (begun_in n h) (unrun (runs_of app n h) (state_of items).blocking) (begun_among n k h e) in
         absurd (true≢false (sym stands ∙ standing_apart items k (calls_in items) r))
 
 -- ---- a call that has finished
@@ -160,14 +163,16 @@ module _ (app : App) (n k : ℕ) (h : List Entry) where
     where
       stays : StaysAs (at run_cmp (held (programs app) (take place h)).runs (n, k)) (at run_cmp (held_in app h).runs (n, k))
       stays =
-          subst (λ (es : List Entry). StaysAs (at run_cmp (held (programs app) (take place h)).runs (n, k)) (at run_cmp (held (programs app) es).runs (n, k))) (take-append-drop place h)
+          subst (λ (es : List Entry). StaysAs (at run_cmp (held (programs app) (take place h)).runs (n, k))
+          (at run_cmp (held (programs app) es).runs (n, k))) (take-append-drop place h)
           (held_stays (programs app) (take place h) (drop place h) (n, k))
 
       by : (o : Option Begun) → at run_cmp (held_at (programs app) h place).runs (n, k) ≡ o →
           option_and_then (λ (s : Status). s.ended) (option_map status_of o) ≡ Some end → left_at (held_in app h).runs n k ≡ 0
       by None is f = cc f
       by (Some b) is f =
-          let begun : IsBegun (held_at (programs app) h place).entries b = subst (λ (o : Option Begun). IfSome o (IsBegun (held_at (programs app) h place).entries)) is ((held_is (programs app) (take place h)).begun (n, k)) in
+          let begun : IsBegun (held_at (programs app) h place).entries b = subst (λ (o : Option Begun).
+          IfSome o (IsBegun (held_at (programs app) h place).entries)) is ((held_is (programs app) (take place h)).begun (n, k)) in
           stays_over b (at run_cmp (held_in app h).runs (n, k)) (sym begun.0 ∙ outcome_over b.run.outcome b.at end f)
           (subst (λ (o : Option Begun). StaysAs o (at run_cmp (held_in app h).runs (n, k))) is stays)
 
@@ -177,7 +182,8 @@ module _ (app : App) (n k : ℕ) (h : List Entry) where
       by : (b : Bool) → nat_le o.0 (length h) ≡ b → left_at (held_in app h).runs n k ≡ 0
       by true e = ended_left o.0 o.1.end (ap (option_and_then (λ (s : Status). s.ended)) (sym (run_there app n h o.0 k (leb-true o.0 (length h) e))) ∙ o.1.is)
       by false e =
-          let none : end_at (moments app n h) o.0 k ≡ None = ap (λ (m : Option Moment). option_and_then (λ (s : Status). s.ended) (run_of k m)) (moments_past app n h o.0 (leb-false o.0 (length h) e)) in
+          let none : end_at (moments app n h) o.0 k ≡ None = ap (λ (m : Option Moment). option_and_then (λ (s : Status). s.ended) (run_of k m))
+          (moments_past app n h o.0 (leb-false o.0 (length h) e)) in
           let differ : None ≡ Some o.1.end = sym none ∙ o.1.is in
           cc differ
 

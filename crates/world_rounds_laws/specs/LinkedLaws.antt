@@ -11,7 +11,8 @@ use Rattle.world_rounds_laws.specs.Linked.{IsLinkedOn}
 pub act_linked : (app : App) (a : Act) (x : Side) → IsLinked app x.history x.conn → IsLinked app (act_on app a x).history (act_on app a x).conn
 act_linked app a x p =
     elim (can_on app x a) as
-    (λ b. can_on app x a ≡ b → IsLinkedOn app (cond b (record { history = x.history ++ entries app x.history x.conn a; conn = does app x.history x.conn a }) x)) [
+    (λ b. can_on app x a ≡ b →
+    IsLinkedOn app (cond b (record { history = x.history ++ entries app x.history x.conn a; conn = does app x.history x.conn a }) x)) [
       | true ↦ λ may. links_kept.acts app x.history x.conn a may p
       | false ↦ λ may. p
     ] refl

@@ -1,5 +1,6 @@
 -- Laws: Acts that a phase lists though none of them can be made: steps where no call goes on, and advances of a subscription that shows the end of the history.
-use Rattle.std.specs.Prelude.{◌≡◌, ℕ, zero, suc, ◌-◌, ◌==◌, nat_lt, List, [], ◌∷◌, ◌++◌, length, replicate, Bool, true, false, cond, not, ◌&&◌, Option, Some, None, if◌then◌else◌, refl}
+use Rattle.std.specs.Prelude.{◌≡◌, ℕ, zero, suc, ◌-◌, ◌==◌, nat_lt, List, [], ◌∷◌, ◌++◌, length, replicate, Bool, true, false, cond, not, ◌&&◌}
+use Rattle.std.specs.Prelude.{Option, Some, None, if◌then◌else◌, refl}
 use Rattle.std.specs.List.{list_any}
 use Rattle.std.specs.Map.{keys_of}
 use Rattle.std.specs.Ordering.{eq_by_cmp}
@@ -67,7 +68,8 @@ module _ (n : ℕ) where
         | true ↦ λ e.
             let key : (n, r.0.1) ≡ (r.0.0, r.0.1) = ap (λ m. (m, r.0.1)) (eqb-true n r.0.0 e) in
             let own : length r.1.run.left ≡ 0 =
-            sym (ap (λ c. left_of (cond c (Some r.1) (at run_cmp runs (n, r.0.1)))) (ap (λ (q : RunKey). eq_by_cmp run_cmp q (r.0.0, r.0.1)) key ∙ eq_by_cmp-self run_order (r.0.0, r.0.1))) ∙ none r.0.1 in
+            sym (ap (λ c. left_of (cond c (Some r.1) (at run_cmp runs (n, r.0.1))))
+            (ap (λ (q : RunKey). eq_by_cmp run_cmp q (r.0.0, r.0.1)) key ∙ eq_by_cmp-self run_order (r.0.0, r.0.1))) ∙ none r.0.1 in
             ap (λ m. replicate m (act.Step r.0.1) ++ steps_of n runs) own ∙ rest
         | false ↦ λ e. rest
       ] refl
@@ -107,7 +109,8 @@ module _ (app : App) where
   one_left entries sub None x = refl
   one_left entries sub (Some cursor) x =
       elim (nat_lt cursor entries) as
-      (λ b. nat_lt cursor entries ≡ b → act_on app (act.Advance sub (entries - cursor)) x ≡ made (act_on app) (cond b (act.Advance sub (entries - cursor) ∷ []) []) x) [
+      (λ b. nat_lt cursor entries ≡ b →
+      act_on app (act.Advance sub (entries - cursor)) x ≡ made (act_on app) (cond b (act.Advance sub (entries - cursor) ∷ []) []) x) [
         | true ↦ λ e. refl
         | false ↦ λ e.
             let none : entries - cursor ≡ 0 = omega (arith, ltb-false cursor entries e) in
@@ -136,7 +139,8 @@ module _ (app : App) where
   one_none entries sub None x = refl
   one_none entries sub (Some cursor) x =
       elim (nat_lt cursor entries) as
-      (λ b. nat_lt cursor entries ≡ b → none_of (can_on app) (act.Advance sub (entries - cursor) ∷ []) x ≡ none_of (can_on app) (cond b (act.Advance sub (entries - cursor) ∷ []) []) x) [
+      (λ b. nat_lt cursor entries ≡ b → none_of (can_on app) (act.Advance sub (entries - cursor) ∷ []) x
+      ≡ none_of (can_on app) (cond b (act.Advance sub (entries - cursor) ∷ []) []) x) [
         | true ↦ λ e. refl
         | false ↦ λ e.
             let none : entries - cursor ≡ 0 = omega (arith, ltb-false cursor entries e) in
@@ -147,4 +151,5 @@ module _ (app : App) where
   advances_none entries [] x = refl
   advances_none entries (l ∷ ls) x =
       none_both (advance_to entries l.sub l.cursor) (advances entries ls) x
-      ∙ (ap₂ (λ a b. a && b) (one_none entries l.sub l.cursor x) (advances_none entries ls x) ∙ sym (none_both (behind_by entries l.sub l.cursor) (behind entries ls) x))
+      ∙ (ap₂ (λ a b. a && b) (one_none entries l.sub l.cursor x) (advances_none entries ls x)
+      ∙ sym (none_both (behind_by entries l.sub l.cursor) (behind entries ls) x))

@@ -14,7 +14,8 @@ use Rattle.world_rounds_laws.specs.Visits.{Side, act_on}
 
 abbrev pub done_if : Conn → Act → Bool → Bool
 done_if c a b = is_done
-    (if not b then answer.Idle else (if is_of_session a && is_full c then answer.JournalFull else (if is_queue_full c a then answer.QueueFull else answer.Done)))
+    (if not b then answer.Idle else
+    (if is_of_session a && is_full c then answer.JournalFull else (if is_queue_full c a then answer.QueueFull else answer.Done)))
 
 -- ---- the acts
 

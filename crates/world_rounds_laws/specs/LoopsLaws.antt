@@ -55,7 +55,8 @@ module _ (app : App) (x : Side) (a : Act) (may : can_on app x a ≡ true) where
 
   left_is : (f : Conn → ℕ) → f (does app x.history x.conn a) < f x.conn → f (act_on app a x).conn < f x.conn
   left_is f less = subst
-      (λ (b : Bool). f (cond b (record { history = x.history ++ entries app x.history x.conn a; conn = does app x.history x.conn a }) x).conn < f x.conn) (sym may) less
+      (λ (b : Bool). f (cond b (record { history = x.history ++ entries app x.history x.conn a; conn = does app x.history x.conn a }) x).conn
+      < f x.conn) (sym may) less
 
 -- ---- the acts
 

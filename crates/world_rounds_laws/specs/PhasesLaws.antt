@@ -1,4 +1,5 @@
--- Laws: What the phases of a session's calls say: a call that was refused is refused in the journal, and the run of one that has finished had ended at some place.
+-- Laws: What the phases of a session's calls say: a call that was refused is refused in the journal, and the run of one that has finished had ended
+-- at some place.
 use Rattle.std.specs.Prelude.{◌≡◌, ℕ, zero, suc, List, [], ◌∷◌, ◌++◌, Bool, true, false, cond, ◌||◌, Some, refl}
 use Rattle.std.proofs.Common.{subst}
 use Rattle.std.proofs.lemmas.Bool.{eq-eqb}
@@ -63,7 +64,8 @@ from_are app number C all st [] f r a = a
 from_are app number C all st (i ∷ items) f r a =
     let own = own_after st i in
     from_are app number C all (after st i) items f.1 (λ k e. r k (or_right (refuses k i) (is_refused_in items k) e))
-    (fire_are (Says C all) own.subs own.methods (fired_says C all own.subs) (own_are app number C all st i f.0 (λ k e. r k (or_left (refuses k i) (is_refused_in items k) e)) a))
+    (fire_are (Says C all) own.subs own.methods (fired_says C all own.subs)
+    (own_are app number C all st i f.0 (λ k e. r k (or_left (refuses k i) (is_refused_in items k) e)) a))
 
 -- So it is of each call of a journal that fits
 pub phases_say : (app : App) (number : ℕ) (C : List Moment) (items : List Item) → Fits app number C items → (k : ℕ) (p : Phase) →

@@ -1,5 +1,6 @@
 -- Laws: The steps of a session's runs: each of its calls makes steps until it can make no more.
-use Rattle.std.specs.Prelude.{◌≡◌, ℕ, zero, suc, ◌<◌, ◌==◌, List, [], ◌∷◌, ◌++◌, length, replicate, Bool, true, false, cond, not, ◌||◌, Option, Some, None, IfSome, refl}
+use Rattle.std.specs.Prelude.{◌≡◌, ℕ, zero, suc, ◌<◌, ◌==◌, List, [], ◌∷◌, ◌++◌, length, replicate, Bool, true, false, cond, not, ◌||◌, Option, Some}
+use Rattle.std.specs.Prelude.{None, IfSome, refl}
 use Rattle.std.specs.List.{list_any, AllByRecursion}
 use Rattle.std.specs.Map.{keys_of}
 use Rattle.std.specs.Ordering.{eq_by_cmp, is_eq, nat_cmp, ordering_then}
@@ -16,7 +17,8 @@ use Rattle.world_model.specs.program_model.Kept.{is_over}
 use Rattle.world_model.specs.program_model.RunLaws.{stepped_less}
 use Rattle.world_model.specs.program_model.Steps.{stepped}
 use Rattle.world_model.specs.history_model.declared.entry.Entry.TheVariants as entry
-use Rattle.world_model.specs.history_model.History.{Programs, RunKey, run_cmp, Begun, Runs, Held, later, setting_in, no_steps, goes_on, with_step, with_stepped, AllAbove, Rise}
+use Rattle.world_model.specs.history_model.History.{Programs, RunKey, run_cmp, Begun, Runs, Held, later, setting_in, no_steps, goes_on, with_step}
+use Rattle.world_model.specs.history_model.History.{with_stepped, AllAbove, Rise}
 use Rattle.world_model.specs.history_model.Bounds.{IsHeld, IsBegun}
 use Rattle.world_model.specs.history_model.LimitLaws.{left_of}
 use Rattle.world_model.specs.history_model.HistoryLaws.{run_order, held-append}
@@ -50,7 +52,8 @@ stepped_left app h key (Some b) is run goes i =
     let s = stepped (setting_in app h) h.rows b.run in
     let next : Begun = record { run = s.run; at = suc h.entries } in
     let less = stepped_less (setting_in app h) h.rows b.run run.0 (not_over b.run.left going) in
-    let there : at run_cmp (set run_cmp h.runs key (Some next)) key ≡ Some next = at-set run_order h.runs key (Some next) key i.sorted ∙ ap (λ x. cond x (Some next) (at run_cmp h.runs key)) (eq_by_cmp-self run_order key) in
+    let there : at run_cmp (set run_cmp h.runs key (Some next)) key ≡ Some next = at-set run_order h.runs key (Some next) key i.sorted
+    ∙ ap (λ x. cond x (Some next) (at run_cmp h.runs key)) (eq_by_cmp-self run_order key) in
     subst (λ (c : Bool). left_of (at run_cmp (cond c (later h) (with_stepped h key s)).runs key) < length b.run.left) (sym going)
     (subst (λ (x : Option Begun). left_of x < length b.run.left) (sym there) (omega (arith, less)))
 
@@ -87,7 +90,9 @@ step_lowers app x k may =
     let h = held_in app x.history in
     let i = held.held_is (programs app) x.history in
     let less = stepped_left (programs app) h (n, k) (at run_cmp h.runs (n, k)) refl (i.begun (n, k)) (sym (can_step app x k) ∙ may) i in
-    subst (λ (b : Bool). left_in app k (cond b (record { history = x.history ++ entries app x.history x.conn (act.Step k); conn = does app x.history x.conn (act.Step k) }) x) < left_in app k x) (sym may)
+    subst (λ (b : Bool). left_in app k
+    (cond b (record { history = x.history ++ entries app x.history x.conn (act.Step k); conn = does app x.history x.conn (act.Step k) }) x)
+    < left_in app k x) (sym may)
     (subst (λ (y : Held). left_at y.runs n k < left_in app k x) (sym (held-append (programs app) x.history (entry.Step n k))) less)
 
 pub step_leaves : (app : App) (x : Side) (k j : ℕ) → (j ≡ k → ⊥) → left_in app j (act_on app (act.Step k) x) ≡ left_in app j x
@@ -95,7 +100,9 @@ step_leaves app x k j differ =
     let n = x.conn.number in
     let h = held_in app x.history in
     elim (can_on app x (act.Step k)) as
-    (λ b. left_in app j (cond b (record { history = x.history ++ entries app x.history x.conn (act.Step k); conn = does app x.history x.conn (act.Step k) }) x) ≡ left_in app j x) [
+    (λ b. left_in app j
+    (cond b (record { history = x.history ++ entries app x.history x.conn (act.Step k); conn = does app x.history x.conn (act.Step k) }) x)
+    ≡ left_in app j x) [
       | true ↦ ap (λ (y : Held). left_at y.runs n j) (held-append (programs app) x.history (entry.Step n k))
           ∙ other_left (programs app) h (n, k) (n, j) (at run_cmp h.runs (n, k)) (held.held_is (programs app) x.history) (other_call n j k differ)
       | false ↦ refl
@@ -184,11 +191,13 @@ module _ (n j : ℕ) (b : Begun) (runs : Runs) (sorted : IsSorted run_cmp (((n, 
   first_first [] rise is = cc is
   first_first (k ∷ ks) rise is =
       elim (j == k) as
-      (λ c. j == k ≡ c → (c || list_any (λ i. j == i) ks) ≡ true → steps_by n (k ∷ ks) whole ≡ replicate (length b.run.left) (act.Step j) ++ steps_by n (k ∷ ks) runs) [
+      (λ c. j == k ≡ c → (c || list_any (λ i. j == i) ks) ≡ true →
+      steps_by n (k ∷ ks) whole ≡ replicate (length b.run.left) (act.Step j) ++ steps_by n (k ∷ ks) runs) [
         | true ↦ λ e h.
             let same : j ≡ k = eqb-true j k e in
             subst (λ i. steps_by n (i ∷ ks) whole ≡ replicate (length b.run.left) (act.Step j) ++ steps_by n (i ∷ ks) runs) same
-            (ap₂ (λ (m : ℕ) (acts : List Act). replicate m (act.Step j) ++ acts) left_own (above_same n j ks whole runs (subst (λ i. AllAbove i ks) (sym same) rise.0) left_other)
+            (ap₂ (λ (m : ℕ) (acts : List Act). replicate m (act.Step j) ++ acts) left_own
+            (above_same n j ks whole runs (subst (λ i. AllAbove i ks) (sym same) rise.0) left_other)
             ∙ ap (λ m. replicate (length b.run.left) (act.Step j) ++ (replicate m (act.Step j) ++ steps_by n ks runs)) (sym left_behind))
         | false ↦ λ e h.
             let none : left_at runs n k ≡ 0 = left_before k (member_above j k ks rise.0 h) in
@@ -230,7 +239,8 @@ phase_is n (r ∷ runs) ks sorted rise covers =
     (λ c. n == r.0.0 ≡ c → steps_by n ks (r ∷ runs) ≡ cond c (replicate (length r.1.run.left) (act.Step r.0.1) ++ steps_of n runs) (steps_of n runs)) [
       | true ↦ λ e. own (eqb-true n r.0.0 e) (λ more. phase_is n runs ks rest rise more)
       | false ↦ λ e.
-          let same : (k : ℕ) → left_at (r ∷ runs) n k ≡ left_at runs n k = λ k. ap (λ c. left_of (cond c (Some r.1) (at run_cmp runs (n, k)))) (other_session n r.0.0 k r.0.1 e) in
+          let same : (k : ℕ) → left_at (r ∷ runs) n k ≡ left_at runs n k =
+          λ k. ap (λ c. left_of (cond c (Some r.1) (at run_cmp runs (n, k)))) (other_session n r.0.0 k r.0.1 e) in
           by_same n ks (r ∷ runs) runs same ∙ phase_is n runs ks rest rise (λ k some. covers k (λ z. some (sym (same k) ∙ z)))
     ] refl
   where

@@ -133,4 +133,5 @@ pub idle_left : (w : World) (name : List ℕ) (c : Conn) → IsSorted text_cmp w
     is_idle w.app (record { history = w.history; conn = c }) ≡ true → visits name w ≡ w
 idle_left w name c sorted is none =
     ap (visited_by w name) is
-    ∙ (ap (with_side w name) (idle_visited w.app (record { history = w.history; conn = c }) none) ∙ ap (λ (conns : Conns). record w { conns = conns }) (put_same w.conns name c sorted is))
+    ∙ (ap (with_side w name) (idle_visited w.app (record { history = w.history; conn = c }) none)
+    ∙ ap (λ (conns : Conns). record w { conns = conns }) (put_same w.conns name c sorted is))

@@ -24,7 +24,8 @@ use Rattle.program_reading.specs.Faults.{below, Reading, Gives, bad}
 use Rattle.program_reading.specs.Names.{has_only_keys}
 use Rattle.program_reading.specs.Programs.{program_reading}
 use Rattle.app_model.specs.App.{App}
-use Rattle.app_model.specs.Reading.{max_methods, collections_reading, methods_put, methods_reading, with_method, with_made, stored_reading, told_reading, members_reading, app_reading}
+use Rattle.app_model.specs.Reading.{max_methods, collections_reading, methods_put, methods_reading, with_method, with_made, stored_reading}
+use Rattle.app_model.specs.Reading.{told_reading, members_reading, app_reading}
 use Rattle.world_values_laws.specs.world_model.Store.{programs}
 use Rattle.world_values_laws.specs.Values.{HasValues}
 use Rattle.world_values_laws.specs.StepsRead.{IsMade}

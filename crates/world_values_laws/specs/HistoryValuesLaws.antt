@@ -1,5 +1,6 @@
 -- Laws: A history of values keeps documents, and its runs come to values.
-use Rattle.std.specs.Prelude.{◌≡◌, ℕ, zero, suc, List, [], ◌∷◌, ◌++◌, take, codes, Bool, true, false, cond, Option, None, Some, IfSome, option_map, Ok, Err, refl, if◌then◌else◌}
+use Rattle.std.specs.Prelude.{◌≡◌, ℕ, zero, suc, List, [], ◌∷◌, ◌++◌, take, codes, Bool, true, false, cond, Option, None, Some, IfSome, option_map}
+use Rattle.std.specs.Prelude.{Ok, Err, refl, if◌then◌else◌}
 use Rattle.std.specs.Ordering.{eq_by_cmp}
 use Rattle.std.proofs.Common.{sym, subst, arith}
 use Rattle.map_model.specs.Maps.{at, set}
@@ -24,7 +25,9 @@ use Rattle.world_model.specs.history_model.declared.entry.Entry.{Entry}
 use Rattle.world_model.specs.history_model.declared.entry.Entry.TheVariants as entry
 use Rattle.world_model.specs.history_model.Operations.{insert_of, update_by, remove_of, update_in, operation_named, operation_in}
 use Rattle.world_model.specs.history_model.HistoryLaws.{run_order}
-use Rattle.world_model.specs.history_model.History.{Programs, RunKey, run_cmp, Begun, Runs, Held, nothing, later, room_in, setting_in, steps_of, with_begin, with_stepped, no_steps, with_step, with_answer, with_operation, carried, held_from, held}
+use Rattle.world_model.specs.history_model.History.{Programs, RunKey, run_cmp, Begun, Runs, Held, nothing, later, room_in, setting_in, steps_of}
+use Rattle.world_model.specs.history_model.History.{with_begin, with_stepped, no_steps, with_step, with_answer, with_operation, carried, held_from}
+use Rattle.world_model.specs.history_model.History.{held}
 use Rattle.world_values_laws.specs.ModifierValues.{IsModification}
 use Rattle.world_values_laws.specs.Values.{AreSteps, HasValues, IsEntry, AreEntries, IsSound, IsBegun, IsHeld}
 use Rattle.world_values_laws.specs.OperationValues.{IsOperation}
@@ -100,7 +103,10 @@ begin_is : (app : Programs) (h : Held) (key : RunKey) (method : List ℕ) (param
 begin_is app h key method params seed (Some b) good all is = record { rows = is.rows; runs = is.runs }
 begin_is app h key method params seed None good all is =
     let b : Begun = record { run = begun params seed (steps_of (app.method method)); at = suc h.entries } in
-    record { rows = is.rows; runs = run_put h.runs key b (begun_is params seed (steps_of (app.method method)) all (steps_are (app.method method) (good method))) is.runs }
+    record {
+      rows = is.rows;
+      runs = run_put h.runs key b (begun_is params seed (steps_of (app.method method)) all (steps_are (app.method method) (good method))) is.runs;
+    }
 
 step_is : (app : Programs) (h : Held) (key : RunKey) (o : Option Begun) → IfSome o IsBegun → IsHeld h → IsHeld (with_step app h key o)
 step_is app h key None b is = record { rows = is.rows; runs = is.runs }

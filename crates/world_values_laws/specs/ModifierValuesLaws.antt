@@ -1,5 +1,7 @@
 -- Laws: A modifier that is read from a value makes a document of values of a document of values.
-use Rattle.std.specs.Prelude.{◌≡◌, ℕ, zero, suc, ℤ, pos, negsuc, ◌+ℤ◌, ◌-◌, Bool, true, false, cond, T, List, [], ◌∷◌, ◌++◌, length, take, drop, replicate, filter, codes, bytes_eq, nat_lt, nat_le, not, Option, None, Some, unwrap_or, Ok, Err, IfOk, slice_get, slice_set, refl, if◌then◌else◌}
+use Rattle.std.specs.Prelude.{◌≡◌, ℕ, zero, suc, ℤ, pos, negsuc, ◌+ℤ◌, ◌-◌, Bool, true, false, cond, T, List, [], ◌∷◌, ◌++◌, length, take, drop}
+use Rattle.std.specs.Prelude.{replicate, filter, codes, bytes_eq, nat_lt, nat_le, not, Option, None, Some, unwrap_or, Ok, Err, IfOk, slice_get}
+use Rattle.std.specs.Prelude.{slice_set, refl, if◌then◌else◌}
 use Rattle.std.specs.List.{list_any}
 use Rattle.std.specs.Ordering.{is_lt, is_gt}
 use Rattle.std.specs.BTreeMap.{is_at}
@@ -21,9 +23,13 @@ use Rattle.selector_match.specs.Holds.{fits}
 use Rattle.selector_match.specs.Reading.{has_operator, has_plain_name, test_reading}
 use Rattle.modifier_apply.specs.declared.fault.ApplyFault.TheVariants as refusal
 use Rattle.modifier_apply.specs.declared.fault.ModifierFault.TheVariants as fault
-use Rattle.modifier_apply.specs.Change.{Edit, put_value, take_out, add, keep_least, keep_greatest, append_all, add_missing, drop_equal, drop_passing, drop_last, drop_first, Change, Modification, replaced_by, changed_by}
-use Rattle.modifier_apply.specs.Modified.{Outcome, same, with_one, with_missing, is_whole, added, to_number, elements, list_edited, edited, made_anew, makes, blocked, with_field, field_changed, max_place, put_behind, with_element, element_changed, changed_at, document_changed, conflicts, paths_of, changes_id, all_made, replacement, modified}
-use Rattle.modifier_apply.specs.Reading.{Reading, operator_named, plain_path, list_reading, each_reading, values_reading, increment_reading, from_test, pull_reading, pop_reading, change_of, operator_reading, changes_reading, reading}
+use Rattle.modifier_apply.specs.Change.{Edit, put_value, take_out, add, keep_least, keep_greatest, append_all, add_missing, drop_equal, drop_passing}
+use Rattle.modifier_apply.specs.Change.{drop_last, drop_first, Change, Modification, replaced_by, changed_by}
+use Rattle.modifier_apply.specs.Modified.{Outcome, same, with_one, with_missing, is_whole, added, to_number, elements, list_edited, edited, made_anew}
+use Rattle.modifier_apply.specs.Modified.{makes, blocked, with_field, field_changed, max_place, put_behind, with_element, element_changed, changed_at}
+use Rattle.modifier_apply.specs.Modified.{document_changed, conflicts, paths_of, changes_id, all_made, replacement, modified}
+use Rattle.modifier_apply.specs.Reading.{Reading, operator_named, plain_path, list_reading, each_reading, values_reading, increment_reading}
+use Rattle.modifier_apply.specs.Reading.{from_test, pull_reading, pop_reading, change_of, operator_reading, changes_reading, reading}
 use Rattle.world_values_laws.specs.ModifierValues.{AreEdits, AreListed, IsChange, IsEdit, IsLeft, IsModification, Keeps}
 
 -- ---- lists
@@ -284,12 +290,14 @@ more_read (Ok c) (Ok cs) one all = (one, all)
 
 -- the paths of an operator whose operands are read as edits of values
 paths_read : (f : Fields → Reading (List Change)) (edit : Val → Reading Edit) → f no_fields ≡ Ok [] →
-    ((written : List ℕ) (v : Val) (fs : Fields) → f (field written v fs) ≡ with_both (λ c cs. c ∷ cs) (with_both change_of (plain_path (path_of written)) (edit v)) (f fs)) →
+    ((written : List ℕ) (v : Val) (fs : Fields) →
+    f (field written v fs) ≡ with_both (λ c cs. c ∷ cs) (with_both change_of (plain_path (path_of written)) (edit v)) (f fs)) →
     ((v : Val) → IsValue v → IfOk (edit v) IsEdit) → (fs : Fields) → HaveValues fs → IfOk (f fs) AreEdits
 paths_read f edit none more fine no_fields all = subst (λ (r : Reading (List Change)). IfOk r AreEdits) (sym none) tt
 paths_read f edit none more fine (field written v fs) all =
     subst (λ (r : Reading (List Change)). IfOk r AreEdits) (sym (more written v fs))
-    (more_read (with_both change_of (plain_path (path_of written)) (edit v)) (f fs) (change_read (plain_path (path_of written)) (edit v) (fine v all.0)) (paths_read f edit none more fine fs all.1))
+    (more_read (with_both change_of (plain_path (path_of written)) (edit v)) (f fs)
+    (change_read (plain_path (path_of written)) (edit v) (fine v all.0)) (paths_read f edit none more fine fs all.1))
 
 set_read : (v : Val) → IsValue v → IfOk (operator_reading (operator_named (codes "$set")) v) AreEdits
 set_read (object fs) is = paths_read (λ gs. operator_reading (operator_named (codes "$set")) (object gs)) (λ v. Ok (put_value v)) refl
@@ -361,7 +369,8 @@ operator_read n v is =
     (one_of (bytes_eq n (codes "$push")) (operator_named (codes "$push")) adds (λ o. IfOk (operator_reading o v) AreEdits) (push_read v is)
     (one_of (bytes_eq n (codes "$addToSet")) (operator_named (codes "$addToSet")) pulls (λ o. IfOk (operator_reading o v) AreEdits) (add_read v is)
     (one_of (bytes_eq n (codes "$pull")) (operator_named (codes "$pull")) pops (λ o. IfOk (operator_reading o v) AreEdits) (pull_all v is)
-    (one_of (bytes_eq n (codes "$pop")) (operator_named (codes "$pop")) (operator_named []) (λ o. IfOk (operator_reading o v) AreEdits) (pop_all v is) tt))))))))
+    (one_of (bytes_eq n (codes "$pop")) (operator_named (codes "$pop")) (operator_named []) (λ o. IfOk (operator_reading o v) AreEdits)
+    (pop_all v is) tt))))))))
 
 edits_append : (cs ds : List Change) → AreEdits cs → AreEdits ds → AreEdits (cs ++ ds)
 edits_append [] ds all more = more
@@ -389,5 +398,6 @@ pub read_modification : (v : Val) → IsValue v → IfOk (reading v) IsModificat
 read_modification (object fs) is =
     either_read (not (has_operator fs)) (Ok (replaced_by (entries_of fs)))
     (if has_plain_name fs then Err fault.BadOperand else made changed_by (changes_reading fs)) (fields_of_object fs is)
-    (either_read (has_plain_name fs) (Err fault.BadOperand) (made changed_by (changes_reading fs)) tt (operators_read (changes_reading fs) (changes_read fs is.1)))
+    (either_read (has_plain_name fs) (Err fault.BadOperand)
+    (made changed_by (changes_reading fs)) tt (operators_read (changes_reading fs) (changes_read fs is.1)))
 read_modification v is = tt

@@ -1,5 +1,6 @@
 -- Laws: What an operation of values leaves of documents are documents.
-use Rattle.std.specs.Prelude.{◌≡◌, ℕ, ◌≤◌, List, [], ◌∷◌, map, filter, length, Bool, true, false, cond, ◌||◌, nat_lt, Option, None, Some, IfSome, is_some, Ok, Err, IfOk, refl, if◌then◌else◌}
+use Rattle.std.specs.Prelude.{◌≡◌, ℕ, ◌≤◌, List, [], ◌∷◌, map, filter, length, Bool, true, false, cond, ◌||◌, nat_lt, Option, None, Some, IfSome}
+use Rattle.std.specs.Prelude.{is_some, Ok, Err, IfOk, refl, if◌then◌else◌}
 use Rattle.std.specs.Map.{remove_entry}
 use Rattle.std.specs.BTreeMap.{is_at, insert_entry}
 use Rattle.std.specs.declared.cmp.Ordering.TheVariants.{Less, Equal, Greater}
@@ -26,7 +27,9 @@ use Rattle.collection_store.specs.declared.operation.Op.{Op}
 use Rattle.collection_store.specs.declared.operation.Op.TheVariants as operation
 use Rattle.collection_store.specs.Outcome.{Outcome}
 use Rattle.collection_store.specs.Limits.{document, is_too_large, is_full, max_documents, max_bytes, bytes_of, new_bytes}
-use Rattle.collection_store.specs.Applied.{Row, Plan, Applied, is_listed, after, done, matching, chosen, insertion, insert_plan, update_plan, or_refused, change_if_differs, change_to, updated, with_change, all_updated, remove_plan, removal, plan_for, if_room, applied, number_of}
+use Rattle.collection_store.specs.Applied.{Row, Plan, Applied, is_listed, after, done, matching, chosen, insertion, insert_plan, update_plan}
+use Rattle.collection_store.specs.Applied.{or_refused, change_if_differs, change_to, updated, with_change, all_updated, remove_plan, removal}
+use Rattle.collection_store.specs.Applied.{plan_for, if_room, applied, number_of}
 use Rattle.world_model.specs.session_model.Kept.{IsResult}
 use Rattle.world_values_laws.specs.ModifierValues.{IsModification}
 use Rattle.world_values_laws.specs.ModifierValuesLaws.{modified_document}
@@ -54,7 +57,8 @@ documents_filter : (test : Row → Bool) (rows : Rows) → AreDocuments rows →
 documents_filter test [] all = tt
 documents_filter test (row ∷ rows) all =
     elim (test row) as
-    (λ b. AreDocuments (cond b (row ∷ filter test rows) (filter test rows))) [ true ↦ (all.0, documents_filter test rows all.1) | false ↦ documents_filter test rows all.1 ]
+    (λ b. AreDocuments (cond b (row ∷ filter test rows) (filter test rows)))
+    [ true ↦ (all.0, documents_filter test rows all.1) | false ↦ documents_filter test rows all.1 ]
 
 documents_chosen : (all : Bool) (rows : Rows) → AreDocuments rows → AreDocuments (chosen all rows)
 documents_chosen true rows s = s
@@ -87,7 +91,11 @@ fewer_chosen false (row ∷ rows) = omega arith
 
 fewer_matching : (collection : List ℕ) (selector : Query) (rows : Rows) → length (matching collection selector rows) ≤ length rows
 fewer_matching collection selector rows =
-    omega (arith, fewer_filtered (λ row. holds selector row.0.id row.1) (rows_of collection rows), fewer_filtered (λ row. is_name row.0.collection collection) rows)
+    omega (
+      arith,
+      fewer_filtered (λ row. holds selector row.0.id row.1) (rows_of collection rows),
+      fewer_filtered (λ row. is_name row.0.collection collection) rows,
+    )
 
 fewer_after : (rows found : Rows) → length (after rows (map removal found)) ≤ length rows
 fewer_after rows [] = omega arith
@@ -137,11 +145,13 @@ left_updates : (m : Modification) (rows : Rows) (cs : List Change) → IsModific
 left_updates m [] cs good s is = let none : cs ≡ [] = cc is in subst AreLeft (sym none) tt
 left_updates m (row ∷ rows) cs good s is =
     let parts = both_made with_change (updated m row) (all_updated m rows) cs is in
-    let changed = and_then-ok (or_refused (modified m row.0.id row.1)) (λ doc. if is_too_large doc then Err fault.TooLarge else Ok (change_if_differs row doc)) parts.0 parts.2 in
+    let changed = and_then-ok (or_refused (modified m row.0.id row.1))
+    (λ doc. if is_too_large doc then Err fault.TooLarge else Ok (change_if_differs row doc)) parts.0 parts.2 in
     let d = not_refused (modified m row.0.id row.1) changed.0 (modified_document m row.0.id row.1 good s.0) changed.1 in
     let small = small_one (is_too_large changed.0) (change_if_differs row changed.0) parts.0 changed.2 in
     subst AreLeft parts.4
-    (subst (λ (o : Option Change). AreLeft (with_change o parts.1)) small (if_differs row changed.0 (same (document row.1) (document changed.0)) parts.1 d (left_updates m rows parts.1 good s.1 parts.3)))
+    (subst (λ (o : Option Change). AreLeft (with_change o parts.1)) small
+    (if_differs row changed.0 (same (document row.1) (document changed.0)) parts.1 d (left_updates m rows parts.1 good s.1 parts.3)))
 
 left_removals : (rows : Rows) → AreLeft (map removal rows)
 left_removals [] = tt
@@ -162,7 +172,13 @@ planned : (rows : Rows) (room : ℕ) (plan : Plan) (a : Applied) → if_room row
 planned rows room plan a is all left answer =
     let parts = roomy (is_full (after rows plan.changes) plan.changes room) (done rows plan) a is in
     subst (λ (x : Applied). IsApplied x) parts.1
-    (record { rows = record { documents = documents_after rows plan.changes all left; few = few_left (after rows plan.changes) plan.changes room parts.0 }; answer = answer })
+    (record {
+      rows = record {
+        documents = documents_after rows plan.changes all left;
+        few = few_left (after rows plan.changes) plan.changes room parts.0;
+      };
+      answer = answer;
+    })
 
 fresh : (o : Option Entries) (b : Bool) (p plan : Plan) →
     (if is_some o then Err fault.Duplicate else (if b then Err fault.TooLarge else Ok p)) ≡ Ok plan → p ≡ plan
@@ -182,7 +198,10 @@ updated_is rows room found cs plan a e few left all is =
 
 removed_is : (rows found : Rows) → AreSound rows → length found ≤ max_documents → IsApplied (done rows (remove_plan found))
 removed_is rows found all few = record {
-  rows = record { documents = documents_after rows (map removal found) all.documents (left_removals found); few = omega (arith, fewer_after rows found, all.few) };
+  rows = record {
+    documents = documents_after rows (map removal found) all.documents (left_removals found);
+    few = omega (arith, fewer_after rows found, all.few);
+  };
   answer = number_is (length found) few;
 }
 
@@ -196,9 +215,11 @@ applied_is names rows (operation.Update collection selector m every) room a good
     let found = chosen every (matching collection selector rows) in
     let plan = and_then-ok (update_plan m found) (λ plan. if_room rows room plan) a (listed (is_listed names collection) _ a is) in
     let changes = made-ok (λ changes. plan_for found changes) (all_updated m found) plan.0 plan.1 in
-    let few : length found ≤ max_documents = omega (arith, fewer_chosen every (matching collection selector rows), fewer_matching collection selector rows, all.few) in
+    let few : length found ≤ max_documents =
+    omega (arith, fewer_chosen every (matching collection selector rows), fewer_matching collection selector rows, all.few) in
     updated_is rows room found changes.0 plan.0 a changes.2 few
-    (left_updates m found changes.0 good (documents_chosen every (matching collection selector rows) (documents_matching collection selector rows all.documents)) changes.1) all.documents plan.2
+    (left_updates m found changes.0 good (documents_chosen every (matching collection selector rows)
+    (documents_matching collection selector rows all.documents)) changes.1) all.documents plan.2
 applied_is names rows (operation.Remove collection selector) room a good all is =
     let found = matching collection selector rows in
     let e : Ok (done rows (remove_plan found)) ≡ Ok a = listed (is_listed names collection) _ a is in

@@ -1,5 +1,6 @@
 -- Laws: What is read as a value of EJSON is one, where the keys of each object rise; so are the values in messages from clients.
-use Rattle.std.specs.Prelude.{◌≡◌, ℕ, ℤ, List, [], ◌∷◌, length, codes, Bool, true, false, ◌&&◌, nat_le, Option, None, Some, IfSome, option_map, option_and_then, Result, Ok, Err, refl, if◌then◌else◌}
+use Rattle.std.specs.Prelude.{◌≡◌, ℕ, ℤ, List, [], ◌∷◌, length, codes, Bool, true, false, ◌&&◌, nat_le, Option, None, Some, IfSome, option_map}
+use Rattle.std.specs.Prelude.{option_and_then, Result, Ok, Err, refl, if◌then◌else◌}
 use Rattle.std.specs.List.Sorted.{IsStrictlySortedBy}
 use Rattle.std.specs.Ordering.{nat_cmp, match_ordering}
 use Rattle.std.specs.declared.cmp.Ordering.TheVariants.{Less, Equal, Greater}
@@ -45,10 +46,12 @@ shaped X (key ∷ []) A B C D E a b c d e h =
     (one_of (is_name key (codes "$escape")) (shape_of_one (codes "$escape")) unsupported (λ o. ByShape o A B C D E → X) d
     (one_of (is_name key (codes "$InfNaN")) (shape_of_one (codes "$InfNaN")) (shape_of_one []) (λ o. ByShape o A B C D E → X) (λ x. absurd x) a))) h
 shaped X (first ∷ second ∷ []) A B C D E a b c d e h =
-    let users = if is_name first (codes "$type") && is_name second (codes "$value") then shape_of_two (codes "$type") (codes "$value") else shape_of_two [] [] in
+    let users = if is_name first (codes "$type")
+    && is_name second (codes "$value") then shape_of_two (codes "$type") (codes "$value") else shape_of_two [] [] in
     one_of (is_name first (codes "$flags") && is_name second (codes "$regexp")) (shape_of_two (codes "$flags") (codes "$regexp")) users
     (λ o. ByShape o A B C D E → X) (λ x. absurd x)
-    (one_of (is_name first (codes "$type") && is_name second (codes "$value")) (shape_of_two (codes "$type") (codes "$value")) (shape_of_two [] []) (λ o. ByShape o A B C D E → X) e a) h
+    (one_of (is_name first (codes "$type") && is_name second (codes "$value")) (shape_of_two (codes "$type") (codes "$value")) (shape_of_two [] [])
+    (λ o. ByShape o A B C D E → X) e a) h
 shaped X (first ∷ second ∷ third ∷ more) A B C D E a b c d e h = a h
 
 -- ---- values

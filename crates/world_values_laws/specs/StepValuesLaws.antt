@@ -1,5 +1,6 @@
 -- Laws: A step of values leaves documents, and what its run ends with is a value.
-use Rattle.std.specs.Prelude.{◌≡◌, ℕ, List, [], ◌∷◌, codes, Bool, true, false, nat_lt, Option, None, Some, IfSome, Result, Ok, Err, IfOk, option_and_then, refl, if◌then◌else◌}
+use Rattle.std.specs.Prelude.{◌≡◌, ℕ, List, [], ◌∷◌, codes, Bool, true, false, nat_lt, Option, None, Some, IfSome, Result, Ok, Err, IfOk}
+use Rattle.std.specs.Prelude.{option_and_then, refl, if◌then◌else◌}
 use Rattle.std.specs.BTreeMap.{is_at}
 use Rattle.std.proofs.Common.{subst, sym, arith}
 use Rattle.std.proofs.lemmas.Bool.{ltb-false}
@@ -33,8 +34,10 @@ use Rattle.program_steps.specs.Runs.{done as ended_with}
 use Rattle.world_model.specs.program_model.declared.verdict.Verdict.{Verdict}
 use Rattle.world_model.specs.program_model.declared.verdict.Verdict.TheVariants as verdict
 use Rattle.world_model.specs.program_model.Guarded.{removes, judged, or_none, id_of}
-use Rattle.world_model.specs.program_model.Run.{Run, if_over, gone_on, ended, New, new_by, new_of, next_id, is_id, inserted, if_ok, filled_in, selector_in, modifier_in, new_in}
-use Rattle.world_model.specs.program_model.Steps.{Setting, Stepped, by_answer, if_made, if_found, Writing, insert_writing, writing, writing_in, update_of, operation_of, by_verdict, done_step, stepped_by, stepped}
+use Rattle.world_model.specs.program_model.Run.{Run, if_over, gone_on, ended, New, new_by, new_of, next_id, is_id, inserted, if_ok, filled_in}
+use Rattle.world_model.specs.program_model.Run.{selector_in, modifier_in, new_in}
+use Rattle.world_model.specs.program_model.Steps.{Setting, Stepped, by_answer, if_made, if_found, Writing, insert_writing, writing, writing_in}
+use Rattle.world_model.specs.program_model.Steps.{update_of, operation_of, by_verdict, done_step, stepped_by, stepped}
 use Rattle.world_model.specs.session_model.Kept.{IsResult}
 use Rattle.world_values_laws.specs.ModifierValues.{IsModification}
 use Rattle.world_values_laws.specs.ModifierValuesLaws.{read_modification}
@@ -96,7 +99,8 @@ fields_of_object : (fs : Fields) → IsValue (object fs) → IsDocument (entries
 fields_of_object fs is = record { names = is.0; values = subst HaveValues (sym (fields_of-entries_of fs)) is.1 }
 
 without_id : (fields : Entries) → IsDocument fields → IsDocument (remove fields (codes "_id"))
-without_id fields d = record { names = sorted-remove name_order fields (codes "_id") d.names; values = HaveValues-remove (is_at (text_cmp (codes "_id"))) fields d.values }
+without_id fields d =
+    record { names = sorted-remove name_order fields (codes "_id") d.names; values = HaveValues-remove (is_at (text_cmp (codes "_id"))) fields d.values }
 
 if_id : (b : Bool) (id : List ℕ) (doc : Entries) → IsDocument doc → IfSome (if b then Some (record { id = id; is_drawn = false; doc = doc }) else None) IsNew
 if_id true id doc d = d
@@ -193,10 +197,12 @@ step_is s rows run (step.Insert collection doc) good all sound =
 step_is s rows run (step.Update collection selector m every) good all sound =
     made_is (λ q. Unit {0}) rows run (selector_in run selector) _ all sound (any_is (selector_in run selector))
     (λ q u. made_is IsModification rows run (modifier_in run m) _ all sound (modifier_filled (filled_in run m) (filled_is run m sound good))
-    (λ n d. answer_is s rows run (operation.Update collection q n every) (λ a. gone_on run) d all sound (λ a made. sound_gone run sound) (applied s.collections rows (operation.Update collection q n every) s.room) refl))
+    (λ n d. answer_is s rows run (operation.Update collection q n every) (λ a. gone_on run) d all sound (λ a made. sound_gone run sound)
+    (applied s.collections rows (operation.Update collection q n every) s.room) refl))
 step_is s rows run (step.Remove collection selector) good all sound =
     made_is (λ q. Unit {0}) rows run (selector_in run selector) _ all sound (any_is (selector_in run selector))
-    (λ q u. answer_is s rows run (operation.Remove collection q) (λ a. gone_on run) tt all sound (λ a made. sound_gone run sound) (applied s.collections rows (operation.Remove collection q) s.room) refl)
+    (λ q u. answer_is s rows run (operation.Remove collection q) (λ a. gone_on run) tt all sound (λ a made. sound_gone run sound)
+    (applied s.collections rows (operation.Remove collection q) s.room) refl)
 step_is s rows run (step.Require collection selector e) good all sound =
     made_is (λ q. Unit {0}) rows run (selector_in run selector) _ all sound (any_is (selector_in run selector))
     (λ q u. found_is rows run e (matching collection q rows) all sound)

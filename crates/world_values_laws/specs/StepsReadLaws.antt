@@ -1,5 +1,6 @@
 -- Laws: The steps that are read from values have templates that are values.
-use Rattle.std.specs.Prelude.{◌==◌, ℕ, zero, suc, Bool, true, false, List, [], ◌∷◌, ◌++◌, length, codes, nat_lt, not, Option, None, Some, IfSome, Result, Ok, Err, IfOk, slice_get, if◌then◌else◌}
+use Rattle.std.specs.Prelude.{◌==◌, ℕ, zero, suc, Bool, true, false, List, [], ◌∷◌, ◌++◌, length, codes, nat_lt, not, Option, None, Some, IfSome}
+use Rattle.std.specs.Prelude.{Result, Ok, Err, IfOk, slice_get, if◌then◌else◌}
 use Rattle.value_model.specs.Size.{is_name}
 use Rattle.value_model.specs.Val.{Val, text, list, object, Vals, no_vals, val, Fields, no_fields, field, list_of, entries_of}
 use Rattle.value_model.specs.Order.{text_cmp}
@@ -14,7 +15,8 @@ use Rattle.program_steps.specs.declared.step.ProgramStep.TheVariants as step
 use Rattle.program_reading.specs.declared.fault.Flaw.TheVariants as flaw
 use Rattle.program_reading.specs.Faults.{Place, below, element, Reading, bad}
 use Rattle.program_reading.specs.Names.{is_valid_name}
-use Rattle.program_reading.specs.Steps.{form_named, if_long, form_at, template_reading, fault_reading, collection_reading, insert_reading, update_reading, remove_reading, require_reading, if_formed, step_reading}
+use Rattle.program_reading.specs.Steps.{form_named, if_long, form_at, template_reading, fault_reading, collection_reading, insert_reading}
+use Rattle.program_reading.specs.Steps.{update_reading, remove_reading, require_reading, if_formed, step_reading}
 use Rattle.program_reading.specs.Programs.{max_steps, steps_behind, steps_reading, own_steps_reading, stub_reading, is_program, parts_reading, program_reading}
 use Rattle.world_values_laws.specs.Values.{IsStep, AreSteps}
 use Rattle.world_values_laws.specs.StepsRead.{HasValuesAt, IsMade}

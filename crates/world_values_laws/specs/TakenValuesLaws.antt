@@ -48,7 +48,8 @@ named_is connected d (Some name) r =
     either (not connected && not (is_name name (codes "connect"))) (refused_for (codes "Must connect first") d)
     (if connected && is_name name (codes "connect") then refused_for (codes "Already connected") d else taken_as d (client_reading d))
     (refused_is (codes "Must connect first") d r)
-    (either (connected && is_name name (codes "connect")) (refused_for (codes "Already connected") d) (taken_as d (client_reading d)) (refused_is (codes "Already connected") d r) (as_is d (client_reading d) refl r))
+    (either (connected && is_name name (codes "connect")) (refused_for (codes "Already connected") d) (taken_as d (client_reading d))
+    (refused_is (codes "Already connected") d r) (as_is d (client_reading d) refl r))
 
 tree_is : (connected : Bool) (t : List ℕ) (o : Option Data) → json.read t ≡ o → IsTaken (taken_tree connected o)
 tree_is connected t None is = (refl, tt)

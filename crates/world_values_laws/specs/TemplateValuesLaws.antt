@@ -1,5 +1,6 @@
 -- Laws: A template of values that is filled with values is one.
-use Rattle.std.specs.Prelude.{ℕ, zero, suc, ℤ, pos, negsuc, Bool, true, false, List, [], ◌∷◌, nat_lt, Option, None, Some, codes, ok_or, option_map, IfSome, Ok, Err, IfOk, slice_get, refl, if◌then◌else◌}
+use Rattle.std.specs.Prelude.{ℕ, zero, suc, ℤ, pos, negsuc, Bool, true, false, List, [], ◌∷◌, nat_lt, Option, None, Some, codes, ok_or, option_map}
+use Rattle.std.specs.Prelude.{IfSome, Ok, Err, IfOk, slice_get, refl, if◌then◌else◌}
 use Rattle.std.specs.List.Sorted.{IsStrictlySortedBy}
 use Rattle.std.proofs.Common.{ap, sym, subst}
 use Rattle.value_model.specs.Val.{Val, int, text, list, object, Vals, no_vals, val, Fields, no_fields, field, vals_of, entries_of}
@@ -9,7 +10,8 @@ use Rattle.value_model.specs.Size.{size, is_name}
 use Rattle.value_model.specs.Valid.{IsValue, AreValues, HaveValues, HasRisingNames}
 use Rattle.ejson_value.specs.Results.{made, with_both}
 use Rattle.program_steps.specs.declared.fault.FillFault.TheVariants as fault
-use Rattle.program_steps.specs.Template.{max_depth, max_size, placeholder_named, placeholder_in, Filling, nth, in_place, filling, items_filling, fields_filling, limited, filled}
+use Rattle.program_steps.specs.Template.{max_depth, max_size, placeholder_named, placeholder_in, Filling, nth, in_place, filling, items_filling}
+use Rattle.program_steps.specs.Template.{fields_filling, limited, filled}
 use Rattle.world_values_laws.specs.TemplateValues.{IsLike}
 
 listed_at : (vs : List Val) (n : ℕ) → AreValues (vals_of vs) → IfSome (slice_get vs n) IsValue
@@ -39,7 +41,8 @@ placed params ids (field name (int z) no_fields) r all is =
     let made_one = if is_name name (codes "$made") then placeholder_named (codes "$made") z else placeholder_named [] z in
     one_of (is_name name (codes "$param")) (placeholder_named (codes "$param") z) made_one (λ o. IfOk (in_place params ids o r) IsValue)
     (found (nth params z) (parameter_is params z all))
-    (one_of (is_name name (codes "$made")) (placeholder_named (codes "$made") z) (placeholder_named [] z) (λ o. IfOk (in_place params ids o r) IsValue) (id_found (nth ids z)) is)
+    (one_of (is_name name (codes "$made")) (placeholder_named (codes "$made") z) (placeholder_named [] z)
+    (λ o. IfOk (in_place params ids o r) IsValue) (id_found (nth ids z)) is)
 placed params ids fs r all is = is
 
 list_filled : (r : Filling Vals) → IfOk r AreValues → IfOk (made list r) IsValue

@@ -54,7 +54,8 @@ pub fn modified_documents_are_documents()
 
 /// What a template of values gives, filled with values, is one.
 pub fn filled_templates_are_values()
-    ensures { (params : List Val) (ids : List (List ℕ)) (template : Val) → AreValues (vals_of params) → IsValue template → IfOk (filled params ids template) IsValue }
+    ensures { (params : List Val) (ids : List (List ℕ)) (template : Val) → AreValues (vals_of params) → IsValue template →
+        IfOk (filled params ids template) IsValue }
 {}
 
 /// What a session sees of such a store can be said in messages: its documents and the results of its runs.
