@@ -1,5 +1,5 @@
 //! Tables of texts with what EJSON (the appendix of Meteor's DDP specification) and the messages of DDP (Meteor's DDP.md) answer, and
-//! of drawn ids; of fences, and of how many documents a merge box lists. What a line of `replay` can show is a script among the
+//! of drawn ids; of fences and of queues of messages, and of how many documents a merge box lists. What a line of `replay` can show is a script among the
 //! examples.
 #![tactic(auto)]
 
@@ -13,6 +13,8 @@ mod ids;
 mod listing;
 #[cfg(test)]
 mod messages;
+#[cfg(test)]
+mod queues;
 #[cfg(test)]
 mod tables;
 #[cfg(test)]

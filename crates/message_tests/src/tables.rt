@@ -1,6 +1,6 @@
 //! The tables, and what is answered to each of their rows.
 use crate::texts::{filled, fits, parts};
-use crate::{ejson, fences, ids, listing, messages, wire};
+use crate::{ejson, fences, ids, listing, messages, queues, wire};
 use ddp_messages::wire_id;
 use ejson_value::Text;
 use std::alloc::Global;
@@ -282,6 +282,8 @@ fn tables(rt: HostRuntime) -> Result<(), Fail> {
         assert!(rt; is_right(rt.alloc(), row)?, "at {row}");
     }
     assert_eq!(rt; fences::wrong(rt.alloc())?, "");
+    assert_eq!(rt; queues::wrong(rt.alloc(), queues::METHODS)?, "");
+    assert_eq!(rt; queues::wrong(rt.alloc(), queues::BYTES)?, "");
     assert_eq!(rt; ids::wrong(rt.alloc())?, "");
     assert!(rt; listing::is_right(rt.alloc())?);
     Ok(())

@@ -1,12 +1,12 @@
-// A queue, call by call.
-use crate::{MethodQueue, PushFault};
+//! A queue of messages, call by call.
 use ddp_messages::FromClient;
 use ejson_value::Text;
+use method_queue::{MethodQueue, PushFault};
 use std::alloc::Global;
 use std::test::Fail;
 
 // Each row: a call on a queue of at most 2 messages, and its answer. `push` has the message's id and its bytes.
-const METHODS: &str = "peek => -
+pub(crate) const METHODS: &str = "peek => -
 next => -
 push a 20 => ok
 push b 20 => ok
@@ -33,7 +33,7 @@ next => c
 next => -
 ";
 
-const BYTES: &str = "push a 4194305 => full
+pub(crate) const BYTES: &str = "push a 4194305 => full
 push a 4294967295 => full
 push a 4194304 => ok
 push b 1 => full
@@ -134,20 +134,21 @@ fn is_right(alloc: Global, queue: &mut MethodQueue, row: &str) -> Result<bool, F
     method_is_right(queue, name, k, wanted)
 }
 
-#[test]
-fn methods_are_handled_one_at_a_time(rt: HostRuntime) -> Result<(), Fail> {
-    let mut queue = MethodQueue::new(rt.alloc(), 2);
-    for row in METHODS.lines() {
-        assert!(rt; is_right(rt.alloc(), &mut queue, row)?, "at {row}");
+fn wrong_row(
+    alloc: Global,
+    queue: &mut MethodQueue,
+    rows: &'static str,
+) -> Result<&'static str, Fail> {
+    for row in rows.lines() {
+        if !is_right(alloc, queue, row)? {
+            return Ok(row);
+        }
     }
-    Ok(())
+    Ok("")
 }
 
-#[test]
-fn waiting_bytes_are_limited(rt: HostRuntime) -> Result<(), Fail> {
-    let mut queue = MethodQueue::new(rt.alloc(), 2);
-    for row in BYTES.lines() {
-        assert!(rt; is_right(rt.alloc(), &mut queue, row)?, "at {row}");
-    }
-    Ok(())
+// The first row that isn't right, or nothing.
+pub(crate) fn wrong(alloc: Global, rows: &'static str) -> Result<&'static str, Fail> {
+    let mut queue = MethodQueue::new(alloc, 2);
+    wrong_row(alloc, &mut queue, rows)
 }
