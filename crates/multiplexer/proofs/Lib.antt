@@ -10,3 +10,4 @@ pub mod Putting
 pub mod Counts
 pub mod Weights
 pub mod Finds
+pub mod Others

@@ -1,6 +1,6 @@
 -- Sources in a list, and what is told of each.
 use Rattle.std.specs.Prelude.{◌≡◌, ℕ, zero, suc, List, [], ◌∷◌, ◌++◌, map, length, slice_get, slice_set, Option, Some, IfSome, Result, IfOk, refl}
-use Rattle.std.specs.List.{AllByRecursion}
+use Rattle.std.specs.List.{AllByRecursion, remove}
 use Rattle.std.proofs.Common.{ap, ap₂, sym, subst, ◌∙◌}
 use Rattle.std.proofs.lemmas.Option.{same_Some, none-some}
 use Rattle.value_model.specs.Val.{Val}
@@ -30,6 +30,12 @@ all_with P (y ∷ xs) (suc i) x all one = (all.0, all_with P xs i x all.1 one)
 pub all_more : {A : Type 0} (P : A → Type 0) (xs : List A) (x : A) → AllByRecursion P xs → P x → AllByRecursion P (xs ++ x ∷ [])
 all_more P [] x all one = (one, tt)
 all_more P (y ∷ xs) x all one = (all.0, all_more P xs x all.1 one)
+
+pub all_removed : {A : Type 0} (P : A → Type 0) (xs : List A) (i : ℕ) → AllByRecursion P xs → AllByRecursion P (remove xs i)
+all_removed P [] zero all = tt
+all_removed P [] (suc i) all = tt
+all_removed P (y ∷ xs) zero all = all.1
+all_removed P (y ∷ xs) (suc i) all = (all.0, all_removed P xs i all.1)
 
 pub last_there : {A : Type 0} (xs : List A) (x : A) → slice_get (xs ++ x ∷ []) (length xs) ≡ Some x
 last_there [] x = refl
@@ -141,3 +147,21 @@ all_learnt cursors_at m sub sources place s new span at placed source is alike l
     let was : cursors_at s.name s.params ≡ sub.cursors = ap₂ cursors_at of.name_is of.params_are ∙ sym source.cursors in
     let now : cursors_at new.name new.params ≡ sub.cursors = ap₂ cursors_at alike.name alike.params ∙ was in
     all_with P sources place new all (at_cursors cursors_at sub.cursors m new now (learns (by_cursors cursors_at sub.cursors m s was (all_at P sources place s all at)) is))
+
+-- what is told by the subscription's one is told by its cursors
+pub told_of : (cursors_at : CursorsAt) (m : MachineState) (sub : Sub) (sources : List ASource) (place : ℕ) (s : ASource) → slice_get sources place ≡ Some s → IsPlaceOf sources sub.name sub.params place → IsSource cursors_at sub →
+    AllByRecursion (IsTold cursors_at (programs m.app) m.history) sources → IsToldBy sub.cursors m s
+told_of cursors_at m sub sources place s at placed source all =
+    let of = of_place sources sub.name sub.params s place at placed in
+    by_cursors cursors_at sub.cursors m s (ap₂ cursors_at of.name_is of.params_are ∙ sym source.cursors) (all_at (IsTold cursors_at (programs m.app) m.history) sources place s all at)
+
+-- and goes on being so, where it is told by them as before
+pub all_known : (cursors_at : CursorsAt) (m : MachineState) (sub : Sub) (sources : List ASource) (place : ℕ) (s new : ASource) → slice_get sources place ≡ Some s → IsPlaceOf sources sub.name sub.params place → IsSource cursors_at sub →
+    IsAlike s new → (IsToldBy sub.cursors m s → IsToldBy sub.cursors m new) → AllByRecursion (IsTold cursors_at (programs m.app) m.history) sources →
+    AllByRecursion (IsTold cursors_at (programs m.app) m.history) (slice_set sources place new)
+all_known cursors_at m sub sources place s new at placed source alike keeps all =
+    let P : ASource → Type 0 = IsTold cursors_at (programs m.app) m.history in
+    let of = of_place sources sub.name sub.params s place at placed in
+    let was : cursors_at s.name s.params ≡ sub.cursors = ap₂ cursors_at of.name_is of.params_are ∙ sym source.cursors in
+    let now : cursors_at new.name new.params ≡ sub.cursors = ap₂ cursors_at alike.name alike.params ∙ was in
+    all_with P sources place new all (at_cursors cursors_at sub.cursors m new now (keeps (by_cursors cursors_at sub.cursors m s was (all_at P sources place s all at))))

@@ -5,6 +5,7 @@ use Rattle.std.proofs.Common.{ap, ap₂, sym, subst, ◌∙◌, arith}
 use Rattle.std.proofs.lemmas.Option.{same_Some, none-some}
 use Rattle.std.proofs.lemmas.List.Sums.{sum_by-cons}
 use Rattle.std.proofs.lemmas.List.{length-append}
+use Rattle.std.proofs.lemmas.List.Edits.{length-remove}
 use Rattle.value_model.specs.Val.{Val}
 use Rattle.ejson_value.specs.declared.change.Publish.{Publish}
 use Rattle.multiplexer.specs.declared.entry.Told.{Told}
@@ -13,7 +14,7 @@ use Rattle.multiplexer.specs.Inside.{seen_entry, news_told}
 use Rattle.multiplexer.specs.Telling.{AnEntry, ASource}
 use Rattle.multiplexer.specs.Sources.{source_of}
 use Rattle.multiplexer.proofs.Putting.{drop_more}
-use Rattle.multiplexer.proofs.Sources.{all_with, all_more}
+use Rattle.multiplexer.proofs.Sources.{all_with, all_more, all_removed}
 
 -- ---- bytes that are counted
 
@@ -129,6 +130,13 @@ bounded_with sources place new small b = record {
 
 pub bounded_none : AreBounded []
 bounded_none = record { many = omega arith; each = tt }
+
+-- one goes
+pub bounded_removed : (sources : List ASource) (place : ℕ) → place < length sources → AreBounded sources → AreBounded (remove sources place)
+bounded_removed sources place within b = record {
+  many = omega (arith, length-remove sources place within, b.many);
+  each = all_removed IsSmall sources place b.each;
+}
 
 pub bounded_more : (sources : List ASource) (name : List ℕ) (params : List Val) (from : ℕ) → length sources < max_sources → AreBounded sources → AreBounded (sources ++ source_of name params from ∷ [])
 bounded_more sources name params from room b = record {

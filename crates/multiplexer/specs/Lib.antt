@@ -9,6 +9,7 @@ pub mod Joining
 pub mod Bounds
 pub mod Sources
 pub mod Looks
+pub mod Others
 pub mod Inside
 pub mod Spans
 pub mod Lending

@@ -1,10 +1,12 @@
 -- How often documents are looked at, and what need not be looked at any more.
-use Rattle.std.specs.Prelude.{◌≡◌, ℕ, ◌-◌, ◌*◌, List, [], ◌∷◌, length, Bool, true, false, cond, nat_le, ◌==◌, ◌&&◌, Option, None, Some, is_some}
+use Rattle.std.specs.Prelude.{◌≡◌, ℕ, ◌-◌, ◌*◌, List, [], ◌∷◌, length, Bool, true, false, cond, nat_le, nat_lt, ◌==◌, ◌&&◌, ◌||◌, Option, None, Some, is_some}
+use Rattle.std.specs.List.{list_any}
 use Rattle.std.specs.Ordering.{is_eq}
 use Rattle.value_model.specs.Val.{Val}
 use Rattle.value_model.specs.Size.{is_name}
 use Rattle.history_model.specs.History.{changes_between}
 use Rattle.store_machine.specs.State.{MachineState, programs}
+use Rattle.multiplexer.specs.Bounds.{max_sources, max_entries}
 use Rattle.multiplexer.specs.Params.{params_cmp}
 use Rattle.multiplexer.specs.Telling.{ASpan, ASource}
 use Rattle.multiplexer.specs.Sources.{max_span, next_of}
@@ -50,3 +52,13 @@ HasSource sources name params = is_some (source_for name params sources) ≡ tru
 -- the place up to which the entries between the places need not be looked at
 abbrev pub known_in : List ASource → List ℕ → List Val → ℕ → ℕ → ℕ
 known_in sources name params from until = known_by (source_for name params sources) from until
+
+-- ---- room for one more source
+
+-- it is so far behind that nothing that it was told would be kept for an entry at this place
+abbrev pub is_behind : ℕ → ASource → Bool
+is_behind from s = nat_le max_entries (from - next_of s)
+
+-- the publication has a source, or one may begin at this place while no other goes but one that is far behind
+abbrev pub has_room : List ASource → List ℕ → List Val → ℕ → Bool
+has_room sources name params from = is_some (source_for name params sources) || (nat_lt (length sources) max_sources || list_any (is_behind from) sources)

@@ -1,8 +1,8 @@
 //! What is made once for all sessions.
-ghost use Rattle.std.specs.Prelude.{◌≡◌, ℕ, ◌+◌, ◌*◌, ◌≤◌, ◌<◌, ◌==◌, ◌&&◌, List, length, take, slice_get, option_and_then, None, Some, is_some};
-ghost use Rattle.std.specs.Prelude.{IfOk, IfSome, OnErr};
+ghost use Rattle.std.specs.Prelude.{◌≡◌, ℕ, ◌+◌, ◌*◌, ◌≤◌, ◌<◌, ◌==◌, ◌&&◌, List, length, take, slice_get, option_and_then, None, Some, true};
+ghost use Rattle.std.specs.Prelude.{is_some, IfOk, IfSome, OnErr};
 ghost use Rattle.std.specs.Arc.{arc_value};
-ghost use Rattle.std.specs.List.{AllByRecursion};
+ghost use Rattle.std.specs.List.{AllByRecursion, list_any};
 ghost use Rattle.ejson_value.specs.Changes.{news_of};
 ghost use Rattle.publication.specs.Published.{published};
 ghost use Rattle.live_observer.specs.Observing.{AnObserver};
@@ -11,7 +11,8 @@ ghost use Rattle.store_machine.specs.State.{MachineState, programs, held_after};
 ghost use Rattle.value_model.specs.Val.{Val as AVal};
 ghost use Rattle.multiplexer.specs.Bounds.{max_sources, IsSmall, AreBounded, kept_in, bytes_kept};
 ghost use Rattle.multiplexer.specs.Leading.{IsLead};
-ghost use Rattle.multiplexer.specs.Looks.{looks, source_for, known_by, known_in};
+ghost use Rattle.multiplexer.specs.Looks.{looks, source_for, known_by, known_in, is_behind, has_room};
+ghost use Rattle.multiplexer.specs.Others.{OthersStay, LeavesOthers};
 ghost use Rattle.multiplexer.specs.Telling.{CursorsAt, nothing_told, batch_of, IsTold, AreTold, IsSource};
 ghost use Rattle.multiplexer.specs.Sources.{IsPlaceOf};
 ghost use Rattle.multiplexer.specs.Spans.{HasItsSource, IsAsked, IsKnownWhole, IsLent};
@@ -99,6 +100,26 @@ fn place_of(sources: &[Source], name: &Text, params: &Items) -> Option<usize>
     None
 }
 
+// Where a source stands that is far behind this place of the history, if one does.
+fn place_behind(sources: &[Source], from: u64) -> Option<usize>
+    ensures within { IfSome result (λ place. place < length sources.now) }
+    ensures some { is_some result ≡ list_any (is_behind from) sources.now }
+{
+    for place in 0..sources.len() {
+        if sources[place].is_behind(from) {
+            return Some(place);
+        }
+    }
+    None
+}
+
+// Whether the publication stands among the sources.
+fn has_source(sources: &[Source], name: &Text, params: &Items) -> bool
+    ensures { result ≡ is_some (source_for name.now params.now sources.now) }
+{
+    place_of(sources, name, params).is_some()
+}
+
 // How many entries are kept of all.
 fn kept_in(sources: &[Source]) -> u64
     requires { AreBounded sources.now }
@@ -137,11 +158,67 @@ fn span_at<E: Entries, L: Ledger>(
     ensures keeps { (cursors_at : CursorsAt) (m : MachineState) → E.are_of entries.now m →
         AllByRecursion (IsTold cursors_at (programs m.app) m.history) sources.old.items → IsSource cursors_at sub.now →
         AllByRecursion (IsTold cursors_at (programs m.app) m.history) sources.new.items }
+    ensures others { OthersStay sub.now.name sub.now.params sources.old.items sources.new.items }
     ensures grows { steps.old ≤ steps.new }
     ensures ticks { (m : MachineState) → E.are_of entries.now m →
         steps.new ≤ steps.old + looks (length observer.now) m (known_by (slice_get sources.old.items place) from until) until }
 {
     sources[place].span(entries, observer, from, until, steps)
+}
+
+// What the source at this place, which is the subscription's, knows of the span.
+fn known_at(
+    sources: &mut Vec<Source>,
+    place: usize,
+    sub: &Sub,
+    from: u64,
+    until: u64,
+) -> Result<Option<Span>, Mem>
+    requires there { place < length sources.old.items }
+    requires place { IsPlaceOf sources.old.items sub.now.name sub.now.params place }
+    ensures bounded { AreBounded sources.old.items → AreBounded sources.new.items }
+    ensures there { place < length sources.new.items }
+    ensures place { IsPlaceOf sources.new.items sub.now.name sub.now.params place }
+    ensures told { (cursors_at : CursorsAt) (m : MachineState) → AllByRecursion (IsTold cursors_at (programs m.app) m.history) sources.old.items →
+        IsSource cursors_at sub.now →
+        IfOk result (λ answer. IfSome answer (IsAsked sub.now.cursors m from until)) }
+    ensures keeps { (cursors_at : CursorsAt) (m : MachineState) → AllByRecursion (IsTold cursors_at (programs m.app) m.history) sources.old.items →
+        IsSource cursors_at sub.now →
+        AllByRecursion (IsTold cursors_at (programs m.app) m.history) sources.new.items }
+    ensures others { OthersStay sub.now.name sub.now.params sources.old.items sources.new.items }
+    ensures known { from < until → until ≤ known_by (slice_get sources.old.items place) from until → IfOk result (λ answer. is_some answer ≡ true) }
+{
+    sources[place].known_span(from, until)
+}
+
+// What is lent of a span that the source at this place, which is the subscription's, knows.
+fn lend_known(
+    sources: &mut Vec<Source>,
+    place: usize,
+    sub: &Sub,
+    from: u64,
+    until: u64,
+) -> Result<Option<Lent>, Mem>
+    requires there { place < length sources.old.items }
+    requires place { IsPlaceOf sources.old.items sub.now.name sub.now.params place }
+    ensures bounded { AreBounded sources.old.items → AreBounded sources.new.items }
+    ensures lent { (cursors_at : CursorsAt) (m : MachineState) → AllByRecursion (IsTold cursors_at (programs m.app) m.history) sources.old.items →
+        IsSource cursors_at sub.now →
+        IfOk result (λ answer. IfSome answer (IsLent m sub.now from until)) }
+    ensures keeps { (cursors_at : CursorsAt) (m : MachineState) → AllByRecursion (IsTold cursors_at (programs m.app) m.history) sources.old.items →
+        IsSource cursors_at sub.now →
+        AllByRecursion (IsTold cursors_at (programs m.app) m.history) sources.new.items }
+    ensures source { IfOk result (λ answer. IfSome answer (HasItsSource sources.new.items)) }
+    ensures others { OthersStay sub.now.name sub.now.params sources.old.items sources.new.items }
+    ensures known { from < until → until ≤ known_by (slice_get sources.old.items place) from until → IfOk result (λ answer. is_some answer ≡ true) }
+{
+    let name = sub.name.copy()?;
+    let params = sources[place].params()?;
+    let known = known_at(sources, place, sub, from, until)?;
+    match known {
+        Some(span) => Ok(Some(Lent { name, params, span })),
+        None => Ok(None),
+    }
 }
 
 // The span is kept by the source at this place, if there is one.
@@ -154,6 +231,8 @@ fn learn_at(sources: &mut Vec<Source>, place: usize, span: Span)
     ensures known { (name : List ℕ) (params : List AVal) → place < length sources.old.items → source_for name params (take place sources.old.items) ≡ None →
         slice_get sources.old.items place ≡ source_for name params sources.old.items →
         known_in sources.new.items name params span.from span.until ≡ span.until }
+    ensures others { (name : List ℕ) (params : List AVal) → IsPlaceOf sources.old.items name params place →
+        OthersStay name params sources.old.items sources.new.items }
 {
     if let Some(source) = sources.get_mut(place) {
         source.learn(span);
@@ -214,7 +293,7 @@ impl Multiplexer {
         Ok(batch)
     }
 
-    /// The changes of so many entries, behind the first `from` of their history.
+    /// The changes of so many entries, behind the first `from` of their history. They are kept from now on.
     pub fn batch<E: Entries>(
         &mut self,
         entries: &E,
@@ -226,7 +305,9 @@ impl Multiplexer {
         ensures batch { (cursors_at : CursorsAt) (m : MachineState) → E.are_of entries.now m → AreTold cursors_at m self.old →
             IfOk result (λ batch. arc_value batch ≡ batch_of m from count) }
         ensures told { (cursors_at : CursorsAt) (m : MachineState) → E.are_of entries.now m → AreTold cursors_at m self.old → AreTold cursors_at m self.new }
+        ensures kept { IfOk result (λ batch. self.new.batch ≡ Some (arc_value batch)) }
         ensures sources { self.new.sources ≡ self.old.sources }
+        ensures same { OnErr result (self.new ≡ self.old) }
     {
         entries.begins();
         let kept = self.kept_batch(from, count)?;
@@ -236,18 +317,33 @@ impl Multiplexer {
         }
     }
 
-    // A source of the publication that begins at this place of the history. Where there are as many as
-    // may be kept, the others go.
+    // Makes room for one source more: where there are as many as may be kept, one that is far behind goes; where none is, all go.
+    fn make_room(&mut self, from: u64)
+        ensures room { length self.new.sources < max_sources }
+        ensures same { length self.old.sources < max_sources → self.new ≡ self.old }
+        ensures batch { self.new.batch ≡ self.old.batch }
+        ensures keeps { (cursors_at : CursorsAt) (m : MachineState) → AreTold cursors_at m self.old → AreTold cursors_at m self.new }
+    {
+        if self.sources.len() < MAX_SOURCES {
+            return;
+        }
+        match place_behind(self.sources.as_slice(), from) {
+            Some(place) => drop(self.sources.remove(place)),
+            None => self.sources.clear(),
+        }
+    }
+
+    // A source of the publication that begins at this place of the history.
     fn begin(&mut self, name: &Text, params: &Items, from: u64) -> Result<usize, Mem>
         ensures within { IfOk result (λ place. place < length self.new.sources) }
         ensures place { IfOk result (IsPlaceOf self.new.sources name.now params.now) }
         ensures known { IfOk result (λ place. (until : ℕ) → known_by (slice_get self.new.sources place) from until ≡ from) }
         ensures keeps { (cursors_at : CursorsAt) (m : MachineState) → from ≤ length m.history → AreTold cursors_at m self.old → AreTold cursors_at m self.new }
+        ensures others { length self.old.sources < max_sources → OthersStay name.now params.now self.old.sources self.new.sources }
+        ensures batch { self.new.batch ≡ self.old.batch }
     {
         let source = Source::new(self.alloc, name, params, from)?;
-        if self.sources.len() >= MAX_SOURCES {
-            self.sources.clear();
-        }
+        self.make_room(from);
         self.sources.push(source)?;
         Ok(self.sources.len() - 1)
     }
@@ -259,6 +355,8 @@ impl Multiplexer {
         ensures known { IfOk result (λ place. (until : ℕ) →
             known_by (slice_get self.new.sources place) from until ≡ known_in self.old.sources name.now params.now from until) }
         ensures keeps { (cursors_at : CursorsAt) (m : MachineState) → from ≤ length m.history → AreTold cursors_at m self.old → AreTold cursors_at m self.new }
+        ensures others { LeavesOthers name.now params.now self.old.sources self.new.sources }
+        ensures batch { self.new.batch ≡ self.old.batch }
     {
         match place_of(self.sources.as_slice(), name, params) {
             Some(place) => Ok(place),
@@ -285,6 +383,8 @@ impl Multiplexer {
         ensures keeps { (cursors_at : CursorsAt) (m : MachineState) → E.are_of entries.now m → AreTold cursors_at m self.old →
             IsSource cursors_at sub.now → AreTold cursors_at m self.new }
         ensures source { IfOk result (HasItsSource self.new.sources) }
+        ensures others { LeavesOthers sub.now.name sub.now.params self.old.sources self.new.sources }
+        ensures batch { self.new.batch ≡ self.old.batch }
         ensures grows { steps.old ≤ steps.new }
         ensures ticks { (m : MachineState) → E.are_of entries.now m →
             steps.new ≤ steps.old + looks (length observer.now) m (known_in self.old.sources sub.now.name sub.now.params from until) until }
@@ -311,7 +411,8 @@ impl Multiplexer {
     /// document that is published then or none; and the texts of these that are known. None where no one
     /// observes. The span is lent: `learn` puts it back, for which its publication has a source. Each change of
     /// an entry that is not known yet is looked at twice at most for each cursor, and no document of one that
-    /// is.
+    /// is. What is told by the sources of other publications stays, unless a new source has no room beside them:
+    /// then one that is far behind goes, or all do.
     pub fn span<E: Entries, L: Ledger>(
         &mut self,
         entries: &E,
@@ -332,6 +433,8 @@ impl Multiplexer {
         ensures keeps { (cursors_at : CursorsAt) (m : MachineState) → E.are_of entries.now m → AreTold cursors_at m self.old →
             IsSource cursors_at sub.now → AreTold cursors_at m self.new }
         ensures source { IfOk result (λ answer. IfSome answer (HasItsSource self.new.sources)) }
+        ensures others { LeavesOthers sub.now.name sub.now.params self.old.sources self.new.sources }
+        ensures batch { self.new.batch ≡ self.old.batch }
         ensures grows { steps.old ≤ steps.new }
         ensures ticks { (cursors_at : CursorsAt) (m : MachineState) → E.are_of entries.now m → IsSource cursors_at sub.now →
             steps.new ≤ steps.old
@@ -349,12 +452,46 @@ impl Multiplexer {
         }
     }
 
+    /// What the publication of the subscription, which has no limited cursor, tells of the entries between the places
+    /// of their history, as `span` does, where each of them is known: none is asked for, and no document is looked at.
+    /// None where one of them is not known. The span is lent: `learn` puts it back. Other publications keep theirs as
+    /// they are.
+    pub fn known(&mut self, sub: &Sub, from: u64, until: u64) -> Result<Option<Lent>, Mem>
+        ensures lent { (cursors_at : CursorsAt) (m : MachineState) → AreTold cursors_at m self.old → IsSource cursors_at sub.now →
+            IfOk result (λ answer. IfSome answer (IsLent m sub.now from until)) }
+        ensures keeps { (cursors_at : CursorsAt) (m : MachineState) → AreTold cursors_at m self.old → IsSource cursors_at sub.now →
+            AreTold cursors_at m self.new }
+        ensures source { IfOk result (λ answer. IfSome answer (HasItsSource self.new.sources)) }
+        ensures others { OthersStay sub.now.name sub.now.params self.old.sources self.new.sources }
+        ensures batch { self.new.batch ≡ self.old.batch }
+        ensures known { from < until → until ≤ known_in self.old.sources sub.now.name sub.now.params from until →
+            IfOk result (λ answer. is_some answer ≡ true) }
+    {
+        match place_of(self.sources.as_slice(), &sub.name, &sub.params) {
+            Some(place) => lend_known(&mut self.sources, place, sub, from, until),
+            None => Ok(None),
+        }
+    }
+
+    /// Whether the publication of the subscription has a source, or may have one at this place of the history while no other
+    /// goes but one that is far behind.
+    pub fn has_room(&self, sub: &Sub, from: u64) -> bool
+        ensures { result ≡ has_room self.now.sources sub.now.name sub.now.params from }
+    {
+        let sources = self.sources.as_slice();
+        has_source(sources, &sub.name, &sub.params)
+            || sources.len() < MAX_SOURCES
+            || place_behind(sources, from).is_some()
+    }
+
     /// The span, with the texts that are known now, is put back: a text is known of a publish where each
     /// client is told it that sees the document as it was published before the span. Others may have
     /// asked meanwhile, and the history may have got longer. Where its publication still has a source, all
-    /// of the span is known then.
+    /// of the span is known then. Other publications keep theirs as they are.
     pub fn learn(&mut self, lent: Lent)
         ensures known { HasItsSource self.old.sources lent → IsKnownWhole self.new.sources lent }
+        ensures others { OthersStay lent.name (arc_value lent.params) self.old.sources self.new.sources }
+        ensures batch { self.new.batch ≡ self.old.batch }
         ensures told { (cursors_at : CursorsAt) (m : MachineState) (sub : ASub) (from until : ℕ) → AreTold cursors_at m self.old →
             IsSource cursors_at sub → IsLent m sub from until lent → AreTold cursors_at m self.new }
     {

@@ -1,12 +1,12 @@
 //! What a publication tells of entries, one by one.
-ghost use Rattle.std.specs.Prelude.{◌≡◌, ℕ, ◌+◌, ◌-◌, ◌*◌, ◌≤◌, ◌<◌, ◌==◌, ◌&&◌, length, map, is_some, Some, IfOk, IfSome, OnOk, OnErr, IsTrue};
+ghost use Rattle.std.specs.Prelude.{◌≡◌, ℕ, ◌+◌, ◌-◌, ◌*◌, ◌≤◌, ◌<◌, ◌==◌, ◌&&◌, length, map, true, is_some, Some, IfOk, IfSome, OnOk, OnErr, IsTrue};
 ghost use Rattle.std.specs.Arc.{arc_value};
 ghost use Rattle.publication.specs.Cursors.{ACursors};
 ghost use Rattle.live_observer.specs.Observing.{cursors_of, HaveNoLimit};
 ghost use Rattle.store_machine.specs.State.{MachineState, programs};
 ghost use Rattle.multiplexer.specs.Bounds.{max_entries, max_bytes, bytes_in, IsSmall};
 ghost use Rattle.multiplexer.specs.Inside.{seen_entry, seen_span, news_told};
-ghost use Rattle.multiplexer.specs.Looks.{looks, is_last, is_for, told_until, known_until};
+ghost use Rattle.multiplexer.specs.Looks.{looks, is_last, is_for, is_behind, told_until, known_until};
 ghost use Rattle.multiplexer.specs.Sources.{max_span, source_of, reached, without_first, trimmed, with_one, next_of, IsToldBy, IsAlike, IsOf};
 ghost use Rattle.multiplexer.specs.Sources.{TellsBy, with_last, without_last, HasAll};
 ghost use Rattle.multiplexer.specs.Telling.{IsSpan};
@@ -167,6 +167,13 @@ impl Source {
         ensures { result ≡ next_of self.now }
     {
         self.first + self.ones.len() as u64
+    }
+
+    /// Whether it is so far behind that nothing that it was told would be kept for an entry at this place.
+    pub(crate) fn is_behind(&self, from: u64) -> bool
+        ensures { result ≡ is_behind from self.now }
+    {
+        from.saturating_sub(self.next()) >= MAX_ENTRIES as u64
     }
 
     // Begins anew at an entry so far on that what is told before would not be kept, or where the
@@ -361,11 +368,57 @@ impl Source {
         }
     }
 
+    // Whether the span that is kept is this one.
+    fn has_last(&self, from: u64, until: u64) -> bool
+        ensures { result ≡ is_last self.now.last from until }
+    {
+        match &self.last {
+            Some(last) => is_between(last, from, until),
+            None => false,
+        }
+    }
+
     // Whether all entries of a short span are kept.
     fn has(&self, from: u64, until: u64) -> bool
-        ensures { IsTrue result → HasAll self.now from until }
+        ensures has { IsTrue result → HasAll self.now from until }
+        ensures all { from < until → until ≤ told_until self.now from until → IsTrue result }
     {
         self.first <= from && from <= until && until <= self.next() && until - from <= MAX_SPAN
+    }
+
+    // What is told of a span all of whose entries are kept, with the texts that they know.
+    fn of_ones(&self, from: u64, until: u64) -> Result<Span, Mem>
+        requires { HasAll self.now from until }
+        ensures { (cursors : ACursors) (m : MachineState) → IsToldBy cursors m self.now → IfOk result (IsAsked cursors m from until) }
+    {
+        let told = self.told(from, until - from)?;
+        let open = open_places(self.allocator(), &told)?;
+        Ok(Span {
+            from,
+            until,
+            told: told.news,
+            texts: told.texts,
+            open,
+        })
+    }
+
+    /// What is told of the entries between the places, where each of them is known: none is asked for. It is no
+    /// longer kept. None where one of them is not known.
+    pub(crate) fn known_span(&mut self, from: u64, until: u64) -> Result<Option<Span>, Mem>
+        ensures same { IsAlike self.old self.new }
+        ensures small { IsSmall self.old → IsSmall self.new }
+        ensures keeps { (cursors : ACursors) (m : MachineState) → IsToldBy cursors m self.old → IsToldBy cursors m self.new }
+        ensures told { (cursors : ACursors) (m : MachineState) → IsToldBy cursors m self.old →
+            IfOk result (λ answer. IfSome answer (IsAsked cursors m from until)) }
+        ensures known { from < until → until ≤ known_until self.old from until → IfOk result (λ answer. is_some answer ≡ true) }
+    {
+        if self.has_last(from, until) {
+            Ok(self.known(from, until))
+        } else if self.has(from, until) {
+            Ok(Some(self.of_ones(from, until)?))
+        } else {
+            Ok(None)
+        }
     }
 
     // What is told of a span that is not kept, with the texts that its entries know.

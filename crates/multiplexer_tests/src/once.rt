@@ -1,4 +1,4 @@
-//! Two spans of one entry, and the two answers of an entry that comes and goes, put together.
+//! Two spans of one entry, one that is known, and the two answers of an entry that comes and goes, put together.
 ghost use Rattle.std.specs.Prelude.{◌≡◌, ◌+◌, ◌≤◌, length};
 ghost use Rattle.world_news_laws.specs.multiplexer.Looks.{looks, known_in};
 ghost use Rattle.world_news_laws.specs.multiplexer.Spans.{HasItsSource, IsLent};
@@ -183,6 +183,22 @@ fn tell_together(
     Ok(is_told(alloc, &told, wanted)? && multiplexer.kept() == 2)
 }
 
+// Whether the first entry is known once it was put back, and tells this, and the second one, for which nobody asked, is not.
+fn is_known(
+    alloc: Global,
+    multiplexer: &mut Multiplexer,
+    machine: &Machine,
+    sub: &Sub,
+    wanted: &str,
+) -> Result<bool, Fail> {
+    let lent = ask(multiplexer, machine, sub, 0)?;
+    multiplexer.learn(lent);
+    let second = multiplexer.known(sub, 1, 2)?;
+    let first = multiplexer.known(sub, 0, 1)?;
+    let first = first.ok_or("not known")?;
+    Ok(second.is_none() && is_told(alloc, &first.span.told, wanted)?)
+}
+
 #[test]
 fn an_entry_is_told_once(rt: HostRuntime) -> Result<(), Fail> {
     let alloc = rt.alloc();
@@ -213,5 +229,16 @@ fn an_entry_that_was_put_back_is_not_looked_at_again(rt: HostRuntime) -> Result<
     let machine = made(alloc, &app, &[INSERT])?;
     let lent = told_again(alloc, &machine, &app, &sub)?;
     assert!(rt; is_told(alloc, &lent.span.told, "t1+")?);
+    Ok(())
+}
+
+#[test]
+fn what_was_put_back_is_known(rt: HostRuntime) -> Result<(), Fail> {
+    let alloc = rt.alloc();
+    let app = app(alloc)?;
+    let sub = subscription(alloc, &app)?;
+    let machine = made(alloc, &app, &[INSERT, REMOVE])?;
+    let mut multiplexer = Multiplexer::new(alloc);
+    assert!(rt; is_known(alloc, &mut multiplexer, &machine, &sub, "t1+")?);
     Ok(())
 }

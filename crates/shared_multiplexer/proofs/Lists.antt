@@ -67,6 +67,11 @@ module _ (app : App) (xs ys : List Entry) (p : IsPrefix xs ys) where
   pub lent_in : (sub : Sub) (from until : ℕ) (lent : Lent) → IsLent (over app xs) sub from until lent → IsLent (over app ys) sub from until lent
   lent_in sub from until lent is = subst (λ (es : List Entry). IsLent (over app es) sub from until lent) p.1 (lent_longer (over app xs) p.0 sub from until lent is)
 
+  pub lent_on : {E : Type 0} (sub : Sub) (from until : ℕ) (result : Result (Option Lent) E) → IfOk result (λ answer. IfSome answer (IsLent (over app xs) sub from until)) → IfOk result (λ answer. IfSome answer (IsLent (over app ys) sub from until))
+  lent_on sub from until (Ok None) is = tt
+  lent_on sub from until (Ok (Some lent)) is = lent_in sub from until lent is
+  lent_on sub from until (Err e) is = tt
+
   pub lent_back : {E : Type 0} (sub : Sub) (from until : ℕ) (result : Result (Option Lent) E) → until ≤ length xs → IfOk result (λ answer. IfSome answer (IsLent (over app ys) sub from until)) → IfOk result (λ answer. IfSome answer (IsLent (over app xs) sub from until))
   lent_back sub from until (Ok None) le is = tt
   lent_back sub from until (Ok (Some lent)) le is = lent_of sub from until lent le is

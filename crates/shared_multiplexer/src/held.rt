@@ -1,9 +1,11 @@
 //! Multiplexers with a pass.
-ghost use Rattle.std.specs.Prelude.{◌≡◌, ◌+◌, ◌≤◌, length, is_some, IfOk, IfSome};
+ghost use Rattle.std.specs.Prelude.{◌≡◌, ◌+◌, ◌<◌, ◌≤◌, length, true, is_some, IfOk, IfSome};
 ghost use mathlib.Core.List.{IsPrefix};
+ghost use Rattle.std.specs.Arc.{arc_value};
 ghost use Rattle.pass_log.specs.History.{longer};
 ghost use Rattle.world_news_laws.specs.multiplexer.Bounds.{kept_in, bytes_kept};
-ghost use Rattle.world_news_laws.specs.multiplexer.Looks.{looks, known_in};
+ghost use Rattle.world_news_laws.specs.multiplexer.Looks.{looks, known_in, has_room};
+ghost use Rattle.world_news_laws.specs.multiplexer.Others.{OthersStay, LeavesOthers};
 ghost use Rattle.world_news_laws.specs.multiplexer.Spans.{HasItsSource, IsKnownWhole, IsLent};
 ghost use Rattle.world_news_laws.specs.multiplexer.Telling.{nothing_told, IsSource};
 ghost use Rattle.world_news_laws.specs.Sources.{cursors_at_of};
@@ -89,6 +91,7 @@ impl<N: StoreName> HeldMultiplexer<N> {
         ensures answers { IfOk result (λ answer. is_some answer ≡ is_some sub.now.observer) }
         ensures lent { IfOk result (λ answer. IfSome answer (IsLent (over N.app self.old.list) sub.now from (from + count))) }
         ensures source { IfOk result (λ answer. IfSome answer (HasItsSource self.new.news.sources)) }
+        ensures others { LeavesOthers sub.now.name sub.now.params self.old.news.sources self.new.news.sources }
         ensures list { self.new.list ≡ self.old.list }
         ensures grows { steps.old ≤ steps.new }
         ensures ticks { steps.new ≤ steps.old + looks (length sub.now.cursors) (over N.app self.old.list)
@@ -101,7 +104,8 @@ impl<N: StoreName> HeldMultiplexer<N> {
     /// What the publication of the subscription, which has no limited cursor, tells of so many entries of the note's
     /// list, behind the first `from`. None where no one observes. Each change of an entry that is not known yet is looked
     /// at twice at most for each cursor, and no document of one that is. The span is lent: `learn` takes it back, for which
-    /// its publication has a source.
+    /// its publication has a source. What is told by the sources of other publications stays, unless a new source has no
+    /// room beside them: then one that is far behind goes, or all do.
     pub fn span<L: Ledger>(
         &mut self,
         log: &Log<Entry, N>,
@@ -119,7 +123,10 @@ impl<N: StoreName> HeldMultiplexer<N> {
         ensures answers { IfOk result (λ answer. is_some answer ≡ is_some sub.now.observer) }
         ensures lent { IfOk result (λ answer. IfSome answer (IsLent (over N.app note) sub.now from (from + count))) }
         ensures source { IfOk result (λ answer. IfSome answer (HasItsSource self.new.news.sources)) }
+        ensures others { LeavesOthers sub.now.name sub.now.params self.old.news.sources self.new.news.sources }
         ensures list { self.new.list ≡ longer self.old.list note }
+        ensures own { IsPrefix self.old.list self.new.list }
+        ensures theirs { IsPrefix note self.new.list }
         ensures grows { steps.old ≤ steps.new }
         ensures ticks { steps.new ≤ steps.old + looks (length sub.now.cursors) (over N.app note)
             (known_in self.old.news.sources sub.now.name sub.now.params from (from + count)) (from + count) }
@@ -129,12 +136,72 @@ impl<N: StoreName> HeldMultiplexer<N> {
         self.told(entries, sub, from, count, steps)
     }
 
+    /// Whether the publication of the subscription has a source, or may have one at this place of the history while no other
+    /// goes but one that is far behind.
+    pub fn has_room(&self, sub: &Sub, from: u64) -> bool
+        ensures { result ≡ has_room self.now.news.sources sub.now.name sub.now.params from }
+    {
+        self.multiplexer.has_room(sub, from)
+    }
+
+    // A note of the pass's list.
+    fn note(&mut self, log: &Log<Entry, N>) -> Note<Entry, N>
+        ensures note { result ≡ self.old.list }
+        ensures same { self.new ≡ self.old }
+    {
+        self.pass.note(log)
+    }
+
+    // What is known of entries of the pass's list.
+    fn known_here(&mut self, sub: &Sub, from: u64, until: u64) -> Result<Option<Lent>, Mem>
+        requires { IsSource (cursors_at_of N.app) sub.now }
+        ensures lent { IfOk result (λ answer. IfSome answer (IsLent (over N.app self.old.list) sub.now from until)) }
+        ensures source { IfOk result (λ answer. IfSome answer (HasItsSource self.new.news.sources)) }
+        ensures others { OthersStay sub.now.name sub.now.params self.old.news.sources self.new.news.sources }
+        ensures list { self.new.list ≡ self.old.list }
+        ensures known { from < until → until ≤ known_in self.old.news.sources sub.now.name sub.now.params from until →
+            IfOk result (λ answer. is_some answer ≡ true) }
+    {
+        self.multiplexer.known(sub, from, until)
+    }
+
+    /// What the publication of the subscription, which has no limited cursor, tells of the entries between the places,
+    /// where each of them is known: none is asked for, and no document is looked at. None where one of them is not known.
+    /// The span is lent: `learn` takes it back. Both passes have met then. Other publications keep theirs as they are.
+    pub fn known(
+        &mut self,
+        log: &Log<Entry, N>,
+        sub: &Sub,
+        from: u64,
+        until: u64,
+        pass: &mut StorePass<N>,
+    ) -> Result<Option<Lent>, Mem>
+        requires { IsSource (cursors_at_of N.app) sub.now }
+        ensures lent { IfOk result (λ answer. IfSome answer (IsLent (over N.app pass.new) sub.now from until)) }
+        ensures source { IfOk result (λ answer. IfSome answer (HasItsSource self.new.news.sources)) }
+        ensures others { OthersStay sub.now.name sub.now.params self.old.news.sources self.new.news.sources }
+        ensures grows { IsPrefix pass.old pass.new }
+        ensures list { self.new.list ≡ longer self.old.list pass.old }
+        ensures own { IsPrefix self.old.list self.new.list }
+        ensures theirs { IsPrefix pass.old self.new.list }
+        ensures known { from < until → until ≤ known_in self.old.news.sources sub.now.name sub.now.params from until →
+            IfOk result (λ answer. is_some answer ≡ true) }
+    {
+        self.meet(log, pass.note(log));
+        pass.meet(log, self.note(log));
+        self.known_here(sub, from, until)
+    }
+
     /// The span, which was lent of the note's list, is put back with the texts that are known now. Others may have asked
-    /// meanwhile. Where its publication still has a source, all of the span is known then.
+    /// meanwhile. Where its publication still has a source, all of the span is known then. Other publications keep theirs as
+    /// they are.
     pub fn learn(&mut self, log: &Log<Entry, N>, lent: Lent, note: Note<Entry, N>)
         requires { WasLent N.app note lent }
         ensures known { HasItsSource self.old.news.sources lent → IsKnownWhole self.new.news.sources lent }
+        ensures others { OthersStay lent.name (arc_value lent.params) self.old.news.sources self.new.news.sources }
         ensures list { self.new.list ≡ longer self.old.list note }
+        ensures own { IsPrefix self.old.list self.new.list }
+        ensures theirs { IsPrefix note self.new.list }
     {
         self.pass.meet(log, note);
         self.multiplexer.learn(lent);

@@ -116,6 +116,33 @@ impl<N: StoreName> SharedMultiplexer<N> {
         )
     }
 
+    // Whether the publication of the subscription has a source, or may have one at this place of the history while no other
+    // goes but one that is far behind. Others may ask meanwhile.
+    pub(crate) fn has_room<R: Wait>(&self, rt: &R, sub: &Sub, from: u64) -> bool {
+        let held = self.held.lock(rt);
+        held.has_room(sub, from)
+    }
+
+    /// What the publication of the subscription, which has no limited cursor, tells of the entries between the places of
+    /// the history, where each of them is known: none is asked for, and no store. None where one of them is not known.
+    /// The span is lent, as by `span`. The pass knows then what the multiplexer does.
+    pub fn known<R: Wait>(
+        &self,
+        rt: &R,
+        log: &Log<Entry, N>,
+        sub: &Sub,
+        from: u64,
+        until: u64,
+        pass: &mut StorePass<N>,
+    ) -> Result<Option<Lent>, Mem>
+        requires { IsSource (cursors_at_of N.app) sub.now }
+        ensures lent { IfOk result (λ answer. IfSome answer (IsLent (over N.app pass.new) sub.now from until)) }
+        ensures grows { IsPrefix pass.old pass.new }
+    {
+        let mut held = self.held.lock(rt);
+        held.known(log, sub, from, until, pass)
+    }
+
     /// The span, which was lent of the note's list, is put back with the texts that are known now.
     pub fn learn<R: Wait>(&self, rt: &R, log: &Log<Entry, N>, lent: Lent, note: Note<Entry, N>)
         requires { WasLent N.app note lent }

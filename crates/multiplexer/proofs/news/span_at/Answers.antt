@@ -5,6 +5,7 @@ use Rattle.multiplexer.specs.Sources.{IsOf}
 use Rattle.multiplexer.specs.Telling.{ASource}
 use Rattle.multiplexer.proofs.Sources.{all_told, of_place, place_there, set_length, set_there}
 use Rattle.multiplexer.proofs.Weights.{bounded_with}
+use Rattle.multiplexer.proofs.Others.{others_set}
 use Rattle.multiplexer.proofs.news.span_at.Goals as goal
 
 pub returns-clause-bounded : goal.returns-clause-bounded
@@ -33,3 +34,12 @@ returns-clause-place g c =
     let was = of_place sources sub.name sub.params c.index_mut.result.now c.args.place at c.requires.place in
     let now : IsOf sub.name sub.params c.span.new.self = record { name_is = c.span.ensures.same.name ∙ was.name_is; params_are = c.span.ensures.same.params ∙ was.params_are } in
     place_there _ sub.name sub.params c.span.new.self c.args.place (set_there sources c.args.place c.index_mut.result.now c.span.new.self at) now
+
+pub returns-clause-others : goal.returns-clause-others
+returns-clause-others g c =
+    let sources = c.args.sources.now.items in
+    let sub = c.args.sub.now in
+    let at = slice_get_read sources (length sources) c.args.place c.index_mut.result.now refl c.requires.there c.index_mut.ensures.value in
+    let was = of_place sources sub.name sub.params c.index_mut.result.now c.args.place at c.requires.place in
+    let now : IsOf sub.name sub.params c.span.new.self = record { name_is = c.span.ensures.same.name ∙ was.name_is; params_are = c.span.ensures.same.params ∙ was.params_are } in
+    others_set sub.name sub.params sources c.args.place c.index_mut.result.now c.span.new.self at was now

@@ -7,6 +7,8 @@ use Rattle.multiplexer.proofs.Finds.{found_some}
 use Rattle.multiplexer.proofs.Sources.{of_place}
 use Rattle.multiplexer.specs.Looks.{HasSource}
 use Rattle.multiplexer.specs.Telling.{ASource, ANews, AreTold}
+use Rattle.multiplexer.specs.Others.{OthersStay}
+use Rattle.multiplexer.proofs.Others.{others_then}
 use Rattle.multiplexer.proofs.news.Multiplexer.told.Goals as goal
 
 pub returns-in_err-place-clause-keeps : goal.returns-in_err-place-clause-keeps
@@ -51,3 +53,17 @@ returns-clause-source g c =
     let of = of_place sources sub.name sub.params x place at placed in
     let has = found_some sub.name sub.params after place c.span_at.ensures.there c.span_at.ensures.place in
     subst (λ (n : List ℕ). HasSource after n (arc_value c.in_ok-params.params)) (sym c.in_ok-name.ensures) (subst (λ (ps : List Val). HasSource after sub.name ps) (sym (c.in_ok-params.ensures ∙ of.params_are)) has)
+
+pub returns-in_err-span-clause-others : goal.returns-in_err-span-clause-others
+returns-in_err-span-clause-others g c = λ room.
+    let sub = c.args.sub.now in
+    let old = c.args.self.now.sources in
+    let placed = subst (λ (news : ANews). OthersStay sub.name sub.params old news.sources) (sym c.self.view_is) (c.place.ensures.others room) in
+    others_then sub.name sub.params old c.self.inside.sources.items c.span_at.new.sources.items placed c.span_at.ensures.others
+
+pub returns-clause-others : goal.returns-clause-others
+returns-clause-others g c = λ room.
+    let sub = c.args.sub.now in
+    let old = c.args.self.now.sources in
+    let placed = subst (λ (news : ANews). OthersStay sub.name sub.params old news.sources) (sym c.self.view_is) (c.place.ensures.others room) in
+    others_then sub.name sub.params old c.self.inside.sources.items c.span_at.new.sources.items placed c.span_at.ensures.others

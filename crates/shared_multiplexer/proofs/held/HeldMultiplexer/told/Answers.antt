@@ -1,6 +1,7 @@
 use Rattle.std.proofs.Common.{◌+◌, ◌≤◌, length, sym, subst}
 use Rattle.std.specs.Prelude.{IfOk, IfSome}
 use Rattle.world_news_laws.specs.multiplexer.Looks.{looks, known_in}
+use Rattle.world_news_laws.specs.multiplexer.Others.{LeavesOthers}
 use Rattle.world_news_laws.specs.multiplexer.Spans.{IsLent}
 use Rattle.world_news_laws.specs.Sources.{cursors_at_of}
 use Rattle.shared_multiplexer.specs.Copied.{AreCopiedOf}
@@ -37,3 +38,8 @@ returns-clause-known g c = λ known.
     let until = c.args.from + c.args.count in
     let sub = c.args.sub.now in
     c.span.ensures.known (over app c.self.inside.pass) are (subst (λ (h : AHeldNews). until ≤ known_in h.news.sources sub.name sub.params c.args.from until) (sym c.self.view_is) known)
+
+pub returns-clause-others : goal.returns-clause-others
+returns-clause-others g c =
+    let sub = c.args.sub.now in
+    subst (λ (h : AHeldNews). LeavesOthers sub.name sub.params h.news.sources c.span.new.self.sources) c.self.view_is c.span.ensures.others
