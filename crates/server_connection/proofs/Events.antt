@@ -3,6 +3,7 @@ use Rattle.std.specs.Prelude.{◌≡◌, ◌⊎◌, ℕ, ◌≤◌, ◌==◌, Li
 use Rattle.std.proofs.Common.{ap, ap₂, sym, subst, ◌∙◌, arith, inl, inr, length-append, ⊎_elim}
 use Rattle.std.proofs.lemmas.Bool.{eqb-true, eq-eqb}
 use Rattle.ejson_value.specs.declared.change.Change.{Change}
+use Rattle.ejson_value.specs.declared.change.Publish.{Publish}
 use Rattle.ejson_value.specs.declared.key.Key.{Key}
 use Rattle.ejson_value.specs.Rows.{Rows}
 use Rattle.value_model.specs.Val.{Entries}
@@ -24,9 +25,9 @@ use Rattle.session_journal_laws.specs.declared.stored.Stored.{Stored}
 use Rattle.session_laws.specs.declared.fault.EventFault.TheVariants as fault
 use Rattle.session_laws.specs.Session.{ASession, is_full, IsCause, can_handle, can_load, can_advance, can_learn, can_refuse}
 use Rattle.session_laws.specs.Adding.{HasAdded}
-use Rattle.session_laws.specs.Events.{Outcome, IsTakenAs, IsTakeCause, Takes, HasHandled, Handles, Loads, Advances, IsLearnt, Learns, Refuses, Sends}
+use Rattle.session_laws.specs.Events.{Outcome, IsTakenAs, IsTakeCause, Takes, HasHandled, Handles, Loads, Advances, Feeds, IsLearnt, Learns, Refuses, Sends}
 use Rattle.shared_session.specs.Held.{AHeld, Stands}
-use Rattle.shared_session.specs.Events.{Keeps, TakesHeld, HandlesHeld, SendsHeld, LoadsHeld, AdvancesHeld, LearnsHeld, RefusesHeld, Meets}
+use Rattle.shared_session.specs.Events.{Keeps, TakesHeld, HandlesHeld, SendsHeld, LoadsHeld, AdvancesHeld, FeedsHeld, LearnsHeld, RefusesHeld, Meets}
 use Rattle.server_connection.specs.Looks.{IsStill, Stays, Sees, StopsEvent, end_by}
 
 -- ---- what stays
@@ -80,6 +81,10 @@ loads_still sub place rows old new (Err e) a = still_same old new a.same
 advances_still : (sub from count : ℕ) (changes : List Change) (old new : ASession) (r : Outcome) → Advances sub from count changes old new r → IsStill old new
 advances_still sub from count changes old new (Ok u) a = added_still _ _ _ (item.advance sub count) _ old new a.done.done
 advances_still sub from count changes old new (Err e) a = still_same old new a.same
+
+feeds_still : (sub count : ℕ) (news : List Publish) (old new : ASession) (r : Outcome) → Feeds sub count news old new r → IsStill old new
+feeds_still sub count news old new (Ok u) a = added_still _ _ _ (item.advance sub count) _ old new a.done.done
+feeds_still sub count news old new (Err e) a = still_same old new a.same
 
 learnt_still : (k : ℕ) (o : Option End) (old new : ASession) → IsLearnt k o old new → IsStill old new
 learnt_still k (Some end) old new a = added_still _ _ _ (item.finished k end.at) _ old new a.added
@@ -201,3 +206,24 @@ module _ (sub from count : ℕ) (changes : List Change) (note : List Entry) (old
 
   pub advance_ends : IfErr (end_by r) (StopsEvent new.session)
   advance_ends = advance_both.1
+
+-- ---- what was lent
+
+-- the session learns of more of the history, and nothing comes of it
+pub meets_sees : (known : List Entry) (old new : AHeld) → Meets known old new → new.session ≡ old.session → Keeps old new → Sees known old new
+meets_sees known old new meets same keeps = record { still = still_same old.session new.session same; meets = meets; keeps = keeps }
+
+module _ (sub from count : ℕ) (news : List Publish) (known : List Entry) (old new : AHeld) (r : Outcome) (a : FeedsHeld sub from count news known old new r) where
+  feed_both : IsStill old.session new.session × IfErr (end_by r) (StopsEvent new.session)
+  feed_both =
+      ⊎_elim
+      (λ (is : cursor_of sub old.session.carried.own.subs ≡ Some from).
+      let s = a.feeds.0 is in (feeds_still sub count news old.session new.session r s, stops (can_advance sub count old.session) r old.session new.session s.cause s.same))
+      (λ (not : cursor_of sub old.session.carried.own.subs ≡ Some from → ⊥). let s = a.feeds.1 not in (still_same old.session new.session s.same, elsewhere_ends r new.session s.idle))
+      (is_there from (cursor_of sub old.session.carried.own.subs))
+
+  pub feed_sees : Sees known old new
+  feed_sees = record { still = feed_both.0; meets = a.meets; keeps = a.keeps }
+
+  pub feed_ends : IfErr (end_by r) (StopsEvent new.session)
+  feed_ends = feed_both.1

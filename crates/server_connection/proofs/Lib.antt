@@ -1,6 +1,7 @@
 pub mod Turns
 pub mod Journals
 pub mod Events
+pub mod Copies
 pub mod Counts
 pub mod Works
 pub mod Rounds

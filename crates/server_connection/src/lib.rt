@@ -1,6 +1,7 @@
 //! The loop that serves one connection: a session of a shared store, and the link to its client.
 #![tactic(auto)]
 
+mod bringing;
 mod desk;
 mod ended;
 mod ending;

@@ -7,6 +7,7 @@ use crate::running::run;
 use crate::showing::show;
 use crate::taking::handle;
 use crate::wakes::Wakes;
+use shared_multiplexer::SharedMultiplexer;
 use shared_session::HeldSession;
 use shared_store::{Caller, SharedStore};
 use std::sync::Wait;
@@ -16,6 +17,7 @@ use store_name::{StoreName, StorePass};
 pub(crate) fn look<R: Wait, N: StoreName, W: Wakes>(
     rt: &R,
     store: &SharedStore<N>,
+    multiplexer: &SharedMultiplexer<N>,
     wake: &W,
     pass: &mut StorePass<N>,
     caller: &mut Caller<N>,
@@ -29,7 +31,7 @@ pub(crate) fn look<R: Wait, N: StoreName, W: Wakes>(
     handle(session)?;
     run(rt, store, wake, pass, caller, session)?;
     if shows {
-        show(rt, store, pass, caller, session)?;
+        show(rt, store, multiplexer, pass, caller, session)?;
     }
     Ok(())
 }

@@ -19,6 +19,7 @@ use crate::taking::take_held;
 use crate::wakes::Wakes;
 use duct::Link;
 use ejson_value::Mem;
+use shared_multiplexer::SharedMultiplexer;
 use shared_session::HeldSession;
 use shared_store::{Caller, SharedStore};
 use std::sync::Wait;
@@ -103,6 +104,7 @@ fn listen<R: Wait, N: StoreName, L: Link>(
 fn round<R: Wait, N: StoreName, L: Link, W: Wakes>(
     rt: &R,
     store: &SharedStore<N>,
+    multiplexer: &SharedMultiplexer<N>,
     wake: &W,
     pass: &mut StorePass<N>,
     caller: &mut Caller<N>,
@@ -123,7 +125,16 @@ fn round<R: Wait, N: StoreName, L: Link, W: Wakes>(
         Ok(()) => {}
         Err(end) => return Err(end),
     }
-    match look(rt, store, wake, pass, caller, session, desk.back.is_none()) {
+    match look(
+        rt,
+        store,
+        multiplexer,
+        wake,
+        pass,
+        caller,
+        session,
+        desk.back.is_none(),
+    ) {
         Ok(()) => listen(rt, session, pass.len(), desk, link),
         Err(end) => Err(end),
     }
@@ -133,6 +144,7 @@ fn round<R: Wait, N: StoreName, L: Link, W: Wakes>(
 fn serve<R: Wait, N: StoreName, L: Link, W: Wakes>(
     rt: &R,
     store: &SharedStore<N>,
+    multiplexer: &SharedMultiplexer<N>,
     wake: &W,
     pass: &mut StorePass<N>,
     caller: &mut Caller<N>,
@@ -152,7 +164,17 @@ fn serve<R: Wait, N: StoreName, L: Link, W: Wakes>(
         refused: false,
     };
     for _ in rt.forever() {
-        if let Err(end) = round(rt, store, wake, pass, caller, session, &mut desk, link) {
+        if let Err(end) = round(
+            rt,
+            store,
+            multiplexer,
+            wake,
+            pass,
+            caller,
+            session,
+            &mut desk,
+            link,
+        ) {
             return end;
         }
     }
@@ -184,6 +206,7 @@ fn meet<N: StoreName>(
 pub fn serve_connection<R: Wait, N: StoreName, L: Link, W: Wakes>(
     rt: &R,
     store: &SharedStore<N>,
+    multiplexer: &SharedMultiplexer<N>,
     wake: &W,
     pass: &mut StorePass<N>,
     caller: &mut Caller<N>,
@@ -199,7 +222,7 @@ pub fn serve_connection<R: Wait, N: StoreName, L: Link, W: Wakes>(
     if meet(store, pass, session).is_err() {
         return Ended::Memory;
     }
-    let end = serve(rt, store, wake, pass, caller, session, link);
+    let end = serve(rt, store, multiplexer, wake, pass, caller, session, link);
     match end_runs(rt, store, wake, pass, session, caller.number()) {
         Ok(()) => end,
         Err(_) => Ended::Memory,

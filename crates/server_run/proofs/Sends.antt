@@ -19,6 +19,7 @@ use Rattle.duct.specs.declared.link.Link as link
 use Rattle.crossing.proofs.Captures.{fields_send, fields_sync}
 use Rattle.crossing.proofs.Values.{app_send, app_sync}
 use Rattle.crossing.proofs.Store.{held_send, pass_send, caller_send}
+use Rattle.multiplexer_crossing.proofs.Multiplexer.{multiplexer_field_send, multiplexer_field_sync}
 use Rattle.server_run.specs.contracts.hall.Hall as hall
 use Rattle.server_run.specs.contracts.attending.Guest as guest
 
@@ -35,12 +36,12 @@ module _ (N L B : RattleType) (s : store_name.Ghosts N.Denot) (l : log_name.Ghos
   pub hall_send : IsSend B → IsSend (hall.the_row N L B s l k b)
   hall_send rings =
       let a : IsSend global.the_field.row = search sendable depth 20 in
-      fields_send (hall.the_type N L B s l k b) (a, (app_send, (store_send, (mutex.the_send (slab_row.the_row B global.the_row heap.ghosts) (places_send rings), tt))))
+      fields_send (hall.the_type N L B s l k b) (a, (app_send, (store_send, (multiplexer_field_send N l s b, (mutex.the_send (slab_row.the_row B global.the_row heap.ghosts) (places_send rings), tt)))))
 
   pub hall_sync : IsSend B → IsSync (hall.the_row N L B s l k b)
   hall_sync rings =
       let a : IsSync global.the_field.row = search sendable depth 20 in
-      fields_sync (hall.the_type N L B s l k b) (a, (app_sync, (store_sync, (mutex.the_sync (slab_row.the_row B global.the_row heap.ghosts) (places_send rings), tt))))
+      fields_sync (hall.the_type N L B s l k b) (a, (app_sync, (store_sync, (multiplexer_field_sync N l s b, (mutex.the_sync (slab_row.the_row B global.the_row heap.ghosts) (places_send rings), tt)))))
 
 module _ (N L : RattleType) (s : store_name.Ghosts N.Denot) (l : log_name.Ghosts N.Denot) (b : ledger.Ghosts N.Denot) where
   pub guest_send : IsSend L → IsSend (guest.the_row N L s l b)

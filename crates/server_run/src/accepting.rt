@@ -9,6 +9,7 @@ use crate::hall::{Hall, PLACES};
 use app_model::App;
 use duct::{Link, NetFault, Network};
 use ejson_value::Mem;
+use shared_multiplexer::SharedMultiplexer;
 use shared_store::{Callers, SharedStore, StoreName, StorePass};
 use std::alloc::Global;
 use std::sync::{Arc, Wait};
@@ -34,12 +35,13 @@ impl<N: StoreName + Send + Sync + 'static, L: Link + Send + Drop + 'static> Door
         alloc: Global,
         app: &App,
         store: SharedStore<N>,
-        pass: StorePass<N>,
+        mut pass: StorePass<N>,
         callers: Callers<N>,
     ) -> Result<Door<N, L>, Mem>
         requires { app.now ≡ N.app }
     {
-        let hall = Arc::new(alloc, Hall::new(alloc, app.copy()?, store))?;
+        let multiplexer = SharedMultiplexer::make(alloc, pass.note(store.log()).pass());
+        let hall = Arc::new(alloc, Hall::new(alloc, app.copy()?, store, multiplexer))?;
         let mut threads = Vec::new(alloc);
         for _ in 0..PLACES {
             threads.push(None)?;

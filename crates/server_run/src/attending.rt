@@ -47,6 +47,7 @@ fn serve_guest<R: Wait, N: StoreName, L: Link + Drop>(
         serve_connection(
             rt,
             &hall.store,
+            &hall.multiplexer,
             &others,
             &mut pass,
             &mut caller,

@@ -4,6 +4,7 @@ ghost use Rattle.std.specs.Prelude.{◌≡◌};
 use app_model::App;
 use duct::{Bell, Link};
 use server_connection::Wakes;
+use shared_multiplexer::SharedMultiplexer;
 use shared_store::{SharedStore, StoreName};
 use slab::Slab;
 use std::alloc::Global;
@@ -12,25 +13,32 @@ use std::sync::{Mutex, Wait};
 /// How many connections have a place at once.
 pub const PLACES: usize = 128;
 
-/// The store, its application, and the places of the connections, each with the bell of its link.
+/// The store, its application, what publications tell of its history, and the places of the connections, each with the bell of its link.
 #[derive(Drop)]
 pub(crate) struct Hall<N: StoreName, L: Link> {
     pub(crate) alloc: Global,
     pub(crate) app: App,
     pub(crate) store: SharedStore<N>,
+    pub(crate) multiplexer: SharedMultiplexer<N>,
     places: Mutex<Slab<L::Bell>>,
     ghost of: { app ≡ N.app },
 }
 
 impl<N: StoreName, L: Link> Hall<N, L> {
     /// A hall with no connection.
-    pub(crate) fn new(alloc: Global, app: App, store: SharedStore<N>) -> Hall<N, L>
+    pub(crate) fn new(
+        alloc: Global,
+        app: App,
+        store: SharedStore<N>,
+        multiplexer: SharedMultiplexer<N>,
+    ) -> Hall<N, L>
         requires { app ≡ N.app }
     {
         Hall {
             alloc,
             app,
             store,
+            multiplexer,
             places: Mutex::new(Slab::new(alloc)),
         }
     }

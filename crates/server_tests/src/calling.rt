@@ -6,6 +6,7 @@ use duct::{Link, NetFault, Network};
 use ejson_value::Mem;
 use server_connection::{Ended, Wakes, serve_connection};
 use server_run::serve;
+use shared_multiplexer::SharedMultiplexer;
 use shared_session::HeldSession;
 use shared_store::{Caller, SharedStore, StoreName, StorePass};
 use std::alloc::Global;
@@ -36,7 +37,17 @@ pub(crate) fn serve_link<N: StoreName, R: Wait, L: Link>(
 {
     let own = pass.note(store.log()).pass();
     let mut session = HeldSession::make(alloc, app, caller.number(), own)?;
-    let end = serve_connection(rt, store, &Nobody, pass, caller, &mut session, link);
+    let multiplexer = SharedMultiplexer::make(alloc, pass.note(store.log()).pass());
+    let end = serve_connection(
+        rt,
+        store,
+        &multiplexer,
+        &Nobody,
+        pass,
+        caller,
+        &mut session,
+        link,
+    );
     Ok((end, pass.len()))
 }
 

@@ -6,6 +6,7 @@ ghost use Rattle.timed_connection.specs.Timing.{comes_to, IsLeft, ServesTimed};
 
 use duct::Link;
 use server_connection::{Ended, Wakes, serve_connection};
+use shared_multiplexer::SharedMultiplexer;
 use shared_session::HeldSession;
 use shared_store::{Caller, SharedStore};
 use std::sync::Wait;
@@ -50,6 +51,7 @@ fn leave<N: StoreName>(session: &mut HeldSession<N>, end: TimedEnd)
 pub fn serve_connection_timed<R: Wait, N: StoreName, L: Link, C: Clock, W: Wakes>(
     rt: &R,
     store: &SharedStore<N>,
+    multiplexer: &SharedMultiplexer<N>,
     wake: &W,
     pass: &mut StorePass<N>,
     caller: &mut Caller<N>,
@@ -61,7 +63,7 @@ pub fn serve_connection_timed<R: Wait, N: StoreName, L: Link, C: Clock, W: Wakes
     ensures serves { ServesTimed L.steps C.told L.faults N.app link.old link.new caller.new pass.new session.new result }
     ensures goes_on { GoesOn caller.old caller.new pass.old pass.new }
 {
-    let end = serve_connection(rt, store, wake, pass, caller, session, link);
+    let end = serve_connection(rt, store, multiplexer, wake, pass, caller, session, link);
     let timed = comes_to(end, link.given_up());
     leave(session, timed);
     timed

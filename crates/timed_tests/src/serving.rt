@@ -9,6 +9,7 @@ use ejson_value::{Mem, Text};
 use io_edge::Calls;
 use pass_log::Opened;
 use server_connection::Wakes;
+use shared_multiplexer::SharedMultiplexer;
 use shared_session::HeldSession;
 use shared_store::{SharedStore, StoreName};
 use std::alloc::Global;
@@ -64,10 +65,12 @@ fn served_at<N: StoreName, R: Wait>(
         return Err(Mem);
     };
     let own = pass.note(store.log()).pass();
+    let multiplexer = SharedMultiplexer::make(alloc, pass.note(store.log()).pass());
     let mut session = HeldSession::make(alloc, app, caller.number(), own)?;
     Ok(serve_connection_timed(
         rt,
         &store,
+        &multiplexer,
         &Nobody,
         &mut pass,
         &mut caller,

@@ -1,6 +1,6 @@
 use Rattle.std.specs.Prelude.{◌≡◌}
 use Rattle.server_connection.specs.Looks.{Works}
-use Rattle.server_connection.proofs.showing.bring_those.Given as goal
+use Rattle.server_connection.proofs.bringing.bring_those_alone.Given as goal
 
 abbrev pub invariant-loop-place : goal.invariant-loop-place
 invariant-loop-place g l = record {

@@ -3,7 +3,7 @@ use Rattle.std.proofs.Common.{sym, subst}
 use Rattle.server_connection.specs.declared.ended.Ended.{Ended}
 use Rattle.server_connection.specs.Looks.{StopsEvent}
 use Rattle.server_connection.proofs.Events.{advance_sees, advance_ends}
-use Rattle.server_connection.proofs.showing.bring.Goals as goal
+use Rattle.server_connection.proofs.bringing.go_over.Goals as goal
 
 pub returns-clause-sees : goal.returns-clause-sees
 returns-clause-sees g c =

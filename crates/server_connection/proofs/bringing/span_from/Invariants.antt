@@ -1,5 +1,5 @@
 use Rattle.std.specs.Prelude.{◌≤◌}
-use Rattle.server_connection.proofs.showing.span_from.Given as goal
+use Rattle.server_connection.proofs.bringing.span_from.Given as goal
 
 abbrev pub invariant-loop-sub : goal.invariant-loop-sub
 invariant-loop-sub l = 1 ≤ l.span
